@@ -1,4 +1,8 @@
 // Layer 2: the successors of a word and the longest run without a service.
+mod lengths;
+mod longest;
+mod search;
 mod successors;
 
-pub use successors::{Successors, successors_at, serves};
+pub use longest::{Run, longest_run};
+pub use successors::{Successors, serves, successors_at};
