@@ -3,5 +3,5 @@ pub mod Paths
 pub mod Heaviest
 pub mod Moves
 pub mod Marks
---pub mod Turn
---pub mod Lawful
+pub mod Turn
+pub mod Lawful
