@@ -1,45 +1,29 @@
+use mathlib.Core.Path.{_≡_, refl, ap, _∙_}
+use mathlib.Core.List.{List, _++_}
+use Prim.Native.Nat.{ℕ, _-_, _≤_}
+use native.Mathlib.Omega.{arith}
+use lib.ListN.{length, set, drop, replicate, length-set}
+use borrow.Author.Fill.{fill-more}
 use Rattle.runs.proofs.lengths.clear_lengths.Statement.{statement}
 use Rattle.runs.proofs.lengths.clear_lengths.Tie as tie
-use Rattle.runs.proofs.lengths.clear_lengths.Reads as reads
-use Rattle.runs.proofs.lengths.clear_lengths.Lts as lts
 
 abbrev Inv-loop : tie.InvT-loop
-Inv-loop lengths₀ n i₀ lengths i = ?
+Inv-loop lengths₀ n i₀ lengths i = (lengths ≡ replicate i 0 ++ drop i lengths₀) × (i ≤ n) × (n ≤ length lengths₀) × (length lengths ≡ length lengths₀)
 
 abbrev μ-loop : tie.MeasureT-loop
-μ-loop lengths₀ n i₀ lengths i = ?
+μ-loop lengths₀ n i₀ lengths i = n - i
 
--- src/lengths.rt:104:5
-loop-holds : tie.Need-loop-holds Inv-loop μ-loop
-loop-holds c = ?
-
--- src/lengths.rt:105:9
-mul-lengths : tie.Need-mul-lengths Inv-loop μ-loop
-mul-lengths c = ?
-
--- src/lengths.rt:105:9
-slice-write-lengths : tie.Need-slice-write-lengths Inv-loop μ-loop
-slice-write-lengths c = ?
-
--- src/lengths.rt:106:9
-add-i : tie.Need-add-i Inv-loop μ-loop
-add-i c = ?
-
--- src/lengths.rt:104:5
-loop-less : tie.Need-loop-less Inv-loop μ-loop
-loop-less c = ?
-
--- src/lengths.rt:104:5
 loop-again : tie.Need-loop-again Inv-loop μ-loop
-loop-again c = ?
+loop-again c =
+    let v = c .before .loop .inv in
+    let i = c .before .loop .i in
+    (ap (λ (l : List ℕ). set l i 0) (v .0) ∙ fill-more i 0 (c .before .before .args .lengths .now) (omega arith), omega arith, v .2, simp length-set (v .3))
 
--- src/lengths.rt:99:1
-same-length : tie.Need-same-length Inv-loop μ-loop
-same-length c = ?
-
--- src/lengths.rt:99:1
 returns : tie.Need-returns Inv-loop μ-loop
-returns c = ?
+returns c =
+    let v = c .before .loop .inv in
+    let e : c .before .loop .i ≡ c .before .before .args .n = omega arith in
+    v .0 ∙ ap (λ (k : ℕ). replicate k 0 ++ drop k (c .before .before .args .lengths .now)) e
 
 pub clear-lengths-spec : {M : Type 1} → statement M
 clear-lengths-spec =
@@ -47,11 +31,11 @@ clear-lengths-spec =
     (tie.spec
     Inv-loop
     μ-loop
-    loop-holds
-    mul-lengths
-    slice-write-lengths
-    add-i
-    loop-less
+    (λ c. (refl, omega arith, c .pre, refl))
+    (λ c. omega arith)
+    (λ c. omega arith)
+    (λ c. omega arith)
+    (λ c. omega arith)
     loop-again
-    same-length
+    (λ c. c .before .loop .inv .3)
     returns)

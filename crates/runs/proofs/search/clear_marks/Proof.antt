@@ -1,41 +1,29 @@
+use mathlib.Core.Path.{_≡_, refl, ap, _∙_}
+use mathlib.Core.List.{List, _++_}
+use Prim.Native.Nat.{ℕ, _-_, _≤_}
+use native.Mathlib.Omega.{arith}
+use lib.ListN.{length, set, drop, replicate, length-set}
+use borrow.Author.Fill.{fill-more}
 use Rattle.runs.proofs.search.clear_marks.Statement.{statement}
 use Rattle.runs.proofs.search.clear_marks.Tie as tie
-use Rattle.runs.proofs.search.clear_marks.Reads as reads
-use Rattle.runs.proofs.search.clear_marks.Lts as lts
 
 abbrev Inv-loop : tie.InvT-loop
-Inv-loop marks₀ n i₀ marks i = ?
+Inv-loop marks₀ n i₀ marks i = (marks ≡ replicate i 0 ++ drop i marks₀) × (i ≤ n) × (n ≤ length marks₀) × (length marks ≡ length marks₀)
 
 abbrev μ-loop : tie.MeasureT-loop
-μ-loop marks₀ n i₀ marks i = ?
+μ-loop marks₀ n i₀ marks i = n - i
 
--- src/search.rt:62:5
-loop-holds : tie.Need-loop-holds Inv-loop μ-loop
-loop-holds c = ?
-
--- src/search.rt:63:9
-slice-write-marks : tie.Need-slice-write-marks Inv-loop μ-loop
-slice-write-marks c = ?
-
--- src/search.rt:64:9
-add-i : tie.Need-add-i Inv-loop μ-loop
-add-i c = ?
-
--- src/search.rt:62:5
-loop-less : tie.Need-loop-less Inv-loop μ-loop
-loop-less c = ?
-
--- src/search.rt:62:5
 loop-again : tie.Need-loop-again Inv-loop μ-loop
-loop-again c = ?
+loop-again c =
+    let v = c .before .loop .inv in
+    let i = c .before .loop .i in
+    (ap (λ (l : List ℕ). set l i 0) (v .0) ∙ fill-more i 0 (c .before .before .args .marks .now) (omega arith), omega arith, v .2, simp length-set (v .3))
 
--- src/search.rt:57:1
-same-length : tie.Need-same-length Inv-loop μ-loop
-same-length c = ?
-
--- src/search.rt:57:1
 returns : tie.Need-returns Inv-loop μ-loop
-returns c = ?
+returns c =
+    let v = c .before .loop .inv in
+    let e : c .before .loop .i ≡ c .before .before .args .n = omega arith in
+    v .0 ∙ ap (λ (k : ℕ). replicate k 0 ++ drop k (c .before .before .args .marks .now)) e
 
 pub clear-marks-spec : {M : Type 1} → statement M
 clear-marks-spec =
@@ -43,10 +31,10 @@ clear-marks-spec =
     (tie.spec
     Inv-loop
     μ-loop
-    loop-holds
-    slice-write-marks
-    add-i
-    loop-less
+    (λ c. (refl, omega arith, c .pre, refl))
+    (λ c. omega arith)
+    (λ c. omega arith)
+    (λ c. omega arith)
     loop-again
-    same-length
+    (λ c. c .before .loop .inv .3)
     returns)

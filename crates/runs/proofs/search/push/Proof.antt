@@ -1,60 +1,29 @@
 use borrow.Author.Needs.{needs}
+use borrow.Author.Tests.{eq-eqb, ne-eqb}
+use native.Mathlib.Omega.{arith}
 use Rattle.runs.proofs.search.push.Statement.{statement}
 use Rattle.runs.proofs.search.push.Tie as tie
-use Rattle.runs.proofs.search.push.Reads as reads
-use Rattle.runs.proofs.search.push.Lts as lts
 
--- src/search.rt:17:8
-slice-read-if1 : tie.Need-slice-read-if1
-slice-read-if1 c = search needs
-
--- src/search.rt:18:9
-slice-write-marks : tie.Need-slice-write-marks
-slice-write-marks c = search needs
-
--- src/search.rt:19:23
-cast-queue : tie.Need-cast-queue
-cast-queue c = search needs
-
--- src/search.rt:19:9
-mul-queue : tie.Need-mul-queue
-mul-queue c = ?
-
--- src/search.rt:19:9
 slice-write-queue : tie.Need-slice-write-queue
-slice-write-queue c = ?
+slice-write-queue c = c .before .before .pre .1 (c .if1 .taken)
 
--- src/search.rt:20:16
-add-result : tie.Need-add-result
-add-result c = ?
-
--- src/search.rt:20:9
-same-length : tie.Need-same-length
-same-length c = search needs
-
--- src/search.rt:20:9
-same-length-2 : tie.Need-same-length-2
-same-length-2 c = search needs
-
--- src/search.rt:20:9
 returns : tie.Need-returns
-returns c = ?
+returns c = let e = eq-eqb _ _ (c .if1 .taken) in (simp e, simp e, simp e)
 
--- src/search.rt:13:1
 returns-2 : tie.Need-returns-2
-returns-2 c = ?
+returns-2 c = let e = ne-eqb _ _ (c .if1 .left) in (simp e, simp e, simp e)
 
 pub push-spec : {M : Type 1} → statement M
 push-spec =
     tie.close
     (tie.spec
-    slice-read-if1
-    slice-write-marks
-    cast-queue
-    mul-queue
+    (λ c. search needs)
+    (λ c. search needs)
+    (λ c. search needs)
+    (λ c. omega (arith, slice-write-queue c))
     slice-write-queue
-    add-result
-    same-length
-    same-length-2
+    (λ c. omega (arith, slice-write-queue c))
+    (λ c. search needs)
+    (λ c. search needs)
     returns
     returns-2)
