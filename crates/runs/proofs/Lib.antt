@@ -4,4 +4,5 @@ pub mod Heaviest
 pub mod Moves
 pub mod Marks
 pub mod Turn
+pub mod Backward
 pub mod Lawful
