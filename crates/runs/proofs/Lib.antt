@@ -5,4 +5,5 @@ pub mod Moves
 pub mod Marks
 pub mod Turn
 pub mod Backward
+pub mod Lists
 pub mod Lawful

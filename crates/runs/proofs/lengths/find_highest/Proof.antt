@@ -1,49 +1,36 @@
+use mathlib.Core.Path.{_≡_, refl, sym, subst, subst₂}
+use mathlib.Core.Logic.{⊎-elim}
+use Prim.Native.Nat.{ℕ, _+_, _-_, _<_, _≤_}
+use native.Mathlib.Omega.{arith}
+use lib.ListN.{length}
+use Rattle.runs.specs.Invariants.{at, Top}
+use Rattle.runs.proofs.Lists.{top-none, top-more, top-same}
 use Rattle.runs.proofs.lengths.find_highest.Statement.{statement}
 use Rattle.runs.proofs.lengths.find_highest.Tie as tie
-use Rattle.runs.proofs.lengths.find_highest.Reads as reads
-use Rattle.runs.proofs.lengths.find_highest.Lts as lts
 
 abbrev Inv-loop : tie.InvT-loop
-Inv-loop lengths n longest₀ first₀ i₀ longest first i = ?
+Inv-loop lengths n longest₀ first₀ i₀ longest first i = (i ≤ n) × Top (at lengths) i longest first
 
 abbrev μ-loop : tie.MeasureT-loop
-μ-loop lengths n longest₀ first₀ i₀ longest first i = ?
+μ-loop lengths n longest₀ first₀ i₀ longest first i = n - i
 
--- src/lengths.rt:123:5
-loop-holds : tie.Need-loop-holds Inv-loop μ-loop
-loop-holds c = ?
-
--- src/lengths.rt:124:22
-mul-if1 : tie.Need-mul-if1 Inv-loop μ-loop
-mul-if1 c = ?
-
--- src/lengths.rt:124:22
-shared-slice-read-if1 : tie.Need-shared-slice-read-if1 Inv-loop μ-loop
-shared-slice-read-if1 c = ?
-
--- src/lengths.rt:125:23
-mul-longest : tie.Need-mul-longest Inv-loop μ-loop
-mul-longest c = ?
-
--- src/lengths.rt:125:23
-shared-slice-read-longest : tie.Need-shared-slice-read-longest Inv-loop μ-loop
-shared-slice-read-longest c = ?
-
--- src/lengths.rt:128:9
-add-i : tie.Need-add-i Inv-loop μ-loop
-add-i c = ?
-
--- src/lengths.rt:123:5
-loop-less : tie.Need-loop-less Inv-loop μ-loop
-loop-less c = ?
-
--- src/lengths.rt:123:5
 loop-again : tie.Need-loop-again Inv-loop μ-loop
-loop-again c = ?
+loop-again c =
+    let l = c .before .before .before in
+    let f = at (l .before .args .lengths .now) in
+    let i = l .loop .i in
+    let t = l .loop .inv .1 in
+    (omega arith,
+    ⊎-elim
+    (λ w. subst₂ (λ (v a : ℕ). Top f (i + 1) v a) (sym (w .2)) (sym (w .3)) (top-more f i _ _ t (w .0 .taken)))
+    (λ w. subst₂ (λ (v a : ℕ). Top f (i + 1) v a) (sym (w .1)) (sym (w .2)) (top-same f i _ _ t (w .0 .left)))
+    (c .if1 .came))
 
--- src/lengths.rt:116:1
 returns : tie.Need-returns Inv-loop μ-loop
-returns c = ?
+returns c =
+    let l = c .before in
+    let e : l .loop .i ≡ l .before .args .n = omega arith in
+    subst (λ (k : ℕ). Top (at (l .before .args .lengths .now)) k (l .loop .longest) (l .loop .first)) e (l .loop .inv .1)
 
 pub find-highest-spec : {M : Type 1} → statement M
 find-highest-spec =
@@ -51,12 +38,12 @@ find-highest-spec =
     (tie.spec
     Inv-loop
     μ-loop
-    loop-holds
-    mul-if1
-    shared-slice-read-if1
-    mul-longest
-    shared-slice-read-longest
-    add-i
-    loop-less
+    (λ c. (omega arith, top-none (at (c .args .lengths .now))))
+    (λ c. omega arith)
+    (λ c. omega arith)
+    (λ c. omega arith)
+    (λ c. omega arith)
+    (λ c. omega arith)
+    (λ c. omega arith)
     loop-again
     returns)
