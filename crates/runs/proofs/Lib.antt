@@ -6,4 +6,5 @@ pub mod Marks
 pub mod Turn
 pub mod Backward
 pub mod Lists
+pub mod Meaning
 pub mod Lawful

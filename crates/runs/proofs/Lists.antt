@@ -126,6 +126,15 @@ module _ (f : ℕ → ℕ) (k v a : ℕ) (t : Top f k v a) where
       lowest-is (λ p. eqb (f p) (most f k)) k a (u .0) (eq-eqb _ _ (u .1 ∙ top-most))
       (λ p l. ne-eqb (f p) (most f k) (λ e. omega (arith, t .below p l, e, top-most)))
 
+-- numbers that are the same have the same largest
+pub top-as : (f h : ℕ → ℕ) (k v a : ℕ) → ((p : ℕ) → p < k → f p ≡ h p) → Top f k v a → Top h k v a
+top-as f h k v a e t =
+    record {
+      upper = λ p l. omega (arith, e p l, t .upper p l);
+      attained = λ z. let u = t .attained z in (u .0, sym (e a (u .0)) ∙ u .1);
+      below = λ p l. let d = t .below p l in let u = t .attained (omega arith) in omega (arith, e p (omega (arith, u .0)));
+    }
+
 -- lists by their first elements and the rest
 length-table : (f : ℕ → ℕ) (i k : ℕ) → length (table f i k) ≡ k
 length-table f i zero = refl
