@@ -7,4 +7,5 @@ pub mod Turn
 pub mod Backward
 pub mod Lists
 pub mod Meaning
+pub mod Outcome
 pub mod Lawful

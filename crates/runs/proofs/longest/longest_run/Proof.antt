@@ -1,41 +1,30 @@
+use mathlib.Core.Path.{_≡_, refl}
+use Prim.Native.Nat.{ℕ, _<_}
+use native.Mathlib.Omega.{arith}
 use borrow.Author.Needs.{needs}
+use Rattle.runs.proofs.Outcome.{run-1, run-6-marks, run-6-lengths, run-7, outcome-kept}
 use Rattle.runs.proofs.longest.longest_run.Statement.{statement}
 use Rattle.runs.proofs.longest.longest_run.Tie as tie
-use Rattle.runs.proofs.longest.longest_run.Reads as reads
-use Rattle.runs.proofs.longest.longest_run.Lts as lts
-use Rattle.runs.proofs.longest.run_of_words.Reads as run-of-words-reads
 
--- src/longest.rt:59:9
 returns : tie.Need-returns
-returns c = ?
+returns c = outcome-kept _ _ _ 1 (run-1 _ _ _ (c .if1 .taken)) refl
 
--- src/longest.rt:65:9
 returns-2 : tie.Need-returns-2
-returns-2 c = ?
+returns-2 c = outcome-kept _ _ _ 6 (run-6-marks _ _ _ (c .before .if1 .left) (c .if2 .taken)) refl
 
--- src/longest.rt:71:9
 returns-3 : tie.Need-returns-3
-returns-3 c = ?
+returns-3 c = outcome-kept _ _ _ 6 (run-6-lengths _ _ _ (c .before .before .if1 .left) (c .if3 .taken)) refl
 
--- src/longest.rt:77:9
 returns-4 : tie.Need-returns-4
-returns-4 c = ?
+returns-4 c = outcome-kept _ _ _ 7 (run-7 _ _ _ (c .before .before .before .if1 .left) (c .before .before .if2 .left) (c .before .if3 .left) (c .if4 .taken)) refl
 
--- src/longest.rt:82:5
 run-of-words-requires : tie.Need-run-of-words-requires
-run-of-words-requires c κs = search needs
-
--- src/longest.rt:52:1
-same-length : tie.Need-same-length
-same-length c = search needs
-
--- src/longest.rt:52:1
-same-length-2 : tie.Need-same-length-2
-same-length-2 c = search needs
-
--- src/longest.rt:52:1
-returns-5 : tie.Need-returns-5
-returns-5 c = search needs
+run-of-words-requires c κs =
+    let d = c .before .before in
+    record { some = above (d .if4 .left); few = d .before .before .before .if1 .left; m-long = d .before .before .if2 .left; l-long = d .before .if3 .left }
+  where
+    above : {n : ℕ} → (n ≡ 0 → ⊥) → 0 < n
+    above {n} z = omega arith
 
 pub longest-run-spec : {M : Type 1} → statement M
 longest-run-spec =
@@ -46,6 +35,6 @@ longest-run-spec =
     returns-3
     returns-4
     run-of-words-requires
-    same-length
-    same-length-2
-    returns-5)
+    (λ c. search needs)
+    (λ c. search needs)
+    (λ c. c .before .before .before .before .run-of-words .ensures))
