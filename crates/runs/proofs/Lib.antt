@@ -8,4 +8,5 @@ pub mod Backward
 pub mod Lists
 pub mod Meaning
 pub mod Outcome
+pub mod Demand
 pub mod Lawful

@@ -23,9 +23,10 @@ module _ (g : Graph) (law : Lawful g) where
   marked p l = (λ e. reachable-of g (reach-of-mark g law p l e), λ r. mark-of-reach g law p (reach-of g r))
 
   unmarked : (p : ℕ) → p < g .size → (markOf g p ≡ 0) ↔ (Reachable g p → ⊥)
-  unmarked p l =
-      (λ e r. omega (arith, mark-of-reach g law p (reach-of g r)),
-      λ n. ⊎-elim (λ e. e) (λ e. absurd (n (reachable-of g (reach-of-mark g law p l e)))) (bit (mark-bit g law p l)))
+  unmarked p l = (
+    λ e r. omega (arith, mark-of-reach g law p (reach-of g r)),
+    λ n. ⊎-elim (λ e. e) (λ e. absurd (n (reachable-of g (reach-of-mark g law p l e)))) (bit (mark-bit g law p l)),
+  )
 
 module _ (g : Graph) (law : Lawful g) (w : ℕ → ℕ) where
   length-most : (p : ℕ) (ps : List ℕ) → Segment g p ps → weigh w (p ∷ ps) ≤ lengthOf g w p

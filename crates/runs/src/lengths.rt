@@ -10,7 +10,9 @@ ghost use Rattle.runs.specs.Successors.{servesOf};
 ghost use Rattle.runs.specs.Instance.{graphOf, unitWeight};
 ghost use Rattle.runs.specs.Run.{reachesInvalid, lowestInvalid};
 ghost use Rattle.runs.specs.Invariants.{Filled, Lengths, at, Top};
-use crate::successors::{Successors, serves, successors_in};
+use crate::successors::Successors;
+use crate::successors::serves;
+use crate::successors::successors_in;
 
 // What an edge from p to q adds to a segment.
 fn beyond(words: &[u32], lengths: &[u32], p: usize, q: usize) -> u32

@@ -4,5 +4,8 @@ mod longest;
 mod search;
 mod successors;
 
-pub use longest::{Run, longest_run};
-pub use successors::{Successors, serves, successors_at};
+pub use longest::Run;
+pub use longest::longest_run;
+pub use successors::Successors;
+pub use successors::serves;
+pub use successors::successors_at;

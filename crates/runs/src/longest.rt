@@ -5,7 +5,9 @@ ghost use Prim.Native.Nat.{ℕ};
 ghost use lib.ListN.{length};
 ghost use Rattle.runs.specs.Run.{runOf, marksAfter, lengthsAfter};
 ghost use Rattle.runs.specs.Invariants.{Lent};
-use crate::lengths::{clear_lengths, fill_lengths, find_highest};
+use crate::lengths::clear_lengths;
+use crate::lengths::fill_lengths;
+use crate::lengths::find_highest;
 use crate::search::mark_reachable;
 
 pub enum Run {

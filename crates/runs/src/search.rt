@@ -7,7 +7,8 @@ ghost use Rattle.fields.specs.Table.{tableList};
 ghost use Rattle.runs.specs.Marks.{push as pushed};
 ghost use Rattle.runs.specs.Instance.{graphOf};
 ghost use Rattle.runs.specs.Invariants.{Lent, Marked, Visiting, Visited, searchAt};
-use crate::successors::{Successors, successors_in};
+use crate::successors::Successors;
+use crate::successors::successors_in;
 
 // Word q is marked and put at the queue's end, if it is not marked yet. The new tail.
 fn push(marks: &mut [u8], queue: &mut [u32], tail: usize, q: usize) -> usize

@@ -57,21 +57,23 @@ loop-again : tie.Need-loop-again Inv-loop μ-loop
 loop-again c =
     let d = c .before .before in
     let s = start d in
-    let v = d .before .loop .inv in
-    (filled-more (graphOf (s .args .words .now)) (lawful (s .args .words .now)) unitWeight (s .args .marks .now) (d .before .loop .lengths) (word d) (inside d) (filled d) _ (c .measure .ensures .0),
-    omega (arith, inside d),
-    lower d (c .measure .ensures .1),
-    drop-set-lt _ _ _ _ (inside d) ∙ v .3,
-    simp length-set (v .4))
+    let v = d .before .loop .inv in (
+      filled-more (graphOf (s .args .words .now)) (lawful (s .args .words .now)) unitWeight (s .args .marks .now) (d .before .loop .lengths) (word d) (inside d) (filled d) _ (c .measure .ensures .0),
+      omega (arith, inside d),
+      lower d (c .measure .ensures .1),
+      drop-set-lt _ _ _ _ (inside d) ∙ v .3,
+      simp length-set (v .4),
+    )
 
 returns : tie.Need-returns Inv-loop μ-loop
 unfolding lowestInvalid
 returns c =
     let v = c .before .loop .inv in
     let ws = c .before .before .before .before .before .args .words .now in
-    let e : c .before .loop .i ≡ 0 = omega (arith, c .loop-test .left) in
-    (record { each = λ p h. v .0 .from p (omega (arith, e)) h; rest = v .3 },
-    v .2 ∙ ap (λ (x : ℕ). lowest (reachesInvalid ws) x (length ws - x)) e ∙ lowest-whole (reachesInvalid ws) (length ws))
+    let e : c .before .loop .i ≡ 0 = omega (arith, c .loop-test .left) in (
+      record { each = λ p h. v .0 .from p (omega (arith, e)) h; rest = v .3 },
+      v .2 ∙ ap (λ (x : ℕ). lowest (reachesInvalid ws) x (length ws - x)) e ∙ lowest-whole (reachesInvalid ws) (length ws),
+    )
 
 pub fill-lengths-spec : {M : Type 1} → statement M
 fill-lengths-spec =

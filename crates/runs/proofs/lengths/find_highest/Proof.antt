@@ -19,12 +19,13 @@ loop-again c =
     let l = c .before .before .before in
     let f = at (l .before .args .lengths .now) in
     let i = l .loop .i in
-    let t = l .loop .inv .1 in
-    (omega arith,
-    ⊎-elim
-    (λ w. subst₂ (λ (v a : ℕ). Top f (i + 1) v a) (sym (w .2)) (sym (w .3)) (top-more f i _ _ t (w .0 .taken)))
-    (λ w. subst₂ (λ (v a : ℕ). Top f (i + 1) v a) (sym (w .1)) (sym (w .2)) (top-same f i _ _ t (w .0 .left)))
-    (c .if1 .came))
+    let t = l .loop .inv .1 in (
+      omega arith,
+      ⊎-elim
+          (λ w. subst₂ (λ (v a : ℕ). Top f (i + 1) v a) (sym (w .2)) (sym (w .3)) (top-more f i _ _ t (w .0 .taken)))
+          (λ w. subst₂ (λ (v a : ℕ). Top f (i + 1) v a) (sym (w .1)) (sym (w .2)) (top-same f i _ _ t (w .0 .left)))
+          (c .if1 .came),
+    )
 
 returns : tie.Need-returns Inv-loop μ-loop
 returns c =
