@@ -82,7 +82,12 @@ fn measure(
 }
 
 // The length of each word. The lowest reachable invalid word, or the number of words.
-pub fn fill_lengths(table: &[u8; 512], words: &[u32], marks: &[u8], lengths: &mut [u32]) -> usize
+pub(crate) fn fill_lengths(
+    table: &[u8; 512],
+    words: &[u32],
+    marks: &[u8],
+    lengths: &mut [u32],
+) -> usize
     requires { ⌜ (now table ≡ tableList) × Filled (graphOf (now words)) unitWeight (now marks) (now lengths) (length (now words)) ⌝ }
     ensures { λ r. ⌜ Lengths (graphOf (now (words .entry))) unitWeight (now (lengths .entry)) (now (lengths .exit)) × (r ≡ lowestInvalid (now (words .entry))) ⌝ }
 {
@@ -98,7 +103,7 @@ pub fn fill_lengths(table: &[u8; 512], words: &[u32], marks: &[u8], lengths: &mu
 }
 
 // The first n lengths become 0.
-pub fn clear_lengths(lengths: &mut [u32], n: usize)
+pub(crate) fn clear_lengths(lengths: &mut [u32], n: usize)
     requires { ⌜ n ≤ length (now lengths) ⌝ }
     ensures { λ _. ⌜ now (lengths .exit) ≡ replicate n 0 ++ drop n (now (lengths .entry)) ⌝ }
 {
@@ -109,13 +114,13 @@ pub fn clear_lengths(lengths: &mut [u32], n: usize)
     }
 }
 
-pub struct Highest {
-    pub longest: u32,
-    pub first: usize,
+pub(crate) struct Highest {
+    pub(crate) longest: u32,
+    pub(crate) first: usize,
 }
 
 // The largest of the first n lengths, and where it stands first.
-pub fn find_highest(lengths: &[u32], n: usize) -> Highest
+pub(crate) fn find_highest(lengths: &[u32], n: usize) -> Highest
     requires { ⌜ n ≤ length (now lengths) ⌝ }
     ensures { λ r. ⌜ Top (at (now (lengths .entry))) n (r .longest) (r .first) ⌝ }
 {

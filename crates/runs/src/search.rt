@@ -67,7 +67,7 @@ fn clear_marks(marks: &mut [u8], n: usize)
 }
 
 // The marks of all words. The queue is work space: its first n elements are left as they come.
-pub fn mark_reachable(table: &[u8; 512], words: &[u32], marks: &mut [u8], queue: &mut [u32])
+pub(crate) fn mark_reachable(table: &[u8; 512], words: &[u32], marks: &mut [u8], queue: &mut [u32])
     requires { ⌜ (now table ≡ tableList) × Lent (length (now words)) (now marks) (now queue) ⌝ }
     ensures { λ _. ⌜ Marked (graphOf (now (words .entry))) (now (marks .entry)) (now (marks .exit)) × (drop (length (now (words .entry))) (now (queue .exit)) ≡ drop (length (now (words .entry))) (now (queue .entry))) ⌝ }
 {
