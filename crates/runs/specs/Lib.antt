@@ -1,0 +1,3 @@
+-- Layer 2: the successors of a word.
+pub mod Columns
+pub mod Successors
