@@ -1,3 +1,4 @@
 -- Layer 2: the successors of a word.
 pub mod Columns
+pub mod Laws
 pub mod Successors
