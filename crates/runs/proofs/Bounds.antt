@@ -12,7 +12,7 @@ use Rattle.fields.specs.Opcodes.{«OP_CALL», «OP_TFORCALL»}
 use Rattle.fields.specs.Word.{kOf}
 use Rattle.fields.specs.Table.{pick, StepClass, following, returning, branching, skipping, skippingIfK, jumping, looping, preparing, entering, invalid, classOf}
 use Rattle.runs.specs.declared.edges.Successors.{Successors}
-use Rattle.runs.specs.declared.edges.Successors.the-variants.{Invalid, Stop, One, Two}
+use Rattle.runs.specs.declared.edges.Successors.the-variants.{One, Two}
 use Rattle.runs.specs.Successors.{unless, one, ordered, two, opcodeAt, nextOf, companionPresent, successorsOf, servesOf}
 use Rattle.runs.specs.Laws.{Below, Laws}
 

@@ -2,3 +2,4 @@ pub mod Bounds
 pub mod Cases
 pub mod Columns
 pub mod Laws
+pub mod Lvm

@@ -2,4 +2,5 @@
 pub mod Cases
 pub mod Columns
 pub mod Laws
+pub mod Lvm
 pub mod Successors

@@ -1,7 +1,6 @@
 -- `runs::successors::successors_in` meets its contract: the word's companion, then its class, each by the table's rule.
 -- Assumes nothing.
 use mathlib.Core.Path.{_≡_, sym, _∙_}
-use mathlib.Core.Bool.{true}
 use denote.Ref.{now}
 use Rattle.runs.specs.Successors.{companionPresent}
 use Rattle.runs.proofs.Laws.{outside, without, within}
