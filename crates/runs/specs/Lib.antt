@@ -1,4 +1,8 @@
 -- Layer 2: the successors of a word, paths and the longest run.
+pub mod Cases
+pub mod Columns
+pub mod Laws
+pub mod Lvm
 pub mod Successors
 pub mod Graph
 pub mod Marks

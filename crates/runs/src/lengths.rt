@@ -4,13 +4,13 @@ ghost use mathlib.Core.Bool.{cond};
 ghost use mathlib.Core.List.{List, _++_};
 ghost use Prim.Native.Nat.{ℕ, _+_, _≤_, _<_};
 ghost use lib.ListN.{length, getD, drop, replicate};
-ghost use Rattle.fields.specs.Table.{tableList};
+ghost use Rattle.fields.specs.Table.{opcodeTable};
 ghost use Rattle.runs.specs.Longest.{lengthOf, most, lowest};
 ghost use Rattle.runs.specs.Successors.{servesOf};
 ghost use Rattle.runs.specs.Instance.{graphOf, unitWeight};
 ghost use Rattle.runs.specs.Run.{reachesInvalid, lowestInvalid};
 ghost use Rattle.runs.specs.Invariants.{Filled, Lengths, at, Top};
-use crate::successors::Successors;
+use crate::edges::Successors;
 use crate::successors::serves;
 use crate::successors::successors_in;
 
@@ -40,7 +40,7 @@ fn measure(
     p: usize,
     invalid: usize,
 ) -> Measured
-    requires { ⌜ (now table ≡ tableList) × (p < length (now words)) × Filled (graphOf (now words)) unitWeight (now marks) (now lengths) (p + 1) ⌝ }
+    requires { ⌜ (now table ≡ opcodeTable) × (p < length (now words)) × Filled (graphOf (now words)) unitWeight (now marks) (now lengths) (p + 1) ⌝ }
     ensures { λ r. ⌜ (r .length ≡ lengthOf (graphOf (now (words .entry))) unitWeight p) × (r .invalid ≡ cond (reachesInvalid (now (words .entry)) p) p invalid) ⌝ }
 {
     if marks[p] == 0 {
@@ -88,7 +88,7 @@ pub(crate) fn fill_lengths(
     marks: &[u8],
     lengths: &mut [u32],
 ) -> usize
-    requires { ⌜ (now table ≡ tableList) × Filled (graphOf (now words)) unitWeight (now marks) (now lengths) (length (now words)) ⌝ }
+    requires { ⌜ (now table ≡ opcodeTable) × Filled (graphOf (now words)) unitWeight (now marks) (now lengths) (length (now words)) ⌝ }
     ensures { λ r. ⌜ Lengths (graphOf (now (words .entry))) unitWeight (now (lengths .entry)) (now (lengths .exit)) × (r ≡ lowestInvalid (now (words .entry))) ⌝ }
 {
     let mut invalid = words.len();

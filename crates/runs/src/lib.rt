@@ -1,11 +1,9 @@
-// Layer 2: the successors of a word and the longest run without a service.
+// Layer 2, over fields: the successors of a word, and the longest run without a service.
+pub mod edges;
 mod lengths;
-mod longest;
+pub mod longest;
 mod search;
-mod successors;
+pub mod successors;
 
 pub use longest::Run;
 pub use longest::longest_run;
-pub use successors::Successors;
-pub use successors::serves;
-pub use successors::successors_at;

@@ -25,7 +25,7 @@ fn run_of_words(words: &[u32], marks: &mut [u8], lengths: &mut [u32]) -> Run
     ensures { λ _. ⌜ now (lengths .exit) ≡ lengthsAfter (now (words .entry)) (now (marks .entry)) (now (lengths .entry)) ⌝ }
 {
     let n = words.len();
-    let table = fields::table();
+    let table = fields::lookup::table();
     mark_reachable(&table, words, marks, lengths);
     let invalid = fill_lengths(&table, words, marks, lengths);
     if invalid < n {

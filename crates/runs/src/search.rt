@@ -3,11 +3,11 @@ ghost use mathlib.Core.Path.{_≡_};
 ghost use mathlib.Core.List.{List, _++_};
 ghost use Prim.Native.Nat.{ℕ, _+_, _≤_, _<_};
 ghost use lib.ListN.{length, getD, drop, replicate};
-ghost use Rattle.fields.specs.Table.{tableList};
+ghost use Rattle.fields.specs.Table.{opcodeTable};
 ghost use Rattle.runs.specs.Marks.{push as pushed};
 ghost use Rattle.runs.specs.Instance.{graphOf};
 ghost use Rattle.runs.specs.Invariants.{Lent, Marked, Visiting, Visited, searchAt};
-use crate::successors::Successors;
+use crate::edges::Successors;
 use crate::successors::successors_in;
 
 // Word q is marked and put at the queue's end, if it is not marked yet. The new tail.
@@ -32,7 +32,7 @@ fn visit(
     head: usize,
     tail: usize,
 ) -> usize
-    requires { ⌜ (now table ≡ tableList) × Visiting (graphOf (now words)) (now marks) (now queue) head tail ⌝ }
+    requires { ⌜ (now table ≡ opcodeTable) × Visiting (graphOf (now words)) (now marks) (now queue) head tail ⌝ }
     ensures { λ r. ⌜ Visited (graphOf (now (words .entry))) (now (marks .entry)) (now (queue .entry)) head (now (marks .exit)) (now (queue .exit)) r ⌝ }
 {
     let p = queue[head] as usize;
@@ -68,7 +68,7 @@ fn clear_marks(marks: &mut [u8], n: usize)
 
 // The marks of all words. The queue is work space: its first n elements are left as they come.
 pub(crate) fn mark_reachable(table: &[u8; 512], words: &[u32], marks: &mut [u8], queue: &mut [u32])
-    requires { ⌜ (now table ≡ tableList) × Lent (length (now words)) (now marks) (now queue) ⌝ }
+    requires { ⌜ (now table ≡ opcodeTable) × Lent (length (now words)) (now marks) (now queue) ⌝ }
     ensures { λ _. ⌜ Marked (graphOf (now (words .entry))) (now (marks .entry)) (now (marks .exit)) × (drop (length (now (words .entry))) (now (queue .exit)) ≡ drop (length (now (words .entry))) (now (queue .entry))) ⌝ }
 {
     clear_marks(marks, words.len());
