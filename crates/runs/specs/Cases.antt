@@ -1,24 +1,30 @@
--- Document 01, "Bench cases", those marked P that speak of steps, shown for the definitions by one theorem over their list.
+-- Document 01, "Bench cases", those marked P that speak of steps and of the run, shown for the definitions by one theorem over their list.
 -- Assumes nothing.
 use Prim.Native.Nat.{ℕ}
 use mathlib.Core.Path.{_≡_}
 use mathlib.Core.Bool.{Bool, true, false}
 use mathlib.Core.List.{List, [], _∷_}
+use lib.ListN.{length}
 use Rattle.fields.specs.Opcodes.{«OP_MOVE», «OP_FORLOOP»}
 use Rattle.runs.specs.declared.edges.Successors.{Successors}
 use Rattle.runs.specs.declared.edges.Successors.the-variants.{Invalid, One, Two}
+use Rattle.runs.specs.declared.longest.Run.the-variants.{Accepted}
 use Rattle.runs.specs.Successors.{successorsOf, servesOf}
+use Rattle.runs.specs.Run.{runOf}
 
 pub data Case : Type 0 where
   -- of these words, the word of this number has these steps
   steps : List ℕ → ℕ → Successors → Case
   -- of these words, the step from the one to the other serves or not
   serving : List ℕ → ℕ → ℕ → Bool → Case
+  -- these words have this L and this first word
+  run : List ℕ → ℕ → ℕ → Case
 
 abbrev pub Holds : List Case → Type 0
 Holds [] = Unit {0}
 Holds (steps ws p s ∷ cases) = (successorsOf ws p ≡ s) × Holds cases
 Holds (serving ws p q t ∷ cases) = (servesOf ws p q ≡ t) × Holds cases
+Holds (run ws longest first ∷ cases) = (runOf ws (length ws) (length ws) ≡ Accepted longest first) × Holds cases
 
 -- the sheet of "Bench program"
 abbrev pub sheet : List ℕ
@@ -50,4 +56,6 @@ cases =
     ∷ serving sheet 3 1 true
     -- "nor has a word number of n or more" steps
     ∷ steps sheet 4 Invalid
+    -- "the sheet above: L 4, first 0"
+    ∷ run sheet 4 0
     ∷ []
