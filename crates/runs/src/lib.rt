@@ -1,3 +1,4 @@
 // Layer 2, over fields: the successors of a word.
 pub mod edges;
+mod packed;
 pub mod successors;
