@@ -1,7 +1,7 @@
 -- The packed columns: each byte is its opcode's, and the blocks past the known opcodes are alike.
 -- Assumes nothing.
 use Prim.Native.Nat.{ℕ, _/_, _%_, _*_, _^_, _≤_, _<_}
-use mathlib.Core.Path.{_≡_}
+use mathlib.Core.Path.{_≡_, ap, sym, _∙_}
 use mathlib.Core.Bool.{Bool, true}
 use lib.Dec.{T, leb, eqb, eqb→eq}
 use borrow.Author.Tests.{le-leb}
@@ -30,3 +30,7 @@ unknowns-right = tt
 pub unknown : (block : ℕ) → 11 ≤ block → block < 16 → 0x0909090909090909 ≡ eightOf block
 unfolding unknown-right
 unknown block h k = eqb→eq 0x0909090909090909 (eightOf block) (rw (le-leb 11 block h) at (all-at unknown-right 16 unknowns-right block k))
+
+-- a block that is known
+pub at-block : {number block k : ℕ} → block ≡ k → number ≡ eightOf k → number ≡ eightOf block
+at-block {number} e d = d ∙ ap eightOf (sym e)
