@@ -2,7 +2,8 @@
 -- Assumes nothing.
 use mathlib.Core.Path.{_≡_}
 use mathlib.Core.Logic.{_⊎_}
-use mathlib.Core.List.{List}
+use mathlib.Core.Bool.{Bool, cond}
+use mathlib.Core.List.{List, [], _∷_}
 use Prim.Native.Nat.{ℕ, zero, suc, _+_, _≤_, _<_}
 use lib.ListN.{length, getD, drop}
 use Rattle.runs.specs.Graph.{Graph, In, Reachable}
@@ -22,26 +23,45 @@ Closed g m p = (q : ℕ) → In q (g .successors p) → getD m q 0 ≡ 1
 abbrev pub Waits : List ℕ → ℕ → ℕ → ℕ → Type 0
 Waits qu h t p = (i : ℕ) × (h ≤ i) × (i < t) × (getD qu i 0 ≡ p)
 
--- a search under way: m the marks, qu the queue. A word enters once, so that the marked words are as many as the tail says
-pub record Marking (g : Graph) (m qu : List ℕ) (h t : ℕ) : Type 0 where
+-- the marks m and the queue qu, up to its tail t, have room for the words: a word that enters the queue is marked then, so that
+-- no more words are queued than are marked
+pub record Room (g : Graph) (m qu : List ℕ) (t : ℕ) : Type 0 where
   pub m-long : g .size ≤ length m
   pub qu-long : g .size ≤ length qu
-  pub order : h ≤ t
   pub bits : (p : ℕ) → p < g .size → getD m p 0 ≤ 1
-  pub count : ones (g .size) m ≡ t
+  pub count : t ≤ ones (g .size) m
+
+-- a search under way: of the marked words some wait in the queue from head h to tail t, some are in hand, and the successors of
+-- the others are marked
+pub record Marking (g : Graph) (hand m qu : List ℕ) (h t : ℕ) : Type 0 where
+  pub room : Room g m qu t
+  pub order : h ≤ t
   pub sound : (p : ℕ) → p < g .size → getD m p 0 ≡ 1 → Reachable g p
   pub queued : (i : ℕ) → i < t → (getD qu i 0 < g .size) × (getD m (getD qu i 0) 0 ≡ 1)
-  pub todo : (p : ℕ) → p < g .size → getD m p 0 ≡ 1 → Waits qu h t p ⊎ Closed g m p
+  pub held : (p : ℕ) → In p hand → (p < g .size) × (getD m p 0 ≡ 1)
+  pub todo : (p : ℕ) → p < g .size → getD m p 0 ≡ 1 → Waits qu h t p ⊎ (Closed g m p ⊎ In p hand)
 
--- a search with a word to look at
+-- the word in hand, if there is more to do
+abbrev pub inHand : Bool → ℕ → List ℕ
+inHand more p = cond more (p ∷ []) []
+
+-- after a visit of word p: the word in hand is another, if there is more, and is marked only now
+pub record Turned (g : Graph) (m qu : List ℕ) (p t : ℕ) (m′ qu′ : List ℕ) (more : Bool) (word t′ : ℕ) : Type 0 where
+  pub under : (h : ℕ) → Marking g (p ∷ []) m qu h t → Marking g (inHand more word) m′ qu′ h t′
+  pub keeps : (x : ℕ) → getD m x 0 ≡ 1 → getD m′ x 0 ≡ 1
+  pub grows : ones (g .size) m + cond more 1 0 ≤ ones (g .size) m′
+  pub m-rest : drop (g .size) m′ ≡ drop (g .size) m
+  pub qu-rest : drop (g .size) qu′ ≡ drop (g .size) qu
+
+-- a search with a word to take from the queue
 pub record Visiting (g : Graph) (m qu : List ℕ) (h t : ℕ) : Type 0 where
   pub few : g .size ≤ 32768
   pub some : h < t
-  pub under : Marking g m qu h t
+  pub under : Marking g [] m qu h t
 
--- after a turn
+-- after that word and all that were followed from it
 pub record Visited (g : Graph) (m qu : List ℕ) (h : ℕ) (m′ qu′ : List ℕ) (t′ : ℕ) : Type 0 where
-  pub under : Marking g m′ qu′ (h + 1) t′
+  pub under : Marking g [] m′ qu′ (h + 1) t′
   pub keeps : (x : ℕ) → getD m x 0 ≡ 1 → getD m′ x 0 ≡ 1
   pub m-rest : drop (g .size) m′ ≡ drop (g .size) m
   pub qu-rest : drop (g .size) qu′ ≡ drop (g .size) qu

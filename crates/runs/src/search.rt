@@ -1,4 +1,4 @@
-// Which words are reachable: a breadth-first search. A word enters the queue once, so that n places are enough.
+// Which words are reachable: a search with a queue. A word enters it once at most, so that n places are enough.
 ghost use mathlib.Core.Path.{_≡_};
 ghost use mathlib.Core.List.{List, _++_};
 ghost use Prim.Native.Nat.{ℕ, _+_, _≤_, _<_};
@@ -6,7 +6,7 @@ ghost use lib.ListN.{length, getD, drop, replicate};
 ghost use Rattle.fields.specs.Table.{opcodeTable};
 ghost use Rattle.runs.specs.Marks.{push as pushed};
 ghost use Rattle.runs.specs.Instance.{graphOf};
-ghost use Rattle.runs.specs.Invariants.{Lent, Marked, Visiting, Visited, searchAt};
+ghost use Rattle.runs.specs.Invariants.{Lent, Marked, Room, Turned, Visiting, Visited, searchAt};
 use crate::edges::Successors;
 use crate::successors::successors_in;
 
@@ -23,8 +23,78 @@ fn push(marks: &mut [u8], queue: &mut [u32], tail: usize, q: usize) -> usize
     tail
 }
 
-// A turn of the search: the successors of the word at the queue's head are marked and queued. The new tail.
+// Where the search goes on: with a word in hand, if there is more to do, and with the queue up to its tail.
+struct Turn {
+    more: bool,
+    word: usize,
+    tail: usize,
+}
+
+// Marks the successors of word p. One that is new goes in hand, and another to the queue's end.
 fn visit(
+    table: &[u8; 512],
+    words: &[u32],
+    marks: &mut [u8],
+    queue: &mut [u32],
+    p: usize,
+    tail: usize,
+) -> Turn
+    requires { ⌜ (now table ≡ opcodeTable) × (length (now words) ≤ 32768) × (p < length (now words)) × Room (graphOf (now words)) (now marks) (now queue) tail ⌝ }
+    ensures { λ r. ⌜ Turned (graphOf (now (words .entry))) (now (marks .entry)) (now (queue .entry)) p tail (now (marks .exit)) (now (queue .exit)) (r .more) (r .word) (r .tail) ⌝ }
+{
+    let s = successors_in(table, words, p);
+    match s {
+        Successors::Invalid => {
+            return Turn {
+                more: false,
+                word: 0,
+                tail,
+            };
+        }
+        Successors::Stop => {
+            return Turn {
+                more: false,
+                word: 0,
+                tail,
+            };
+        }
+        Successors::One(a) => {
+            if marks[a] == 0 {
+                marks[a] = 1;
+                return Turn {
+                    more: true,
+                    word: a,
+                    tail,
+                };
+            }
+            return Turn {
+                more: false,
+                word: 0,
+                tail,
+            };
+        }
+        Successors::Two(a, b) => {
+            let t = push(marks, queue, tail, b);
+            if marks[a] == 0 {
+                marks[a] = 1;
+                return Turn {
+                    more: true,
+                    word: a,
+                    tail: t,
+                };
+            }
+            return Turn {
+                more: false,
+                word: 0,
+                tail: t,
+            };
+        }
+    }
+}
+
+// Takes the word at the queue's head in hand and follows it, from new word to new word. The new tail. A word that is followed need
+// not go through the queue, which would make the next turn wait for the memory.
+fn follow(
     table: &[u8; 512],
     words: &[u32],
     marks: &mut [u8],
@@ -35,23 +105,15 @@ fn visit(
     requires { ⌜ (now table ≡ opcodeTable) × Visiting (graphOf (now words)) (now marks) (now queue) head tail ⌝ }
     ensures { λ r. ⌜ Visited (graphOf (now (words .entry))) (now (marks .entry)) (now (queue .entry)) head (now (marks .exit)) (now (queue .exit)) r ⌝ }
 {
-    let p = queue[head] as usize;
-    let s = successors_in(table, words, p);
-    match s {
-        Successors::Invalid => {
-            return tail;
-        }
-        Successors::Stop => {
-            return tail;
-        }
-        Successors::One(a) => {
-            return push(marks, queue, tail, a);
-        }
-        Successors::Two(a, b) => {
-            let t = push(marks, queue, tail, a);
-            return push(marks, queue, t, b);
-        }
+    let mut t = Turn {
+        more: true,
+        word: queue[head] as usize,
+        tail,
+    };
+    while t.more {
+        t = visit(table, words, marks, queue, t.word, t.tail);
     }
+    t.tail
 }
 
 // The first n marks become 0.
@@ -75,7 +137,7 @@ pub(crate) fn mark_reachable(table: &[u8; 512], words: &[u32], marks: &mut [u8],
     let mut tail = push(marks, queue, 0, 0);
     let mut head = 0;
     while head < tail {
-        tail = visit(table, words, marks, queue, head, tail);
+        tail = follow(table, words, marks, queue, head, tail);
         head += 1;
     }
 }

@@ -1,10 +1,10 @@
 // The successors of a word (document 01, "Steps").
 ghost use mathlib.Core.Path.{_≡_};
-ghost use Prim.Native.Nat.{_<_, _^_};
+ghost use Prim.Native.Nat.{_+_, _<_, _^_};
 ghost use lib.IntN.{pos, _+ℤ_, _-ℤ_};
 ghost use lib.ListN.{length, getD};
 ghost use Rattle.fields.specs.Word.{bxOf, sjOf};
-ghost use Rattle.fields.specs.Table.{opcodeTable};
+ghost use Rattle.fields.specs.Table.{opcodeTable, jumpAfter, metamethodAfter, arithmeticBefore};
 ghost use Rattle.runs.specs.Columns.{classFrom, companionFrom};
 ghost use Rattle.runs.specs.Successors.{one, two, opcodeAt, isIn, nextOf, standsAt, unless, successorsOf, hasSuccessor, isSuccessor, servesOf};
 use crate::edges::Successors;
@@ -150,7 +150,43 @@ fn successors_by(companion: u8, class: u8, words: &[u32], p: usize) -> Successor
     }
 }
 
-// The successors of word p, by a lent copy of the opcode table: what loops call. The most frequent words come first.
+// The rows of the most frequent words that want a companion.
+
+fn test(words: &[u32], p: usize) -> Successors
+    requires { ⌜ p < length (now words) ⌝ }
+    ensures { λ r. ⌜ r ≡ unless (standsAt jumpAfter (now (words .entry)) p) (two (length (now (words .entry))) (pos (p + 1)) (pos (p + 2))) ⌝ }
+{
+    if opcode_at(words, p + 1) == OP_JMP {
+        return two_of(words.len(), p + 1, p + 2);
+    }
+    Successors::Invalid
+}
+
+fn arithmetic(words: &[u32], p: usize) -> Successors
+    requires { ⌜ p < length (now words) ⌝ }
+    ensures { λ r. ⌜ r ≡ unless (standsAt metamethodAfter (now (words .entry)) p) (two (length (now (words .entry))) (pos (p + 1)) (pos (p + 2))) ⌝ }
+{
+    if is_in(OP_MMBIN, OP_MMBINK, opcode_at(words, p + 1)) {
+        return two_of(words.len(), p + 1, p + 2);
+    }
+    Successors::Invalid
+}
+
+fn metamethod(words: &[u32], p: usize) -> Successors
+    requires { ⌜ p < length (now words) ⌝ }
+    ensures { λ r. ⌜ r ≡ unless (standsAt arithmeticBefore (now (words .entry)) p) (one (length (now (words .entry))) (pos (p + 1))) ⌝ }
+{
+    if p == 0 {
+        return Successors::Invalid;
+    }
+    if is_in(OP_ADDI, OP_SHR, opcode_at(words, p - 1)) {
+        return one_of(words.len(), p + 1);
+    }
+    Successors::Invalid
+}
+
+// The successors of word p, by a lent copy of the opcode table: what loops call. The most frequent words come first; a call of
+// `successors_by` in the compiled loops costs as much as all the rest.
 pub(crate) fn successors_in(table: &[u8; 512], words: &[u32], p: usize) -> Successors
     requires { ⌜ now table ≡ opcodeTable ⌝ }
     ensures { λ r. ⌜ r ≡ successorsOf (now (words .entry)) p ⌝ }
@@ -164,6 +200,22 @@ pub(crate) fn successors_in(table: &[u8; 512], words: &[u32], p: usize) -> Succe
     if companion == ALONE {
         if class == FOLLOWING {
             return one_of(words.len(), p + 1);
+        }
+        if class == JUMPING {
+            return jump(words.len(), word, p + 1);
+        }
+    }
+    if class == BRANCHING {
+        if companion == JUMP_AFTER {
+            return test(words, p);
+        }
+        if companion == METAMETHOD_AFTER {
+            return arithmetic(words, p);
+        }
+    }
+    if companion == ARITHMETIC_BEFORE {
+        if class == FOLLOWING {
+            return metamethod(words, p);
         }
     }
     successors_by(companion, class, words, p)
