@@ -64,10 +64,9 @@ threeRegisters raw =
     (E.Register (raw .b) ∷ E.Register (raw .c) ∷ []) (E.Register (raw .a) ∷ []) NoEffect NoPc
 
 -- Geti by C, and Addi, Shri, Shli by sC
-abbrev pub withImmediate : RawInstruction54 → ℤ → Body
+abbrev pub withImmediate : RawInstruction54 → TypedOperand → Body
 withImmediate raw value =
-    body (O.Register (raw .a) ∷ O.Register (raw .b) ∷ O.ImmediateInt value ∷ []) (E.Register (raw .b) ∷ [])
-    (E.Register (raw .a) ∷ []) NoEffect NoPc
+    body (O.Register (raw .a) ∷ O.Register (raw .b) ∷ value ∷ []) (E.Register (raw .b) ∷ []) (E.Register (raw .a) ∷ []) NoEffect NoPc
 
 -- Getfield, and Addk to Bxork
 abbrev pub withConstant : List ℕ → List ℕ → RawInstruction54 → Body

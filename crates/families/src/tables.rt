@@ -86,13 +86,13 @@ pub fn lift_three_registers(raw: RawInstruction54) -> Body
     }
 }
 
-pub fn lift_with_immediate(raw: RawInstruction54, value: i64) -> Body
+pub fn lift_with_immediate(raw: RawInstruction54, value: TypedOperand) -> Body
     ensures { λ r. ⌜ r ≡ F.withImmediate raw value ⌝ }
 {
     let operands = operands3(
         TypedOperand::Register { index: raw.a },
         TypedOperand::Register { index: raw.b },
-        TypedOperand::ImmediateInt { value },
+        value,
     );
     let reads = reads1(EffectTarget::Register { index: raw.b });
     let writes = writes1(EffectTarget::Register { index: raw.a });

@@ -1,7 +1,6 @@
 -- `families::tables::lift_with_immediate` meets its contract: each part is what its builder promises.
 -- Assumes nothing.
 use borrow.Author.Needs.{needs}
-use mir.Facts.{toZ-ofZ}
 use Rattle.families.proofs.tables.lift_with_immediate.Statement.{statement}
 use Rattle.families.proofs.tables.lift_with_immediate.Tie as tie
 
@@ -11,7 +10,6 @@ returns c =
       c .writes1 .ensures,
       c .before .reads1 .ensures,
       c .before .before .operands3 .ensures,
-      toZ-ofZ (c .before .before .before .fits .value),
     )
 
 pub lift-with-immediate-spec : {M : Type 1} → statement M

@@ -1,0 +1,4 @@
+pub mod Columns
+pub mod Lowest
+pub mod Plan
+pub mod Wrap
