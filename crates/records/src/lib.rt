@@ -2,3 +2,4 @@
 mod dispatch;
 pub mod lift;
 pub mod refusals;
+pub mod walk;

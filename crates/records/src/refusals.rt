@@ -207,12 +207,12 @@ fn check(
 }
 
 // What lifting is to do: the answer, and how many records it writes into so much room.
-pub fn planned(
-    words: &[u32],
-    tags: &[u8],
-    payloads: &[u64],
-    names: &[u64],
-    bytes: &[u8],
+pub fn planned<'a>(
+    words: &'a [u32],
+    tags: &'a [u8],
+    payloads: &'a [u64],
+    names: &'a [u64],
+    bytes: &'a [u8],
     room: usize,
 ) -> Plan
     ensures { λ r. ⌜ r ≡ planOf (length (now (words .entry))) (now (tags .entry)) (now (payloads .entry)) (now (names .entry)) (length (now (bytes .entry))) room ⌝ }
