@@ -1,3 +1,4 @@
+pub mod Cases
 pub mod Columns
 pub mod Elements
 pub mod Lowest
