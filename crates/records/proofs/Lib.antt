@@ -1,6 +1,8 @@
 pub mod Cases
 pub mod Columns
 pub mod Elements
+pub mod Lent
 pub mod Lowest
 pub mod Plan
+pub mod Turns
 pub mod Wrap
