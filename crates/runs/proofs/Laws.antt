@@ -2,18 +2,19 @@
 -- Assumes nothing.
 use Prim.Native.Nat.{ℕ, zero, suc, _+_, _-_, _<_, _≤_}
 use mathlib.Core.Path.{_≡_, refl, ap, sym, _∙_}
-use mathlib.Core.Bool.{Bool, true, false}
+use mathlib.Core.Bool.{Bool, true, false, false≢true}
 use native.Mathlib.Omega.{arith}
 use mathlib.Core.List.{List}
 use lib.ListN.{length, getD}
-use Rattle.fields.specs.Table.{classOf}
+use Rattle.fields.specs.Table.{classOf, companionOf}
+use Rattle.runs.specs.Columns.{classFrom, companionFrom}
 use lib.Dec.{ltb}
 use lib.IntN.{ℤ, pos, negsuc, negℤ, _+ℤ_, _-ℤ_, +ℤ-assoc}
 use native.Mathlib.Nat.{not-suc-le-zero}
 use borrow.Author.Tests.{lt-ltb, le-ltb}
 use Rattle.runs.specs.declared.edges.Successors.{Successors}
 use Rattle.runs.specs.declared.edges.Successors.the-variants.{Invalid, One, Two}
-use Rattle.runs.specs.Successors.{unless, one, ordered, two, opcodeAt, nextOf, companionPresent, successorsOf}
+use Rattle.runs.specs.Successors.{unless, one, ordered, two, opcodeAt, nextOf, standsAt, companionPresent, successorsOf}
 
 pub one-in : {n q : ℕ} → q < n → One q ≡ one n (pos q)
 unfolding one unless
@@ -81,20 +82,25 @@ module _ (n x b : ℕ) where
 pub past : {k m : ℕ} → m ≤ k → (k ≡ m → ⊥) → suc m ≤ k
 past {k} {m} h differs = omega arith
 
--- a word, by its companion
+-- a test that holds
+let-through : (t : Bool) (s : Successors) → t ≡ true → s ≡ unless t s
+unfolding unless
+let-through true s e = refl
+let-through false s e = absurd (false≢true e)
+
+-- a word, by the columns of its opcode
 module _ (ws : List ℕ) (p : ℕ) where
   pub outside : length ws ≤ p → successorsOf ws p ≡ Invalid
   unfolding successorsOf unless
   outside h = rw (le-ltb p (length ws) h)
 
-  pub without : companionPresent ws p ≡ false → successorsOf ws p ≡ Invalid
-  unfolding successorsOf unless
-  without e = rw e (const (ltb p (length ws)))
-    where
-      const : (t : Bool) → unless t Invalid ≡ Invalid
-      const true = refl
-      const false = refl
+  -- within the words, by the numbers of the two columns
+  module _ (companion class : ℕ) (inside : p < length ws) (d : companionFrom companion ≡ companionOf (opcodeAt ws p)) (e : classFrom class ≡ classOf (opcodeAt ws p)) where
+    pub by-columns : unless (standsAt (companionFrom companion) ws p) (nextOf (classFrom class) (length ws) (getD ws p 0) p) ≡ successorsOf ws p
+    unfolding successorsOf companionPresent
+    by-columns = rw (d, e) (let-through (ltb p (length ws)) _ (lt-ltb p (length ws) inside))
 
-  pub within : p < length ws → companionPresent ws p ≡ true → successorsOf ws p ≡ nextOf (classOf (opcodeAt ws p)) (length ws) (getD ws p 0) p
-  unfolding successorsOf unless
-  within h e = rw (lt-ltb p (length ws) h, e)
+  -- the most frequent words: p+1, and nothing is asked
+  pub plainly : p < length ws → companionFrom 0 ≡ companionOf (opcodeAt ws p) → classFrom 0 ≡ classOf (opcodeAt ws p) → one (length ws) (pos (p + 1)) ≡ successorsOf ws p
+  unfolding unless companionFrom classFrom
+  plainly inside d e = by-columns 0 0 inside d e

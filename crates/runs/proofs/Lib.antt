@@ -1,4 +1,5 @@
 pub mod Backward
+pub mod Below
 pub mod Bounds
 pub mod Cases
 pub mod Columns

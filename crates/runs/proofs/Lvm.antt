@@ -1,8 +1,8 @@
 -- lvm.c's next words are document 01's, for a word that is not bad: the two classifications of opcodes agree by a computed
 -- test, and then a case of the switch at a time.
 -- Assumes nothing.
-use Prim.Native.Nat.{ℕ, zero, suc, _+_, _*_, _<_, _^_}
-use mathlib.Core.Path.{_≡_, refl, ap, sym, _∙_, subst}
+use Prim.Native.Nat.{ℕ, _+_, _*_, _<_, _^_}
+use mathlib.Core.Path.{_≡_, refl, ap, sym, _∙_}
 use mathlib.Core.Logic.{inl, inr, _↔_}
 use mathlib.Core.Bool.{Bool, true, false, true≢false}
 use mathlib.Core.List.{List, [], _∷_}
@@ -23,6 +23,7 @@ use Rattle.runs.specs.Columns.{classFrom}
 use Rattle.runs.specs.Successors.{unless, one, ordered, two, opcodeAt, nextOf, companionPresent, successorsOf, isInvalid, listOf}
 use Rattle.runs.specs.Lvm.{Body, still, skip, arith as arithmetic, jmp, condjump, testset, call, leave, loop, forprep, tforprep, tforcall, setlist, assert0, absent, waysOf, switch, vmdispatch, placesOf, goesOn, Among, integers, Agreement}
 use Rattle.runs.proofs.Columns.{class-back}
+use Rattle.runs.proofs.Below.{all, all-at}
 
 -- The two classifications.
 
@@ -43,29 +44,6 @@ classBy tforcall = following
 classBy setlist = skippingIfK
 classBy assert0 = invalid
 classBy absent = invalid
-
--- a test of every number below n
-abbrev all : (ℕ → Bool) → ℕ → Bool
-all f zero = true
-all f (suc n) = pick (f n) (all f n) false
-
-left-of : (a b : Bool) → T (pick a b false) → T a
-left-of true b t = tt
-left-of false b t = t
-
-right-of : (a b : Bool) → T (pick a b false) → T b
-right-of true b t = t
-right-of false b t = absurd t
-
-all-at : (f : ℕ → Bool) (n : ℕ) → T (all f n) → (o : ℕ) → o < n → T (f o)
-all-at f zero t o h = absurd (omega arith)
-all-at f (suc n) t o h = go (eqb o n) refl (λ k. all-at f n (right-of (f n) (all f n) t) o k)
-  where
-    go : (b : Bool) → eqb o n ≡ b → (o < n → T (f o)) → T (f o)
-    go true e lower = subst (λ (m : ℕ). T (f m)) (sym (eqb-true o n e)) (left-of (f n) (all f n) t)
-    go false e lower =
-        let different : o ≡ n → ⊥ = eqb-false o n e in
-        lower (omega arith)
 
 alike-at : ℕ → Bool
 alike-at o = eqb (classNumber (classOf o)) (classNumber (classBy (vmdispatch switch o)))

@@ -2,11 +2,11 @@
 ghost use mathlib.Core.Path.{_≡_};
 ghost use Prim.Native.Nat.{_<_, _^_};
 ghost use lib.IntN.{pos, _+ℤ_, _-ℤ_};
-ghost use lib.ListN.{length};
+ghost use lib.ListN.{length, getD};
 ghost use Rattle.fields.specs.Word.{bxOf, sjOf};
 ghost use Rattle.fields.specs.Table.{opcodeTable};
 ghost use Rattle.runs.specs.Columns.{classFrom, companionFrom};
-ghost use Rattle.runs.specs.Successors.{one, two, opcodeAt, isIn, nextOf, standsAt, successorsOf, hasSuccessor, isSuccessor, servesOf};
+ghost use Rattle.runs.specs.Successors.{one, two, opcodeAt, isIn, nextOf, standsAt, unless, successorsOf, hasSuccessor, isSuccessor, servesOf};
 use crate::edges::Successors;
 use fields::columns::*;
 use fields::opcodes::*;
@@ -138,7 +138,19 @@ fn stands_at(companion: u8, words: &[u32], p: usize) -> bool
     }
 }
 
-// The successors of word p, by a lent copy of the opcode table: what loops call.
+// The successors of word p by its companion and its step class, as the opcode table numbers them.
+fn successors_by(companion: u8, class: u8, words: &[u32], p: usize) -> Successors
+    requires { ⌜ p < length (now words) ⌝ }
+    ensures { λ r. ⌜ r ≡ unless (standsAt (companionFrom companion) (now (words .entry)) p) (nextOf (classFrom class) (length (now (words .entry))) (getD (now (words .entry)) p 0) p) ⌝ }
+{
+    if stands_at(companion, words, p) {
+        next_of(class, words.len(), words[p], p)
+    } else {
+        Successors::Invalid
+    }
+}
+
+// The successors of word p, by a lent copy of the opcode table: what loops call. The most frequent words come first.
 pub(crate) fn successors_in(table: &[u8; 512], words: &[u32], p: usize) -> Successors
     requires { ⌜ now table ≡ opcodeTable ⌝ }
     ensures { λ r. ⌜ r ≡ successorsOf (now (words .entry)) p ⌝ }
@@ -147,16 +159,14 @@ pub(crate) fn successors_in(table: &[u8; 512], words: &[u32], p: usize) -> Succe
         return Successors::Invalid;
     }
     let word = words[p];
-    if stands_at(fields::lookup::companion_in(table, word), words, p) {
-        next_of(
-            fields::lookup::step_class_in(table, word),
-            words.len(),
-            word,
-            p,
-        )
-    } else {
-        Successors::Invalid
+    let companion = fields::lookup::companion_in(table, word);
+    let class = fields::lookup::step_class_in(table, word);
+    if companion == ALONE {
+        if class == FOLLOWING {
+            return one_of(words.len(), p + 1);
+        }
     }
+    successors_by(companion, class, words, p)
 }
 
 // The successors of word p.

@@ -1,30 +1,29 @@
--- `runs::successors::successors_in` meets its contract: the word's companion, then its class, each by the table's rule.
+-- `runs::successors::successors_in` meets its contract: each column by the table's rule.
 -- Assumes nothing.
-use mathlib.Core.Path.{_≡_, sym, _∙_}
-use denote.Ref.{now}
-use Rattle.runs.specs.Successors.{companionPresent}
-use Rattle.runs.proofs.Laws.{outside, without, within}
+use mathlib.Core.Path.{ap, sym, _∙_}
+use Rattle.runs.specs.Columns.{classFrom, companionFrom}
 use Rattle.runs.proofs.Columns.{class-in, companion-in}
+use Rattle.runs.proofs.Laws.{outside, by-columns, plainly}
 use borrow.Author.Needs.{needs}
 use Rattle.runs.proofs.successors.successors_in.Statement.{statement}
 use Rattle.runs.proofs.successors.successors_in.Tie as tie
-
--- what the test of the companion says
-present : (c : tie.After-stands-at) → c .stands-at .result ≡ companionPresent (now (c .before .before .before .before .before .args .words)) (c .before .before .before .before .before .args .p)
-unfolding companionPresent
-present c =
-    rw (c .before .companion-in .ensures, companion-in _ _ _ (c .before .before .before .before .before .pre)) at (c .stands-at .ensures)
 
 returns : tie.Need-returns
 returns c = sym (outside _ _ (c .if1 .taken))
 
 returns-2 : tie.Need-returns-2
 returns-2 c =
-    rw (within _ _ (c .before .before .before .before .before .before .if1 .left) (sym (present (c .before .before .before)) ∙ c .before .before .if2 .taken))
-    (rw (c .before .step-class-in .ensures, class-in _ _ _ (c .before .before .before .before .before .before .before .before .pre)) at (c .next-of .ensures))
+    c .one-of .ensures
+    ∙ plainly _ _ (c .before .before .before .before .before .before .if1 .left)
+    (ap companionFrom (sym (c .before .before .if2 .taken) ∙ c .before .before .before .before .companion-in .ensures) ∙ companion-in _ _ _ (c .before .before .before .before .before .before .before .before .pre))
+    (ap classFrom (sym (c .before .if3 .taken) ∙ c .before .before .before .step-class-in .ensures) ∙ class-in _ _ _ (c .before .before .before .before .before .before .before .before .pre))
 
 returns-3 : tie.Need-returns-3
-returns-3 c = sym (without _ _ (sym (present (c .before)) ∙ c .if2 .left))
+returns-3 c =
+    c .successors-by .ensures
+    ∙ by-columns _ _ _ _ (c .before .before .before .before .before .if1 .left)
+    (ap companionFrom (c .before .before .before .companion-in .ensures) ∙ companion-in _ _ _ (c .before .before .before .before .before .before .before .pre))
+    (ap classFrom (c .before .before .step-class-in .ensures) ∙ class-in _ _ _ (c .before .before .before .before .before .before .before .pre))
 
 pub successors-in-spec : {M : Type 1} → statement M
 successors-in-spec =
@@ -35,7 +34,8 @@ successors-in-spec =
     (λ c. search needs)
     (λ c κs. search needs)
     (λ c κs. search needs)
-    (λ c κs. search needs)
+    (λ c. search needs)
     (λ c κs. search needs)
     returns-2
+    (λ c κs. search needs)
     returns-3)
