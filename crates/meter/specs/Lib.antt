@@ -1,0 +1,3 @@
+pub mod Feed
+pub mod Model
+pub mod Calls
