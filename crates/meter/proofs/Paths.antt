@@ -16,10 +16,10 @@ use Rattle.meter.specs.Model.{lastFrom, anyServes, sinceService, wordsSi
 -- the test of `In` is right
 pub is-in : (q : ℕ) (xs : List ℕ) → isIn q xs ≡ true → In q xs
 is-in q [] h = let z : _≡_ {A = ℕ} 0 1 = cc in omega arith
-is-in q (x ∷ xs) h = go (eqb q x) refl (is-in q xs) h
+is-in q (x ∷ xs) h = go (eqb x q) refl (is-in q xs) h
   where
-    go : (t : Bool) → eqb q x ≡ t → (isIn q xs ≡ true → In q xs) → t || isIn q xs ≡ true → In q (x ∷ xs)
-    go true e later d = inl (eqb-true q x e)
+    go : (t : Bool) → eqb x q ≡ t → (isIn q xs ≡ true → In q xs) → t || isIn q xs ≡ true → In q (x ∷ xs)
+    go true e later d = inl (sym (eqb-true x q e))
     go false e later d = inr (later d)
 
 pub last-more : (p : ℕ) (ps : List ℕ) (q : ℕ) → lastFrom p (ps ++ (q ∷ [])) ≡ q

@@ -12,7 +12,7 @@ use Rattle.meter.specs.declared.step.Fed.{Fed}
 -- a number stands in a list: the test of `In`
 abbrev pub isIn : ℕ → List ℕ → Bool
 isIn q [] = false
-isIn q (x ∷ xs) = eqb q x || isIn q xs
+isIn q (x ∷ xs) = eqb x q || isIn q xs
 
 -- q is "a step from" p
 abbrev pub follows : Graph → ℕ → ℕ → Bool

@@ -6,10 +6,7 @@ ghost use lib.ListN.{length};
 ghost use Rattle.runs.specs.Graph.{Graph};
 ghost use Rattle.runs.specs.Instance.{graphOf};
 ghost use Rattle.runs.specs.Run.{mostWords};
-ghost use Rattle.runs.specs.Successors.{listOf};
-ghost use Rattle.meter.specs.Feed.{isIn, follows, beginOf, oneService, movedTo, isForeign, isStray, feedOf};
-use runs::Successors;
-
+ghost use Rattle.meter.specs.Feed.{beginOf, oneService, movedTo, isForeign, isStray, feedOf};
 // Document 01, number 1: at most so many words.
 const MOST_WORDS: usize = 32768;
 
@@ -59,22 +56,6 @@ fn one_service(s: u32) -> u32
     CEILING
 }
 
-fn has(s: Successors, q: usize) -> bool
-    ensures { λ r. ⌜ r ≡ isIn q (listOf s) ⌝ }
-{
-    match s {
-        Successors::Invalid => false,
-        Successors::Stop => false,
-        Successors::One(a) => q == a,
-        Successors::Two(a, b) => {
-            if q == a {
-                return true;
-            }
-            q == b
-        }
-    }
-}
-
 fn is_foreign(n: usize, m: Meter) -> bool
     ensures { λ r. ⌜ r ≡ isForeign n m ⌝ }
 {
@@ -104,7 +85,7 @@ fn is_stray(words: &[u32], m: Meter, q: usize) -> bool
     if m.begun == 0 {
         return q != 0;
     }
-    !has(runs::successors_at(words, wide(m.last)), q)
+    !runs::successors::is_successor(words, wide(m.last), q)
 }
 
 // The meter at q. What the checks leave is small enough to add to and to keep in 32 bits.
@@ -121,7 +102,7 @@ fn moved(words: &[u32], m: Meter, q: usize) -> Meter
             services: m.services,
         };
     }
-    if runs::serves(words, wide(m.last), q) {
+    if runs::successors::serves(words, wide(m.last), q) {
         return Meter {
             begun: 1,
             last: to,
