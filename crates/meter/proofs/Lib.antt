@@ -1,3 +1,4 @@
 pub mod Checks
 pub mod Paths
 pub mod Trust
+pub mod Bound

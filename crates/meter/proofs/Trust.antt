@@ -52,7 +52,7 @@ module _ (g : Graph) (law : Lawful g) where
   both true u h = (refl, h)
   both false u h = (cc, cc)
 
-  first-word : (q : ℕ) → writes g [] q ≡ true → (q ≡ 0) × (0 < g .size)
+  pub first-word : (q : ℕ) → writes g [] q ≡ true → (q ≡ 0) × (0 < g .size)
   first-word q h =
       let a : (eqb q 0 ≡ true) × (ltb 0 (g .size) ≡ true) = both (eqb q 0) (ltb 0 (g .size)) h in
       (eqb-true q 0 (a .0), ltb-true 0 (g .size) (a .1))

@@ -1,3 +1,4 @@
 pub mod Feed
 pub mod Model
 pub mod Calls
+pub mod Bound
