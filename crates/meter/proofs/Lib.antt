@@ -2,3 +2,4 @@ pub mod Checks
 pub mod Paths
 pub mod Trust
 pub mod Bound
+pub mod Demand3

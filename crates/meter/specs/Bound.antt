@@ -1,4 +1,4 @@
--- What owners read first: a meter and the longest run. proofs/Bound.antt proves it for every function that the run accepts.
+-- What owners read first: a meter just begun never shows a count above the longest run, and on some path it shows it.
 -- Assumes nothing.
 use mathlib.Core.Path.{_≡_}
 use mathlib.Core.List.{List, [], _∷_}

@@ -1,7 +1,6 @@
 -- Demand 3, its second half: a meter through a list of calls, held against the reference model. proofs/Trust.antt proves it.
 -- Assumes nothing.
 use mathlib.Core.Path.{_≡_}
-use mathlib.Core.Bool.{cond}
 use mathlib.Core.List.{List, [], _∷_}
 use Prim.Native.Nat.{ℕ, _+_, min}
 use Rattle.runs.specs.Graph.{Graph}

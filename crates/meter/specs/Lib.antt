@@ -2,3 +2,4 @@ pub mod Feed
 pub mod Model
 pub mod Calls
 pub mod Bound
+pub mod Demand3
