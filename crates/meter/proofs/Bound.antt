@@ -1,12 +1,11 @@
 -- A meter and the longest run, over any lawful graph: what the model holds is a path, and the words since service are its last segment.
 -- Assumes nothing.
 use Prim.Native.Nat.{ℕ, _+_, _<_, _≤_}
-use mathlib.Core.Bool.{Bool, true, false, cond, _&&_, _||_, or-true}
+use mathlib.Core.Bool.{Bool, true, false, cond, _||_, or-true}
 use mathlib.Core.Path.{_≡_, refl, sym, ap, subst, _∙_}
-use mathlib.Core.Logic.{_⊎_, inl, inr}
+use mathlib.Core.Logic.{inl, inr}
 use mathlib.Core.List.{List, [], _∷_, _++_, append-assoc}
 use native.Mathlib.Omega.{arith}
-use lib.Dec.{ltb, eqb}
 use lib.ListN.{length, replicate, length-append}
 use borrow.Author.Tests.{eq-eqb, lt-ltb}
 use Rattle.runs.specs.Graph.{In, Graph, Lawful, Along, Path, Unserved, Segment}
@@ -14,7 +13,7 @@ use Rattle.runs.specs.Run.{mostWords}
 use Rattle.meter.specs.declared.step.Meter.{Meter}
 use Rattle.meter.specs.Feed.{isIn, follows, ceiling, beginOf}
 use Rattle.meter.specs.Model.{Call, begin, feed, Model, blank, lastFrom, writes, servesTo, fed, called, answerTo, modelAfter, modelAnswers, anyServes, sinceService, wordsSince}
-use Rattle.meter.specs.Calls.{meterAfter, meterAnswers, FollowsModel}
+use Rattle.meter.specs.Calls.{meterAfter}
 use Rattle.meter.specs.Bound.{feeds, ShownOn, Bound}
 use Rattle.meter.proofs.Paths.{is-in, last-more}
 use Rattle.meter.proofs.Trust.{first-word, follows-model}

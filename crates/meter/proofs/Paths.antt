@@ -1,16 +1,16 @@
 -- One word more at a path's end: its last word, and the words since service.
 -- Assumes nothing.
-use Prim.Native.Nat.{ℕ, _+_, _<_}
+use Prim.Native.Nat.{ℕ, _+_}
 use mathlib.Core.Bool.{Bool, true, false, cond, _||_, or-false, or-true}
 use mathlib.Core.Path.{_≡_, refl, sym, ap, _∙_}
-use mathlib.Core.Logic.{_⊎_, inl, inr}
+use mathlib.Core.Logic.{inl, inr}
 use mathlib.Core.List.{List, [], _∷_, _++_}
 use native.Mathlib.Omega.{arith}
 use lib.Dec.{eqb}
 use lib.ListN.{length, length-append}
 use borrow.Author.Tests.{eqb-true}
 use Rattle.runs.specs.Graph.{In, Graph}
-use Rattle.meter.specs.Feed.{isIn, follows}
+use Rattle.meter.specs.Feed.{isIn}
 use Rattle.meter.specs.Model.{lastFrom, anyServes, sinceService, wordsSince}
 
 -- the test of `In` is right

@@ -1,18 +1,18 @@
 -- Demand 3, its second half: a meter just begun shows what the reference model holds, whatever calls follow.
 -- Assumes nothing.
 use Prim.Native.Nat.{ℕ, _+_, _<_, _≤_, min}
-use mathlib.Core.Bool.{Bool, true, false, cond, not, _&&_, _||_, or-true}
-use mathlib.Core.Path.{_≡_, refl, sym, ap, _∙_}
+use mathlib.Core.Bool.{Bool, true, false, cond, not, _&&_, or-true}
+use mathlib.Core.Path.{_≡_, refl, ap}
 use mathlib.Core.List.{List, [], _∷_, _++_}
 use native.Mathlib.Omega.{arith}
-use lib.Dec.{ltb, leb, eqb}
-use borrow.Author.Tests.{ltb-true, ltb-false, eqb-true, le-ltb, lt-ltb, lt-leb, le-leb, ne-eqb}
-use Rattle.runs.specs.Graph.{In, Graph, Lawful}
+use lib.Dec.{ltb, eqb}
+use borrow.Author.Tests.{ltb-true, ltb-false, eqb-true, le-ltb, lt-leb, le-leb, ne-eqb}
+use Rattle.runs.specs.Graph.{Graph, Lawful}
 use Rattle.runs.specs.Run.{mostWords}
 use Rattle.meter.specs.declared.step.Meter.{Meter}
 use Rattle.meter.specs.declared.step.Fed.{Fed}
-use Rattle.meter.specs.Feed.{isIn, follows, isBegun, ceiling, oneService, movedTo, isForeign, isStray, beginOf, feedOf}
-use Rattle.meter.specs.Model.{Call, begin, feed, Model, blank, lastFrom, writes, servesTo, fed, called, answerTo, modelAfter, modelAnswers, hasWord, lastOr0, wordsSince}
+use Rattle.meter.specs.Feed.{follows, ceiling, oneService, movedTo, isForeign, isStray, beginOf, feedOf}
+use Rattle.meter.specs.Model.{Call, begin, feed, Model, blank, lastFrom, writes, fed, called, answerTo, modelAfter, modelAnswers, hasWord, lastOr0, wordsSince}
 use Rattle.meter.specs.Calls.{meterAfter, meterAnswers, FollowsModel}
 use Rattle.meter.proofs.Paths.{is-in, last-more, words-more}
 
@@ -27,7 +27,7 @@ more-services s k = go (ltb (min (s + k) ceiling) ceiling) refl
     go false e = omega (arith, ltb-false (min (s + k) ceiling) ceiling e)
 
 -- the meter that shows a model, from these services on
-abbrev pub shows : Graph → ℕ → Model → Meter
+abbrev shows : Graph → ℕ → Model → Meter
 shows g start b =
     record { begun = cond (hasWord (b .path)) 1 0; last = lastOr0 (b .path); count = wordsSince g (b .path); services = min (start + b .tally) ceiling }
 

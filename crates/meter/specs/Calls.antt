@@ -5,7 +5,6 @@ use mathlib.Core.List.{List, [], _∷_}
 use Prim.Native.Nat.{ℕ, _+_, min}
 use Rattle.runs.specs.Graph.{Graph}
 use Rattle.meter.specs.declared.step.Meter.{Meter}
-use Rattle.meter.specs.declared.step.Fed.{Fed}
 use Rattle.meter.specs.Feed.{ceiling, isBegun, feedOf, beginOf}
 use Rattle.meter.specs.Model.{Call, begin, feed, Model, blank, modelAfter, modelAnswers, hasWord, lastOr0, wordsSince}
 
