@@ -4,6 +4,7 @@ ghost use Prim.Native.Nat.{_<_, _≤_};
 ghost use Rattle.runs.specs.Instance.{graphOf};
 ghost use Rattle.runs.specs.Run.{mostWords};
 ghost use Rattle.meter.specs.Feed.{beginOf, oneService, movedTo, isForeign, isStray, feedOf};
+
 // Document 01, number 1: at most so many words.
 const MOST_WORDS: usize = 32768;
 
@@ -27,6 +28,7 @@ pub struct Fed {
     pub number: u32,
 }
 
+// Begin: not begun, 0, 0; the services stay.
 pub fn begin_step(m: Meter) -> Meter
     ensures { λ r. ⌜ r ≡ beginOf m ⌝ }
 {
@@ -44,6 +46,7 @@ fn wide(x: u32) -> usize
     x as usize
 }
 
+// One service more, up to the ceiling.
 fn one_service(s: u32) -> u32
     ensures { λ r. ⌜ r ≡ oneService s ⌝ }
 {
@@ -53,6 +56,7 @@ fn one_service(s: u32) -> u32
     CEILING
 }
 
+// Number 11: no meter of a function of n words.
 fn is_foreign(n: usize, m: Meter) -> bool
     ensures { λ r. ⌜ r ≡ isForeign n m ⌝ }
 {
@@ -73,6 +77,7 @@ fn is_foreign(n: usize, m: Meter) -> bool
     last + 1 < count
 }
 
+// Number 10: no word that can follow.
 fn is_stray(words: &[u32], m: Meter, q: usize) -> bool
     ensures { λ r. ⌜ r ≡ isStray (graphOf (now (words .entry))) m q ⌝ }
 {
@@ -115,6 +120,7 @@ fn moved(words: &[u32], m: Meter, q: usize) -> Meter
     }
 }
 
+// A feed of word q, in constant time: of the words only those are read that decide the edge.
 pub fn feed_step(words: &[u32], m: Meter, q: usize) -> Fed
     ensures { λ r. ⌜ r ≡ feedOf (graphOf (now (words .entry))) m q ⌝ }
 {
