@@ -14,16 +14,19 @@ use Rattle.meter.specs.Model.{Call}
 use Rattle.meter.specs.Calls.{FollowsModel}
 use Rattle.meter.specs.Bound.{Bound}
 
+-- "For one function of at most 32,768 words, .. and control that starts at word 0 and takes any step of document 01's table at
+-- each word:"
 pub record Demand3 (ws : List ℕ) : Type 0 where
-  -- the run, with any two work slices that are long enough: "refused exactly if no words, or some course meets a bad word, or the
-  -- longest run is over 32,768"; "if accepted, no course passes more than L words without a service between them, and some course
-  -- passes exactly L"; "the lowest word at which an L-word stretch begins"
+  -- ".. result slices at least as long ..: it is refused exactly if it has no words, some course meets a bad word, or the longest
+  -- run is over 32,768. If accepted, no course passes more than L words without a service between them, and some course passes
+  -- exactly L."
   pub run : (marks lengths : ℕ) → length ws ≤ marks → length ws ≤ lengths → Demand ws marks lengths
-  -- the meter, whatever it held (services "32 bits"), after a begin and then any calls: "its answer is 10, and that of a written
-  -- one 0"; "After the list the meter is begun exactly if the course has a word; last is the course's last word, or 0; words since
-  -- service count from the word its last serving step leads to (all of them if none serves, 0 if empty); services are those at the
-  -- start plus the tally, at most 4,294,967,295."
+  -- "Accepted or not, take a meter just begun, whatever services it holds: for every list of begins and feeds on it over the same
+  -- words, whatever word each feed names, refused feeds included, a feed is accepted exactly if document 01's feeding book writes
+  -- its word down, and after the list the meter shows the words since the last service on the book's course, and the services
+  -- held at the start plus all those passed by the book, up to its ceiling." (A meter's services are 32 bits.)
   pub meter : (m : Meter) → m .services ≤ ceiling → (calls : List Call) → FollowsModel (graphOf ws) m calls
-  -- both: if accepted, a meter just begun and fed a course never shows a count above L, and on some course it shows L
+  -- both together, what owners read first: if accepted, a meter just begun and fed a course never shows a count above L, and on
+  -- some course it shows L
   pub bound : (marks lengths : ℕ) → numberOf (runOf ws marks lengths) ≡ 0 → (m : Meter) → m .services ≤ ceiling
       → Bound (graphOf ws) m (longestOf (runOf ws marks lengths))
