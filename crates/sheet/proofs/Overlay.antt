@@ -1,12 +1,12 @@
 -- Text put over a part of a list. Assumes nothing.
-use mathlib.Core.Path.{_≡_, refl, sym, _∙_}
-use mathlib.Core.List.{List, [], _∷_, _++_, append-assoc, append-nil}
+use mathlib.Core.Path.{_≡_, refl, sym, ap, _∙_}
+use mathlib.Core.List.{List, [], _∷_, _++_, append-assoc}
 use Prim.Native.Nat.{ℕ, zero, suc, _+_, _-_, _/_, _≤_, _<_}
 use native.Mathlib.Nat.{add-zero}
 use native.Mathlib.Numerals.{add-one}
 use native.Mathlib.Omega.{arith}
-use lib.ListN.{length, take, drop, set, length-append, length-drop, length-set, take-append-drop, drop-of-length-le}
-use lib.Seq.{take-set-le, set-split, take-at, drop-at, drop-drop, length-take-le}
+use lib.ListN.{length, take, drop, getD, set, length-append, length-drop, length-set, take-append-drop}
+use lib.Seq.{take-suc, take-set-le, set-split, take-at, drop-at, drop-drop, length-take-le}
 use Rattle.sheet.specs.declared.writing.Cell.{Cell}
 use Rattle.sheet.specs.declared.writing.Cell.the-variants.{Number, Dash}
 use Rattle.sheet.specs.Columns.{glyphOf, digitOf, leading, columns}
@@ -16,6 +16,10 @@ use Rattle.sheet.proofs.Widths.{length-both, length-snoc, length-leadin
 pub length-put : (l : List ℕ) (i : ℕ) (text : List ℕ) → i + length text ≤ length l → length (put l i text) ≡ length l
 unfolding put
 length-put l i text h = simp (length-append, length-take-le i l (omega arith), length-drop) (omega arith)
+
+pub put-one : (l : List ℕ) (i a : ℕ) → i < length l → set l i a ≡ put l i (a ∷ [])
+unfolding put
+put-one l i a h = rw (set-split l i a h, add-one)
 
 -- one text after another
 pub put-put : (l : List ℕ) (i : ℕ) (xs ys : List ℕ) → i + (length xs + length ys) ≤ length l → put (put l i xs) (i + length xs) ys ≡ put l i (xs ++ ys)
@@ -31,6 +35,18 @@ put-put l i xs ys h =
 -- after a text of n bytes comes another
 pub and-then : (l o o′ : List ℕ) (at n : ℕ) (xs ys : List ℕ) → o ≡ put l at xs → length xs ≡ n → at + (n + length ys) ≤ length l → o′ ≡ put o (at + n) ys → o′ ≡ put l at (xs ++ ys)
 and-then l o o′ at n xs ys e k h f = f ∙ rw (e, ← k) (put-put l at xs ys (rw k h))
+
+pub put-none : (l : List ℕ) (i : ℕ) → l ≡ put l i []
+unfolding put
+put-none l i = rw (add-zero i) (sym (take-append-drop i l))
+
+-- one byte more of a text that is put byte by byte
+pub put-byte : (l o : List ℕ) (at i : ℕ) (text : List ℕ) → at + length text ≤ length l → i < length text → o ≡ put l at (take i text) → set o (at + i) (getD text i 0) ≡ put l at (take (i + 1) text)
+put-byte l o at i text h k e =
+    let t : length (take i text) ≡ i = length-take-le i text (omega arith) in
+    let s : at + length (take i text) ≤ length l = rw t (omega arith) in
+    let m : length o ≡ length l = ap length e ∙ length-put l at (take i text) s in
+    rw (add-one i, take-suc text i 0 k) (and-then l o (set o (at + i) (getD text i 0)) at i (take i text) (getD text i 0 ∷ []) e t (omega arith) (put-one o (at + i) (getD text i 0) (omega arith)))
 
 -- the rest of the list stands behind a text at its start
 pub put-start : (l text : List ℕ) → put l 0 text ≡ text ++ drop (length text) l

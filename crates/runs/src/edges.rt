@@ -1,0 +1,6 @@
+pub enum Successors {
+    Invalid,
+    Stop,
+    One(usize),
+    Two(usize, usize),
+}
