@@ -1,11 +1,14 @@
 -- How long the program's answer is, and its lines put one after another. Assumes nothing.
 use mathlib.Core.Path.{_≡_, refl, sym, ap, _∙_}
-use mathlib.Core.List.{List, _∷_, _++_}
+use mathlib.Core.Bool.{Bool, true, false, cond}
+use mathlib.Core.List.{List, [], _∷_, _++_}
 use Prim.Native.Nat.{ℕ, zero, suc, _+_, _*_, _≤_, _<_}
 use native.Mathlib.Numerals.{add-one}
 use native.Mathlib.Omega.{arith}
+use lib.Dec.{ltb}
 use lib.ListN.{length, take, drop, getD, replicate}
-use lib.Seq.{take-at}
+use lib.Seq.{take-at, length-take-le}
+use borrow.Author.Tests.{ltb-false}
 use Rattle.runs.specs.declared.longest.Run.{Run}
 use Rattle.runs.specs.declared.longest.Run.the-variants.{Accepted, Refused}
 use Rattle.runs.specs.Run.{runOf}
@@ -14,10 +17,10 @@ use Rattle.sheet.specs.declared.reading.Sheet.the-variants.{Words, Malformed, T
 use Rattle.sheet.specs.Format.{mostWords, sheetOf, wordsOf, roomOf, tableAfter, numberOf, placeOf}
 use Rattle.sheet.specs.Rows.{put, lastLineOf, refusalLineOf}
 use Rattle.sheet.proofs.Widths.{length-both, length-row, length-pair}
-use Rattle.sheet.proofs.Overlay.{and-then}
+use Rattle.sheet.proofs.Overlay.{length-put, and-then}
 use Rattle.sheet.proofs.Scanned.{length-words, table-is}
 use Rattle.sheet.proofs.Whole.{Filling, filling}
-use Rattle.listing.specs.Answer.{lineAt, linesOf, listingOf, lengthsOf, tell, runText, reply, answerOf}
+use Rattle.listing.specs.Answer.{lineAt, linesOf, listingOf, lengthsOf, tell, runText, reply, answerOf, pageLength, writtenOf}
 
 -- ---- lengths
 
@@ -120,3 +123,19 @@ pub take-zeros : (n m : ℕ) → n ≤ m → take {A = ℕ} n (replicate m 0) �
 take-zeros zero m h = refl
 take-zeros (suc n) zero h = absurd (omega arith)
 take-zeros (suc n) (suc m) h = ap (λ (l : List ℕ). let z : ℕ = 0 in z ∷ l) (take-zeros n m (omega arith))
+
+-- ---- what is written fits the page, for a caller that writes it out
+
+written-fits : (room : ℕ) (text : List ℕ) → length (writtenOf room text) ≤ room
+written-fits room text = go (ltb room pageLength) refl
+  where
+    go : (t : Bool) → ltb room pageLength ≡ t → length (cond t [] (answerOf text)) ≤ room
+    go true e = omega arith
+    go false e = omega (arith, length-answer text, ltb-false room pageLength e)
+
+pub counted : (text page out : List ℕ) (r : ℕ) → r ≡ length (writtenOf (length page) text) → out ≡ put page 0 (writtenOf (length page) text) → (r ≤ length out) × (r ≡ length (take r out))
+counted text page out r k e =
+    let f : length (writtenOf (length page) text) ≤ length page = written-fits (length page) text in
+    let m : length out ≡ length page = ap length e ∙ length-put page 0 (writtenOf (length page) text) (omega arith) in
+    let h : r ≤ length out = omega arith in
+    (h, sym (length-take-le r out h))
