@@ -26,7 +26,7 @@ use Rattle.listing.specs.Answer.{lineAt, linesOf, listingOf, lengthsOf, 
 
 pub length-at : (words lengths : List ℕ) (p : ℕ) → length (lineAt words lengths p) ≡ 31
 unfolding lineAt
-length-at words lengths p = length-row p _ _ _ _
+length-at words lengths p = length-row _ _ _ _ _
 
 pub length-lines : (words lengths : List ℕ) (k : ℕ) → length (linesOf words lengths k) ≡ 31 * k
 unfolding linesOf
