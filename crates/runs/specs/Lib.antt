@@ -1,2 +1,0 @@
-pub mod Successors
-pub mod Run

@@ -1,6 +1,0 @@
-pub enum Successors {
-    Invalid,
-    Stop,
-    One(usize),
-    Two(usize, usize),
-}
