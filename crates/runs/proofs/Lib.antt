@@ -1,0 +1,17 @@
+pub mod Backward
+pub mod Bounds
+pub mod Cases
+pub mod Columns
+pub mod Demand
+pub mod Heaviest
+pub mod Lawful
+pub mod Laws
+pub mod Lists
+pub mod Lvm
+pub mod Marks
+pub mod Meaning
+pub mod Moves
+pub mod Order
+pub mod Outcome
+pub mod Paths
+pub mod Turn
