@@ -1,12 +1,12 @@
 -- How long the program's answer is, and its lines put one after another. Assumes nothing.
 use mathlib.Core.Path.{_≡_, refl, sym, ap, _∙_}
 use mathlib.Core.Bool.{Bool, true, false, cond}
-use mathlib.Core.List.{List, [], _∷_, _++_}
-use Prim.Native.Nat.{ℕ, zero, suc, _+_, _*_, _≤_, _<_}
+use mathlib.Core.List.{List, [], _∷_}
+use Prim.Native.Nat.{ℕ, zero, suc, _+_, _*_, _≤_}
 use native.Mathlib.Numerals.{add-one}
 use native.Mathlib.Omega.{arith}
 use lib.Dec.{ltb}
-use lib.ListN.{length, take, drop, getD, replicate}
+use lib.ListN.{length, take, drop, replicate}
 use lib.Seq.{take-at, length-take-le}
 use borrow.Author.Tests.{ltb-false}
 use Rattle.runs.specs.declared.longest.Run.{Run}
@@ -34,7 +34,8 @@ length-lines words lengths zero = refl
 length-lines words lengths (suc k) =
     length-both (linesOf words lengths k) (lineAt words lengths k) (31 * k) 31 (31 * suc k) (length-lines words lengths k) (length-at words lengths k) (omega arith)
 
-pub length-listing : (words lengths : List ℕ) (longest first : ℕ) → length (listingOf words lengths longest first) ≡ 31 * length words + 13
+pub length-listing : (words lengths : List ℕ) (longest first : ℕ)
+    → length (listingOf words lengths longest first) ≡ 31 * length words + 13
 unfolding listingOf
 length-listing words lengths longest first =
     length-both (linesOf words lengths (length words)) (lastLineOf longest first) (31 * length words) 13 (31 * length words + 13) (length-lines words lengths (length words)) (length-pair longest first) refl
@@ -62,14 +63,17 @@ length-answer text = length-reply text (sheetOf mostWords text) refl
 -- ---- the lines put one after another
 
 module _ (words lengths l o o′ : List ℕ) where
-  pub one-line-more : (p : ℕ) → o ≡ put l 0 (linesOf words lengths p) → 31 * p + 31 ≤ length l → o′ ≡ put o (31 * p) (lineAt words lengths p) → o′ ≡ put l 0 (linesOf words lengths (p + 1))
+  pub one-line-more : (p : ℕ) → o ≡ put l 0 (linesOf words lengths p) → 31 * p + 31 ≤ length l
+      → o′ ≡ put o (31 * p) (lineAt words lengths p) → o′ ≡ put l 0 (linesOf words lengths (p + 1))
   unfolding linesOf
   one-line-more p e h f =
       let z : 31 * p ≡ 0 + 31 * p = omega arith in
       let k : length (lineAt words lengths p) ≡ 31 = length-at words lengths p in
       rw (add-one p) (and-then l o o′ 0 (31 * p) (linesOf words lengths p) (lineAt words lengths p) e (length-lines words lengths p) (rw k (omega arith)) (rw z at f))
 
-  pub last-line : (longest first : ℕ) → o ≡ put l 0 (linesOf words lengths (length words)) → 31 * length words + 13 ≤ length l → o′ ≡ put o (31 * length words) (lastLineOf longest first) → o′ ≡ put l 0 (listingOf words lengths longest first)
+  pub last-line : (longest first : ℕ) → o ≡ put l 0 (linesOf words lengths (length words))
+      → 31 * length words + 13 ≤ length l → o′ ≡ put o (31 * length words) (lastLineOf longest first)
+      → o′ ≡ put l 0 (listingOf words lengths longest first)
   unfolding listingOf
   last-line longest first e h f =
       let z : 31 * length words ≡ 0 + 31 * length words = omega arith in
@@ -83,11 +87,16 @@ module _ (words : List ℕ) where
   unfolding runText
   told run e = rw e
 
-  pub accepted-text : (part page out : List ℕ) (r longest first : ℕ) → part ≡ lengthsOf words → runOf words (length words) (length words) ≡ Accepted longest first → r ≡ 31 * length words + 13 → out ≡ put page 0 (listingOf words part longest first) → (r ≡ length (runText words)) × (out ≡ put page 0 (runText words))
+  pub accepted-text : (part page out : List ℕ) (r longest first : ℕ) → part ≡ lengthsOf words
+      → runOf words (length words) (length words) ≡ Accepted longest first → r ≡ 31 * length words + 13
+      → out ≡ put page 0 (listingOf words part longest first)
+      → (r ≡ length (runText words)) × (out ≡ put page 0 (runText words))
   accepted-text part page out r longest first p e k o =
       rw (told (Accepted longest first) e) (k ∙ sym (length-listing words (lengthsOf words) longest first), o ∙ rw p)
 
-  pub refused-text : (page out : List ℕ) (r number place : ℕ) → runOf words (length words) (length words) ≡ Refused number place → r ≡ 13 → out ≡ put page 0 (refusalLineOf number place) → (r ≡ length (runText words)) × (out ≡ put page 0 (runText words))
+  pub refused-text : (page out : List ℕ) (r number place : ℕ)
+      → runOf words (length words) (length words) ≡ Refused number place → r ≡ 13
+      → out ≡ put page 0 (refusalLineOf number place) → (r ≡ length (runText words)) × (out ≡ put page 0 (runText words))
   refused-text page out r number place e k o =
       rw (told (Refused number place) e) (k ∙ sym (length-pair number place), o)
 
@@ -95,7 +104,9 @@ replied : (text : List ℕ) (s : Sheet) → sheetOf mostWords text ≡ s → ans
 unfolding answerOf
 replied text s e = rw e
 
-pub words-text : (text page out part : List ℕ) (r n : ℕ) → sheetOf mostWords text ≡ Words n → part ≡ wordsOf text n → r ≡ length (runText part) → out ≡ put page 0 (runText part) → (r ≡ length (answerOf text)) × (out ≡ put page 0 (answerOf text))
+pub words-text : (text page out part : List ℕ) (r n : ℕ) → sheetOf mostWords text ≡ Words n → part ≡ wordsOf text n
+    → r ≡ length (runText part) → out ≡ put page 0 (runText part)
+    → (r ≡ length (answerOf text)) × (out ≡ put page 0 (answerOf text))
 words-text text page out part r n e p k o = rw (replied text (Words n) e, ← p) (k, o)
 
 -- a sheet that is not accepted
@@ -109,12 +120,15 @@ rejected-reply text (Words n) h = absurd h
 rejected-reply text (Malformed line) h = refl
 rejected-reply text TooLong h = refl
 
-pub rejected-text : (text page out : List ℕ) (r number place : ℕ) (s : Sheet) → sheetOf mostWords text ≡ s → Rejected s → number ≡ numberOf s → place ≡ placeOf s → r ≡ 13 → out ≡ put page 0 (refusalLineOf number place) → (r ≡ length (answerOf text)) × (out ≡ put page 0 (answerOf text))
+pub rejected-text : (text page out : List ℕ) (r number place : ℕ) (s : Sheet) → sheetOf mostWords text ≡ s → Rejected s
+    → number ≡ numberOf s → place ≡ placeOf s → r ≡ 13 → out ≡ put page 0 (refusalLineOf number place)
+    → (r ≡ length (answerOf text)) × (out ≡ put page 0 (answerOf text))
 rejected-text text page out r number place s e h a b k o =
     rw (replied text s e, rejected-reply text s h, ← a, ← b) (k ∙ sym (length-pair number place), o)
 
 -- the words that were read, in a table that has room for all
-pub read-part : (text table last : List ℕ) (n : ℕ) → sheetOf (roomOf table) text ≡ Words n → last ≡ tableAfter text table → take n last ≡ wordsOf text n
+pub read-part : (text table last : List ℕ) (n : ℕ) → sheetOf (roomOf table) text ≡ Words n → last ≡ tableAfter text table
+    → take n last ≡ wordsOf text n
 read-part text table last n s e =
     rw (e, table-is text table (Words n) s) (take-at (wordsOf text n) (drop n table) n (length-words text n))
 
@@ -133,7 +147,8 @@ written-fits room text = go (ltb room pageLength) refl
     go true e = omega arith
     go false e = omega (arith, length-answer text, ltb-false room pageLength e)
 
-pub counted : (text page out : List ℕ) (r : ℕ) → r ≡ length (writtenOf (length page) text) → out ≡ put page 0 (writtenOf (length page) text) → (r ≤ length out) × (r ≡ length (take r out))
+pub counted : (text page out : List ℕ) (r : ℕ) → r ≡ length (writtenOf (length page) text)
+    → out ≡ put page 0 (writtenOf (length page) text) → (r ≤ length out) × (r ≡ length (take r out))
 counted text page out r k e =
     let f : length (writtenOf (length page) text) ≤ length page = written-fits (length page) text in
     let m : length out ≡ length page = ap length e ∙ length-put page 0 (writtenOf (length page) text) (omega arith) in

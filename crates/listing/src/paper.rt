@@ -5,7 +5,7 @@ ghost use lib.ListN.{length};
 ghost use Rattle.sheet.specs.Rows.{put};
 
 // The longest answer: 4,096 lines of 31 bytes, and the last one of 13.
-pub const PAGE: usize = 126989;
+pub(crate) const PAGE: usize = 126989;
 
 // A page for any answer.
 pub fn page() -> [u8; 126989]
@@ -15,7 +15,7 @@ pub fn page() -> [u8; 126989]
 }
 
 // Puts text from index at on.
-pub fn put_text(page: &mut [u8], at: usize, text: &[u8])
+pub(crate) fn put_text(page: &mut [u8], at: usize, text: &[u8])
     requires { ⌜ at + length (now text) ≤ length (now page) ⌝ }
     ensures { λ _. ⌜ now (page .exit) ≡ put (now (page .entry)) at (now (text .entry)) ⌝ }
 {

@@ -3,7 +3,7 @@ ghost use mathlib.Core.Path.{_≡_};
 ghost use Prim.Native.Nat.{_+_, _*_, _≤_, _<_};
 ghost use lib.ListN.{length};
 ghost use Rattle.sheet.specs.Rows.{put};
-ghost use Rattle.listing.specs.Answer.{firstCell, secondCell, lineAt, linesOf, listingOf};
+ghost use Rattle.listing.specs.Answer.{firstCell, secondCell, lineAt, listingOf};
 use crate::paper::put_text;
 use runs::edges::Successors;
 use sheet::Cell;
@@ -49,7 +49,7 @@ fn line(words: &[u32], lengths: &[u32], p: usize) -> [u8; 31]
 }
 
 // Puts the listing on the page, and answers how long it is.
-pub fn put_listing(
+pub(crate) fn put_listing(
     words: &[u32],
     lengths: &[u32],
     longest: u32,

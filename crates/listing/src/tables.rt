@@ -20,8 +20,8 @@ fn put_refusal(number: u8, place: usize, page: &mut [u8]) -> usize
     13
 }
 
-// Puts what is to be written for words, and answers how long it is. Numbers 1 and 6 can't come: at most 4,096 words are
-// below 32,768, and the parts that are lent have a place for each word.
+// Puts what is to be written for words, and answers how long it is. Of the run's refusals only 7 and 8 can come: 4,096 words
+// are below 32,768 (1), the parts that are lent have a place for each word (6), and no run is longer than the words (9).
 fn put_run(words: &[u32], page: &mut [u8]) -> usize
     requires { ⌜ (length (now words) ≤ 4096) × (126989 ≤ length (now page)) ⌝ }
     ensures { λ r. ⌜ r ≡ length (runText (now (words .entry))) ⌝ }

@@ -16,7 +16,8 @@ use Rattle.sheet.proofs.Widths.{length-leading, length-columns}
 
 -- ---- the number that a line shows
 
-pub value-turn : (text : List ℕ) (at i v : ℕ) → i < 10 → at + 11 ≤ length text → valueFrom (v * 10 + getD text (at + i) 0 % 16) (slice (i + 1) 10 (drop at text)) ≡ valueFrom v (slice i 10 (drop at text))
+pub value-turn : (text : List ℕ) (at i v : ℕ) → i < 10 → at + 11 ≤ length text
+    → valueFrom (v * 10 + getD text (at + i) 0 % 16) (slice (i + 1) 10 (drop at text)) ≡ valueFrom v (slice i 10 (drop at text))
 value-turn text at i v h l =
     let room : 10 ≤ length (drop at text) = simp length-drop (omega arith) in
     rw (slice-cons i 10 (drop at text) 0 h room, getD-drop, add-one)
@@ -67,7 +68,8 @@ pub matches-none : (text : List ℕ) (at v : ℕ) → matches text at 0 v ≡ tr
 unfolding matches
 matches-none text at v = refl
 
-pub turn-ok : (text : List ℕ) (at i v : ℕ) → 0 < i → getD text (at + (i - 1)) 0 ≡ glyphOf v → matches text at (i - 1) (v / 10) ≡ matches text at i v
+pub turn-ok : (text : List ℕ) (at i v : ℕ) → 0 < i → getD text (at + (i - 1)) 0 ≡ glyphOf v
+    → matches text at (i - 1) (v / 10) ≡ matches text at i v
 unfolding matches
 turn-ok text at zero v h e = absurd (omega arith)
 turn-ok text at (suc k) v h e =
@@ -82,7 +84,8 @@ turn-fail text at (suc k) v h e =
     rw (ne-eqb (getD text (at + k) 0) (glyphOf v) (rw j at e))
 
 -- one byte more of a text
-more : (text : List ℕ) (at k : ℕ) → at + suc k ≤ length text → take (suc k) (drop at text) ≡ take k (drop at text) ++ (getD text (at + k) 0 ∷ [])
+more : (text : List ℕ) (at k : ℕ) → at + suc k ≤ length text
+    → take (suc k) (drop at text) ≡ take k (drop at text) ++ (getD text (at + k) 0 ∷ [])
 more text at k h =
     let inside : k < length (drop at text) = simp length-drop (omega arith) in
     rw (take-suc (drop at text) k 0 inside, getD-drop)
@@ -90,7 +93,8 @@ more text at k h =
 part-length : (text : List ℕ) (at k : ℕ) → at + k ≤ length text → length (take k (drop at text)) ≡ k
 part-length text at k h = length-take-le k (drop at text) (simp length-drop (omega arith))
 
-matches-is : (text : List ℕ) (at k v : ℕ) → at + k ≤ length text → matches text at k v ≡ same (take k (drop at text)) (leading k v)
+matches-is : (text : List ℕ) (at k v : ℕ) → at + k ≤ length text
+    → matches text at k v ≡ same (take k (drop at text)) (leading k v)
 unfolding matches leading
 matches-is text at zero v h = refl
 matches-is text at (suc k) v h =
@@ -108,8 +112,10 @@ module _ (text : List ℕ) (at v : ℕ) (h : at + 11 ≤ length text) where
   pub no-newline : (getD text (at + 10) 0 ≡ 10 → ⊥) → false ≡ same (take 11 (drop at text)) (lineOf v)
   no-newline n = sym (shows-is ∙ rw (ne-eqb (getD text (at + 10) 0) 10 n))
 
-  pub no-digit : getD text (at + 10) 0 ≡ 10 → (getD text (at + 9) 0 ≡ digitOf v → ⊥) → false ≡ same (take 11 (drop at text)) (lineOf v)
+  pub no-digit : getD text (at + 10) 0 ≡ 10 → (getD text (at + 9) 0 ≡ digitOf v → ⊥)
+      → false ≡ same (take 11 (drop at text)) (lineOf v)
   no-digit e n = sym (shows-is ∙ rw (eq-eqb (getD text (at + 10) 0) 10 e, ne-eqb (getD text (at + 9) 0) (digitOf v) n))
 
-  pub by-leading : getD text (at + 10) 0 ≡ 10 → getD text (at + 9) 0 ≡ digitOf v → matches text at 9 (v / 10) ≡ same (take 11 (drop at text)) (lineOf v)
+  pub by-leading : getD text (at + 10) 0 ≡ 10 → getD text (at + 9) 0 ≡ digitOf v
+      → matches text at 9 (v / 10) ≡ same (take 11 (drop at text)) (lineOf v)
   by-leading e d = sym (shows-is ∙ rw (eq-eqb (getD text (at + 10) 0) 10 e, eq-eqb (getD text (at + 9) 0) (digitOf v) d))

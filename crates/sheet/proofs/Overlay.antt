@@ -7,7 +7,6 @@ use native.Mathlib.Numerals.{add-one}
 use native.Mathlib.Omega.{arith}
 use lib.ListN.{length, take, drop, getD, set, length-append, length-drop, length-set, take-append-drop}
 use lib.Seq.{take-suc, take-set-le, set-split, take-at, drop-at, drop-drop, length-take-le}
-use Rattle.sheet.specs.declared.writing.Cell.{Cell}
 use Rattle.sheet.specs.declared.writing.Cell.the-variants.{Number, Dash}
 use Rattle.sheet.specs.Columns.{glyphOf, digitOf, leading, columns}
 use Rattle.sheet.specs.Rows.{put, cellOf}
@@ -22,7 +21,8 @@ unfolding put
 put-one l i a h = rw (set-split l i a h, add-one)
 
 -- one text after another
-pub put-put : (l : List ℕ) (i : ℕ) (xs ys : List ℕ) → i + (length xs + length ys) ≤ length l → put (put l i xs) (i + length xs) ys ≡ put l i (xs ++ ys)
+pub put-put : (l : List ℕ) (i : ℕ) (xs ys : List ℕ) → i + (length xs + length ys) ≤ length l
+    → put (put l i xs) (i + length xs) ys ≡ put l i (xs ++ ys)
 unfolding put
 put-put l i xs ys h =
     let e : length (take i l ++ xs) ≡ i + length xs = simp (length-append, length-take-le i l (omega arith)) refl in
@@ -33,7 +33,8 @@ put-put l i xs ys h =
     rest a b e = rw (e, append-assoc (take i l) xs (ys ++ drop b l), append-assoc xs ys (drop b l))
 
 -- after a text of n bytes comes another
-pub and-then : (l o o′ : List ℕ) (at n : ℕ) (xs ys : List ℕ) → o ≡ put l at xs → length xs ≡ n → at + (n + length ys) ≤ length l → o′ ≡ put o (at + n) ys → o′ ≡ put l at (xs ++ ys)
+pub and-then : (l o o′ : List ℕ) (at n : ℕ) (xs ys : List ℕ) → o ≡ put l at xs → length xs ≡ n
+    → at + (n + length ys) ≤ length l → o′ ≡ put o (at + n) ys → o′ ≡ put l at (xs ++ ys)
 and-then l o o′ at n xs ys e k h f = f ∙ rw (e, ← k) (put-put l at xs ys (rw k h))
 
 pub put-none : (l : List ℕ) (i : ℕ) → l ≡ put l i []
@@ -41,7 +42,8 @@ unfolding put
 put-none l i = rw (add-zero i) (sym (take-append-drop i l))
 
 -- one byte more of a text that is put byte by byte
-pub put-byte : (l o : List ℕ) (at i : ℕ) (text : List ℕ) → at + length text ≤ length l → i < length text → o ≡ put l at (take i text) → set o (at + i) (getD text i 0) ≡ put l at (take (i + 1) text)
+pub put-byte : (l o : List ℕ) (at i : ℕ) (text : List ℕ) → at + length text ≤ length l → i < length text
+    → o ≡ put l at (take i text) → set o (at + i) (getD text i 0) ≡ put l at (take (i + 1) text)
 put-byte l o at i text h k e =
     let t : length (take i text) ≡ i = length-take-le i text (omega arith) in
     let s : at + length (take i text) ≤ length l = rw t (omega arith) in
@@ -61,7 +63,8 @@ putLeading l i zero v = l
 putLeading l i (suc k) v = putLeading (set l (i + k) (glyphOf v)) i k (v / 10)
 
 -- a byte, and what is put before it
-before-byte : (l : List ℕ) (i k b : ℕ) (xs : List ℕ) → length xs ≡ k → i + k < length l → put (set l (i + k) b) i xs ≡ put l i (xs ++ (b ∷ []))
+before-byte : (l : List ℕ) (i k b : ℕ) (xs : List ℕ) → length xs ≡ k → i + k < length l
+    → put (set l (i + k) b) i xs ≡ put l i (xs ++ (b ∷ []))
 unfolding put
 before-byte l i k b xs e h =
     rw (take-set-le i l (i + k) b (omega arith), e, length-snoc xs b k e, set-split l (i + k) b h, drop-at (take (i + k) l) (b ∷ drop (suc (i + k)) l) (i + k) (length-take-le (i + k) l (omega arith)), append-assoc xs (b ∷ []) (drop (i + (k + 1)) l))
@@ -75,7 +78,8 @@ put-leading l i (suc k) v h =
     put-leading (set l (i + k) (glyphOf v)) i k (v / 10) (omega arith)
     ∙ before-byte l i k (glyphOf v) (leading k (v / 10)) (length-leading k (v / 10)) (omega arith)
 
-pub put-turn : (l : List ℕ) (i k v : ℕ) → 0 < k → putLeading (set l (i + (k - 1)) (glyphOf v)) i (k - 1) (v / 10) ≡ putLeading l i k v
+pub put-turn : (l : List ℕ) (i k v : ℕ) → 0 < k
+    → putLeading (set l (i + (k - 1)) (glyphOf v)) i (k - 1) (v / 10) ≡ putLeading l i k v
 unfolding putLeading
 put-turn l i zero v h = absurd (omega arith)
 put-turn l i (suc k) v h =
@@ -87,7 +91,8 @@ unfolding putLeading
 put-done l i v = refl
 
 -- the last byte first, then the digits before it
-pub put-ending : (l : List ℕ) (i k v b : ℕ) → 0 < k → i + k ≤ length l → putLeading (set l (i + (k - 1)) b) i (k - 1) v ≡ put l i (leading (k - 1) v ++ (b ∷ []))
+pub put-ending : (l : List ℕ) (i k v b : ℕ) → 0 < k → i + k ≤ length l
+    → putLeading (set l (i + (k - 1)) b) i (k - 1) v ≡ put l i (leading (k - 1) v ++ (b ∷ []))
 put-ending l i zero v b p h = absurd (omega arith)
 put-ending l i (suc k) v b p h =
     let s : length (set l (i + k) b) ≡ length l = length-set l (i + k) b in
@@ -109,7 +114,8 @@ number-cell v = refl
 
 -- ---- lines filled column by column, over a line that ends with a newline
 
-pub two-filled : (l o o′ a b : List ℕ) → length l ≡ 13 → drop 12 l ≡ 10 ∷ [] → length a ≡ 6 → length b ≡ 6 → o ≡ put l 0 a → o′ ≡ put o 6 b → o′ ≡ a ++ b ++ (10 ∷ [])
+pub two-filled : (l o o′ a b : List ℕ) → length l ≡ 13 → drop 12 l ≡ 10 ∷ [] → length a ≡ 6 → length b ≡ 6 → o ≡ put l 0 a
+    → o′ ≡ put o 6 b → o′ ≡ a ++ b ++ (10 ∷ [])
 two-filled l o o′ a b k n la lb e f =
     let s : length (a ++ b) ≡ 12 = length-both a b 6 6 12 la lb refl in
     and-then l o o′ 0 6 a b e la (rw lb (omega arith)) f ∙ put-start l (a ++ b) ∙ rw (s, n)

@@ -1,17 +1,15 @@
 -- Whole sheets: `specs/Claims.antt` holds.
 -- Assumes nothing.
 use mathlib.Core.Path.{_≡_, refl, sym, ap, subst, _∙_}
-use mathlib.Core.Logic.{_⊎_, inl, inr, ⊎-elim}
 use mathlib.Core.Bool.{Bool, true, false}
 use mathlib.Core.List.{List, [], _∷_, _++_, append-assoc, append-nil}
 use Prim.Native.Nat.{ℕ, zero, suc, _+_, _*_, _-_, _≤_, _<_}
 use native.Mathlib.Nat.{zero-add, suc-add}
-use native.Mathlib.Numerals.{add-one}
 use native.Mathlib.Omega.{arith}
 use lib.Dec.{eqb}
-use lib.ListN.{length, take, drop, length-append, length-take, take-append-drop}
+use lib.ListN.{length, take, drop, length-append, take-append-drop}
 use lib.Seq.{take-at, drop-at, take-take, take-nil, drop-drop}
-use borrow.Author.Tests.{eq-eqb, ne-eqb, eqb-true, eqb-false}
+use borrow.Author.Tests.{ne-eqb}
 use Rattle.sheet.specs.declared.reading.Sheet.{Sheet}
 use Rattle.sheet.specs.declared.reading.Sheet.the-variants.{Words, Malformed, TooLong}
 use Rattle.sheet.specs.Line.{mostWord, lineOf, valueOf, isLine}
@@ -19,10 +17,11 @@ use Rattle.sheet.specs.Format.{readFrom, sheetOf, wordAt, wordsOf}
 use Rattle.sheet.specs.Claims.{textOf, AllWords, Accepted, Broken, Overfull, Says, Claims}
 use Rattle.sheet.proofs.Widths.{length-line}
 use Rattle.sheet.proofs.Round.{apart, line-shows, line-good, good-line, good-value}
-use Rattle.sheet.proofs.Scanned.{read-none, read-full, read-bad, read-more, length-words}
+use Rattle.sheet.proofs.Scanned.{read-none, read-full, read-bad, read-more}
 
 -- lines of words are read, and then what comes after them
-read-past : (room k : ℕ) (ws rest : List ℕ) → AllWords ws → length ws ≤ room → readFrom room k (textOf ws ++ rest) ≡ readFrom (room - length ws) (k + length ws) rest
+read-past : (room k : ℕ) (ws rest : List ℕ) → AllWords ws → length ws ≤ room
+    → readFrom room k (textOf ws ++ rest) ≡ readFrom (room - length ws) (k + length ws) rest
 unfolding textOf AllWords
 read-past room k [] rest a h =
     let e : room - 0 ≡ room = omega arith in
@@ -38,7 +37,8 @@ read-past room k (w ∷ ws) rest a h =
     read-more text some room k (omega arith) (rw t (line-good w (a .0)))
     ∙ rw d (read-past (room - 1) (k + 1) ws rest (a .1) (omega arith) ∙ rw (e, f))
 
-sheet-past : (room : ℕ) (ws rest : List ℕ) → AllWords ws → length ws ≤ room → sheetOf room (textOf ws ++ rest) ≡ readFrom (room - length ws) (length ws) rest
+sheet-past : (room : ℕ) (ws rest : List ℕ) → AllWords ws → length ws ≤ room
+    → sheetOf room (textOf ws ++ rest) ≡ readFrom (room - length ws) (length ws) rest
 unfolding sheetOf
 sheet-past room ws rest a h = read-past room 0 ws rest a h ∙ rw (zero-add (length ws))
 
@@ -96,9 +96,43 @@ unfolding textOf AllWords
 after room text w h t = go (t .answer) (t .told)
   where
     go : (s : Sheet) → Says room text s → Told (suc room) (lineOf w ++ text)
-    go (Words n) s = record { answer = Words (suc n); told = record { words = w ∷ s .words; are-words = (h, s .are-words); count = ap suc (s .count); fits = omega (arith, s .fits); whole = ap (λ (l : List ℕ). lineOf w ++ l) (s .whole) } }
-    go (Malformed line) s = record { answer = Malformed (suc line); told = record { words = w ∷ s .words; are-words = (h, s .are-words); count = omega (arith, s .count); fits = omega (arith, s .fits); rest = s .rest; whole = ap (λ (l : List ℕ). lineOf w ++ l) (s .whole) ∙ sym (append-assoc (lineOf w) (textOf (s .words)) (s .rest)); some = s .some; no-line = s .no-line } }
-    go TooLong s = record { answer = TooLong; told = record { words = w ∷ s .words; are-words = (h, s .are-words); count = ap suc (s .count); rest = s .rest; whole = ap (λ (l : List ℕ). lineOf w ++ l) (s .whole) ∙ sym (append-assoc (lineOf w) (textOf (s .words)) (s .rest)); some = s .some } }
+    go (Words n) s =
+        record {
+          answer = Words (suc n);
+          told = record {
+            words = w ∷ s .words;
+            are-words = (h, s .are-words);
+            count = ap suc (s .count);
+            fits = omega (arith, s .fits);
+            whole = ap (λ (l : List ℕ). lineOf w ++ l) (s .whole);
+          };
+        }
+    go (Malformed line) s =
+        record {
+          answer = Malformed (suc line);
+          told = record {
+            words = w ∷ s .words;
+            are-words = (h, s .are-words);
+            count = omega (arith, s .count);
+            fits = omega (arith, s .fits);
+            rest = s .rest;
+            whole = ap (λ (l : List ℕ). lineOf w ++ l) (s .whole) ∙ sym (append-assoc (lineOf w) (textOf (s .words)) (s .rest));
+            some = s .some;
+            no-line = s .no-line;
+          };
+        }
+    go TooLong s =
+        record {
+          answer = TooLong;
+          told = record {
+            words = w ∷ s .words;
+            are-words = (h, s .are-words);
+            count = ap suc (s .count);
+            rest = s .rest;
+            whole = ap (λ (l : List ℕ). lineOf w ++ l) (s .whole) ∙ sym (append-assoc (lineOf w) (textOf (s .words)) (s .rest));
+            some = s .some;
+          };
+        }
 
 in-front : (room : ℕ) (text : List ℕ) → isLine (take 11 text) ≡ true → Told room (drop 11 text) → Told (suc room) text
 in-front room text e t =
@@ -112,13 +146,37 @@ empty-told room = record { answer = Words 0; told = record { words = []; are-wor
 told : (room : ℕ) (text : List ℕ) → Told room text
 unfolding textOf AllWords
 told zero [] = empty-told zero
-told zero (b ∷ text) = record { answer = TooLong; told = record { words = []; are-words = tt; count = refl; rest = b ∷ text; whole = refl; some = omega arith } }
+told zero (b ∷ text) =
+    record {
+      answer = TooLong;
+      told = record {
+        words = [];
+        are-words = tt;
+        count = refl;
+        rest = b ∷ text;
+        whole = refl;
+        some = omega arith;
+      };
+    }
 told (suc room) [] = empty-told (suc room)
 told (suc room) (b ∷ text) = go (isLine (take 11 (b ∷ text))) refl (told room (drop 11 (b ∷ text)))
   where
     go : (t : Bool) → isLine (take 11 (b ∷ text)) ≡ t → Told room (drop 11 (b ∷ text)) → Told (suc room) (b ∷ text)
     go true e r = in-front room (b ∷ text) e r
-    go false e r = record { answer = Malformed 1; told = record { words = []; are-words = tt; count = refl; fits = omega arith; rest = b ∷ text; whole = refl; some = omega arith; no-line = λ w more h q. apart (sym (starts-line w more h) ∙ ap (λ (s : List ℕ). isLine (take 11 s)) (sym q) ∙ e) } }
+    go false e r =
+        record {
+          answer = Malformed 1;
+          told = record {
+            words = [];
+            are-words = tt;
+            count = refl;
+            fits = omega arith;
+            rest = b ∷ text;
+            whole = refl;
+            some = omega arith;
+            no-line = λ w more h q. apart (sym (starts-line w more h) ∙ ap (λ (s : List ℕ). isLine (take 11 s)) (sym q) ∙ e);
+          };
+        }
 
 says : (room : ℕ) (text : List ℕ) → Says room text (sheetOf room text)
 says room text = let t : Told room text = told room text in rw (only room text (t .answer) (t .told)) (t .told)

@@ -62,7 +62,8 @@ pub record Claims : Type 0 where
   -- what is accepted is that text: the bytes are exactly the lines of the words that are stored
   pub accepted : (room : ℕ) (text : List ℕ) (n : ℕ) → sheetOf room text ≡ Words n → text ≡ textOf (wordsOf text n)
   -- every sheet for whose words there is room is accepted, with those words
-  pub every : (room : ℕ) (words : List ℕ) → AllWords words → length words ≤ room → sheetOf room (textOf words) ≡ Words (length words)
+  pub every : (room : ℕ) (words : List ℕ) → AllWords words → length words ≤ room
+      → sheetOf room (textOf words) ≡ Words (length words)
   pub back : (words : List ℕ) → AllWords words → wordsOf (textOf words) (length words) ≡ words
   -- a text need not be read past the first byte for which there is no room
   pub enough : (room more : ℕ) (text : List ℕ) → sheetOf room (take (11 * room + (more + 1)) text) ≡ sheetOf room text

@@ -8,12 +8,13 @@ use crate::digits::digit;
 use crate::digits::glyph;
 
 // Ten columns and a newline.
-const LINE: usize = 11;
+pub(crate) const LINE: usize = 11;
 
+// A word is 32 bits.
 const MOST: u64 = 4294967295;
 
 // The number that the ten columns from index at show.
-pub fn value(text: &[u8], at: usize) -> u64
+pub(crate) fn value(text: &[u8], at: usize) -> u64
     requires { ⌜ at + 11 ≤ length (now text) ⌝ }
     ensures { λ r. ⌜ r ≡ valueOf (take 11 (drop at (now (text .entry)))) ⌝ }
 {
@@ -50,7 +51,7 @@ fn shows(text: &[u8], at: usize, v: u64) -> bool
 }
 
 // Whether a line of the sheet starts at index at.
-pub fn is_line(text: &[u8], at: usize) -> bool
+pub(crate) fn is_line(text: &[u8], at: usize) -> bool
     requires { ⌜ at ≤ length (now text) ⌝ }
     ensures { λ r. ⌜ r ≡ isLine (take 11 (drop at (now (text .entry)))) ⌝ }
 {

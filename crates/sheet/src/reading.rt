@@ -3,7 +3,8 @@ ghost use mathlib.Core.Path.{_≡_};
 ghost use mathlib.Core.List.{_++_};
 ghost use Prim.Native.Nat.{ℕ, _*_, _≤_, _<_, min};
 ghost use lib.ListN.{length, drop};
-ghost use Rattle.sheet.specs.Format.{mostWords, sheetOf, wordAt, wordsOf, tableAfter, numberOf, placeOf};
+ghost use Rattle.sheet.specs.Format.{mostWords, roomOf, sheetOf, wordAt, wordsOf, tableAfter, numberOf, placeOf};
+use crate::lines::LINE;
 use crate::lines::is_line;
 use crate::lines::value;
 
@@ -62,7 +63,7 @@ fn scan(text: &[u8], room: usize) -> Sheet
         if !is_line(text, at) {
             return Sheet::Malformed(k + 1);
         }
-        at += 11;
+        at += LINE;
         k += 1;
     }
     Sheet::Words(k)
@@ -75,7 +76,7 @@ fn fill(text: &[u8], words: &mut [u32], n: usize)
 {
     let mut k = 0;
     while k < n {
-        words[k] = value(text, 11 * k) as u32;
+        words[k] = value(text, LINE * k) as u32;
         k += 1;
     }
 }
@@ -83,7 +84,7 @@ fn fill(text: &[u8], words: &mut [u32], n: usize)
 // Reads a sheet into the word table. It is scanned whole before a word is stored, so that a refusal leaves the table as
 // it was. A table of fewer than 4,096 places makes number 13 come earlier: no word is dropped in silence.
 pub fn read(text: &[u8], words: &mut [u32]) -> Sheet
-    ensures { λ r. ⌜ r ≡ sheetOf (min mostWords (length (now (words .entry)))) (now (text .entry)) ⌝ }
+    ensures { λ r. ⌜ r ≡ sheetOf (roomOf (now (words .entry))) (now (text .entry)) ⌝ }
     ensures { λ _. ⌜ now (words .exit) ≡ tableAfter (now (text .entry)) (now (words .entry)) ⌝ }
 {
     let s = scan(text, room(words.len()));

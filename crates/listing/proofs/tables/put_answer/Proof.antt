@@ -1,5 +1,5 @@
 -- The word table holds 4,096 zeros, and no tactic may look into such a list: facts on it come from laws over any list.
-use mathlib.Core.Path.{_≡_, refl, sym, ap, _∙_}
+use mathlib.Core.Path.{_≡_, sym, ap, _∙_}
 use mathlib.Core.List.{List}
 use Prim.Native.Nat.{ℕ, _≤_}
 use native.Mathlib.Omega.{arith}

@@ -1,7 +1,7 @@
 -- The tables hold 4,096 zeros each, and no tactic may look into such a list: facts on them come from laws over any list.
-use mathlib.Core.Path.{_≡_, refl, sym, ap, _∙_}
+use mathlib.Core.Path.{_≡_, sym, ap, _∙_}
 use mathlib.Core.List.{List, _++_}
-use Prim.Native.Nat.{ℕ, _≤_}
+use Prim.Native.Nat.{ℕ}
 use native.Mathlib.Omega.{arith}
 use lib.ListN.{replicate, length, take, drop, length-append}
 use lib.Seq.{take-at, length-take-le}

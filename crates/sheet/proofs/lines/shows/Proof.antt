@@ -1,10 +1,8 @@
 -- The loop's invariant: what is left to compare decides as all of the leading columns would.
 use mathlib.Core.Path.{_≡_, refl, sym, _∙_}
-use Prim.Native.Nat.{ℕ, _+_, _-_, _≤_}
+use Prim.Native.Nat.{_≤_}
 use native.Mathlib.Omega.{arith}
-use lib.ListN.{getD}
 use borrow.Author.Needs.{needs}
-use Rattle.sheet.specs.Columns.{digitOf, glyphOf}
 use Rattle.sheet.proofs.Compare.{matches, no-newline, no-digit, by-leading, turn-ok, turn-fail, matches-none}
 use Rattle.sheet.proofs.lines.shows.Statement.{statement}
 use Rattle.sheet.proofs.lines.shows.Tie as tie

@@ -3,7 +3,7 @@ use mathlib.Core.Path.{_≡_, sym, _∙_}
 use Prim.Native.Nat.{ℕ, _+_, _*_, _-_, _%_, _^_, _≤_, _<_}
 use native.Mathlib.Nat.{mod-lt}
 use native.Mathlib.Omega.{arith}
-use lib.ListN.{length, take, drop, getD}
+use lib.ListN.{take, drop, getD}
 use lib.Seq.{slice}
 use Rattle.sheet.specs.Line.{valueFrom, valueOf}
 use Rattle.sheet.proofs.Compare.{value-turn, value-start, value-end, bound-more, bound-fits}

@@ -1,10 +1,9 @@
-use mathlib.Core.Path.{_≡_, refl, sym, ap, _∙_}
-use Prim.Native.Nat.{ℕ, min}
+use mathlib.Core.Path.{_≡_, sym, _∙_}
+use Prim.Native.Nat.{ℕ}
 use native.Mathlib.Omega.{arith}
-use lib.ListN.{length}
 use borrow.Author.Needs.{needs}
 use Rattle.sheet.specs.declared.reading.Sheet.the-variants.{Words, TooLong}
-use Rattle.sheet.specs.Format.{mostWords, sheetOf, roomOf}
+use Rattle.sheet.specs.Format.{sheetOf, roomOf}
 use Rattle.sheet.proofs.Scanned.{table-is}
 use Rattle.sheet.proofs.Whole.{Filling, filling}
 use Rattle.sheet.proofs.reading.read.Statement.{statement}

@@ -1,8 +1,4 @@
-use mathlib.Core.Path.{ap, _∙_}
-use mathlib.Core.List.{List}
-use Prim.Native.Nat.{ℕ}
 use borrow.Author.Needs.{needs}
-use Rattle.sheet.specs.Rows.{put}
 use Rattle.sheet.proofs.Overlay.{columns-ending}
 use Rattle.sheet.proofs.writing.put_number.Statement.{statement}
 use Rattle.sheet.proofs.writing.put_number.Tie as tie
