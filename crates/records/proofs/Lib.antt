@@ -1,0 +1,6 @@
+pub mod Cases
+pub mod Columns
+pub mod Elements
+pub mod Lowest
+pub mod Plan
+pub mod Wrap
