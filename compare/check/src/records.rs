@@ -162,6 +162,9 @@ pub fn all(sides: &[Side], seed: u64, wanted: u64) -> Counts {
     boundaries(sides, &mut rng, &mut counts);
     neighbours(sides, &mut rng, &mut counts);
     limits(sides, &mut rng, &mut counts);
+    for (_, input) in model::real::functions() {
+        hold(sides, &input, &mut counts);
+    }
     let until = counts.records + wanted;
     while counts.records < until {
         let most = if rng.once_in(50) { 3_000 } else { 40 };

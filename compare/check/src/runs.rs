@@ -179,6 +179,12 @@ pub fn all(sides: &[Side], seed: u64, wanted: u64) -> Counts {
     neighbours(sides, &mut counts);
     boundaries(sides, &mut counts);
     limits(sides, &mut rng, &mut counts);
+    for (name, input) in model::real::functions() {
+        hold(sides, &input.words, (0, 0), &mut counts);
+        let n = input.words.len();
+        let answer = run(&input.words, &mut vec![0; n], &mut vec![0; n]);
+        assert_eq!(answer.number, 0, "{name}, which luac made, is accepted");
+    }
     let until = counts.functions + wanted;
     while counts.functions < until {
         let most = match rng.below(400) {

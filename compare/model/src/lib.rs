@@ -6,6 +6,7 @@ pub mod book;
 pub mod flat;
 pub mod input;
 pub mod meter;
+pub mod real;
 pub mod run;
 pub mod steps;
 pub mod word;

@@ -52,6 +52,10 @@ pub mod twin {
             },
             begin: |m| unsafe { twin_begin(m) },
             feed: |w, m, q| unsafe { twin_feed(w.as_ptr(), w.len(), m, q) },
+            feed_all: |w, m, list| unsafe {
+                twin_begin(m);
+                list.iter().map(|&q| u64::from(twin_feed(w.as_ptr(), w.len(), m, q as usize) != 0)).sum()
+            },
             lift: |i: &Input, records| unsafe {
                 assert!(i.records <= records.len());
                 twin_lift(
@@ -114,6 +118,10 @@ pub mod rattle {
             },
             begin: |m| unsafe { meter_begin(m) },
             feed: |w, m, q| unsafe { meter_feed(w.as_ptr(), w.len(), m, q) },
+            feed_all: |w, m, list| unsafe {
+                meter_begin(m);
+                list.iter().map(|&q| u64::from(meter_feed(w.as_ptr(), w.len(), m, q as usize) != 0)).sum()
+            },
             lift,
         }
     }

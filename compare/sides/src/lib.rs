@@ -22,6 +22,8 @@ pub struct Side {
     pub run: fn(&[u32], &mut [u8], &mut [u32]) -> RunAnswer,
     pub begin: fn(&mut Meter),
     pub feed: fn(&[u32], &mut Meter, usize) -> u32,
+    /// A begin and a feed of each word of the list; how many were refused.
+    pub feed_all: fn(&[u32], &mut Meter, &[u32]) -> u64,
     /// The answer, and on 0 a record for each word; `input.records` says how many are lent.
     pub lift: fn(&Input, &mut [Record]) -> Answer,
 }
@@ -47,6 +49,10 @@ pub fn model_side() -> Side {
         run: model::run::run,
         begin: model::meter::begin,
         feed: model::meter::feed,
+        feed_all: |words, m, list| {
+            model::meter::begin(m);
+            list.iter().map(|&q| u64::from(model::meter::feed(words, m, q as usize) != 0)).sum()
+        },
         lift: |input, _| model::input::check(input),
     }
 }
