@@ -14,7 +14,13 @@ fn main() {
     let mut objects = vec![];
     for name in ["twin", "lift"] {
         let object = out.join(format!("{name}.o"));
-        must(Command::new("gcc").args(["-O3", "-Wall", "-Wextra", "-Werror", "-c"]).arg(c.join(format!("{name}.c"))).arg("-o").arg(&object));
+        must(
+            Command::new("gcc")
+                .args(["-O3", "-Wall", "-Wextra", "-Werror", "-c"])
+                .arg(c.join(format!("{name}.c")))
+                .arg("-o")
+                .arg(&object),
+        );
         objects.push(object);
     }
     let archive = out.join("libtwin.a");

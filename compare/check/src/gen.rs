@@ -170,7 +170,7 @@ pub fn damage(rng: &mut Rng, words: &mut Vec<u32>) {
         _ => {
             let copy = words[rng.below(i + 1)];
             words.insert(i, copy);
-        },
+        }
     }
 }
 
@@ -253,7 +253,8 @@ pub fn spoil(rng: &mut Rng, input: &mut Input) {
         4 if !input.payloads.is_empty() => {
             let i = some(rng, input.payloads.len());
             let over = input.bytes.len() as u32 + 1;
-            input.payloads[i] = rng.pick(&[place(over, 0), place(0, over), place(u32::MAX, u32::MAX), place(over - 1, 1), place(over - 1, 0)]);
+            input.payloads[i] =
+                rng.pick(&[place(over, 0), place(0, over), place(u32::MAX, u32::MAX), place(over - 1, 1), place(over - 1, 0)]);
         }
         5 if !input.names.is_empty() => {
             let i = some(rng, input.names.len());

@@ -37,7 +37,12 @@ fn main() {
     let start = Instant::now();
     println!("fields: {} words, model against luad", fields());
     let c = records::all(&sides, seed, wanted);
-    println!("records: {} of {} inputs, each side against luad; answers by number: {}", c.records, c.inputs, by_number(&c.answers));
+    println!(
+        "records: {} of {} inputs, each side against luad; answers by number: {}",
+        c.records,
+        c.inputs,
+        by_number(&c.answers)
+    );
     println!("  {:.1} s", start.elapsed().as_secs_f64());
 
     let start = Instant::now();
@@ -52,7 +57,10 @@ fn main() {
     let c = meters::all(&sides, seed, lists);
     println!(
         "meters: {} lists of {} feeds against the feeding book; {} single calls on any meter, answers by number: {}",
-        c.lists, c.feeds, c.singles, by_number(&c.answers)
+        c.lists,
+        c.feeds,
+        c.singles,
+        by_number(&c.answers)
     );
     println!("  {:.1} s", start.elapsed().as_secs_f64());
 

@@ -48,8 +48,21 @@ impl Record {
 /// Names for a mismatch report, by index.
 pub fn name(i: usize) -> String {
     const HEAD: [&str; 15] = [
-        "pc", "raw_word", "opcode", "confidence", "has_target", "target", "has_companion", "companion", "has_fallback",
-        "fallback", "effect.kind", "effect.0", "effect.1", "effect.2", "operand_count",
+        "pc",
+        "raw_word",
+        "opcode",
+        "confidence",
+        "has_target",
+        "target",
+        "has_companion",
+        "companion",
+        "has_fallback",
+        "fallback",
+        "effect.kind",
+        "effect.0",
+        "effect.1",
+        "effect.2",
+        "operand_count",
     ];
     let slot = |of: &str, i: usize| match i % 4 {
         0 => format!("{of}[{}].kind", i / 4),

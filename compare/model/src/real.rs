@@ -49,7 +49,9 @@ pub fn of_length(n: usize) -> Vec<u32> {
     let all = functions();
     let mains: Vec<&[u32]> = all.iter().filter(|f| f.0.ends_with(".lua:0")).map(|f| &f.1.words[1..f.1.words.len() - 1]).collect();
     let mut body: Vec<u32> = vec![];
-    while let Some(next) = mains.iter().cycle().skip(body.len() % mains.len()).take(mains.len()).find(|m| body.len() + m.len() < n) {
+    while let Some(next) =
+        mains.iter().cycle().skip(body.len() % mains.len()).take(mains.len()).find(|m| body.len() + m.len() < n)
+    {
         body.extend_from_slice(next);
     }
     if body.is_empty() {

@@ -127,9 +127,32 @@ pub fn decode(word: u32) -> (Fields, u32) {
 /// ltm.h's order, as disasm.rs has it; 25 for `__metamethod`.
 fn event(name: &str) -> u64 {
     const EVENTS: [&str; 26] = [
-        "__index", "__newindex", "__gc", "__mode", "__len", "__eq", "__add", "__sub", "__mul", "__mod", "__pow", "__div",
-        "__idiv", "__band", "__bor", "__bxor", "__shl", "__shr", "__unm", "__bnot", "__lt", "__le", "__concat", "__call",
-        "__close", "__metamethod",
+        "__index",
+        "__newindex",
+        "__gc",
+        "__mode",
+        "__len",
+        "__eq",
+        "__add",
+        "__sub",
+        "__mul",
+        "__mod",
+        "__pow",
+        "__div",
+        "__idiv",
+        "__band",
+        "__bor",
+        "__bxor",
+        "__shl",
+        "__shr",
+        "__unm",
+        "__bnot",
+        "__lt",
+        "__le",
+        "__concat",
+        "__call",
+        "__close",
+        "__metamethod",
     ];
     EVENTS.iter().position(|e| *e == name).unwrap_or_else(|| panic!("luad names the event {name}")) as u64
 }

@@ -33,12 +33,29 @@ pub mod twin {
     extern "C" {
         fn twin_successors(words: *const u32, n: usize, p: usize) -> FlatSuccessors;
         fn twin_serves(words: *const u32, n: usize, p: usize, q: usize) -> bool;
-        fn twin_longest_run(words: *const u32, n: usize, marks: *mut u8, marks_n: usize, lengths: *mut u32, lengths_n: usize) -> RunAnswer;
+        fn twin_longest_run(
+            words: *const u32,
+            n: usize,
+            marks: *mut u8,
+            marks_n: usize,
+            lengths: *mut u32,
+            lengths_n: usize,
+        ) -> RunAnswer;
         fn twin_begin(m: *mut Meter);
         fn twin_feed(words: *const u32, n: usize, m: *mut Meter, q: usize) -> u32;
         fn twin_lift(
-            words: *const u32, n: usize, tags: *const u8, tags_n: usize, payloads: *const u64, payloads_n: usize,
-            bytes: *const u8, bytes_n: usize, names: *const u64, names_n: usize, records: *mut Record, records_n: usize,
+            words: *const u32,
+            n: usize,
+            tags: *const u8,
+            tags_n: usize,
+            payloads: *const u64,
+            payloads_n: usize,
+            bytes: *const u8,
+            bytes_n: usize,
+            names: *const u64,
+            names_n: usize,
+            records: *mut Record,
+            records_n: usize,
         ) -> Answer;
     }
 
@@ -47,9 +64,7 @@ pub mod twin {
             name: "C twin",
             successors: |w, p| unsafe { twin_successors(w.as_ptr(), w.len(), p) }.into(),
             serves: |w, p, q| unsafe { twin_serves(w.as_ptr(), w.len(), p, q) },
-            run: |w, m, l| unsafe {
-                twin_longest_run(w.as_ptr(), w.len(), m.as_mut_ptr(), m.len(), l.as_mut_ptr(), l.len())
-            },
+            run: |w, m, l| unsafe { twin_longest_run(w.as_ptr(), w.len(), m.as_mut_ptr(), m.len(), l.as_mut_ptr(), l.len()) },
             begin: |m| unsafe { twin_begin(m) },
             feed: |w, m, q| unsafe { twin_feed(w.as_ptr(), w.len(), m, q) },
             feed_all: |w, m, list| unsafe {
@@ -59,8 +74,18 @@ pub mod twin {
             lift: |i: &Input, records| unsafe {
                 assert!(i.records <= records.len());
                 twin_lift(
-                    i.words.as_ptr(), i.words.len(), i.tags.as_ptr(), i.tags.len(), i.payloads.as_ptr(), i.payloads.len(),
-                    i.bytes.as_ptr(), i.bytes.len(), i.names.as_ptr(), i.names.len(), records.as_mut_ptr(), i.records,
+                    i.words.as_ptr(),
+                    i.words.len(),
+                    i.tags.as_ptr(),
+                    i.tags.len(),
+                    i.payloads.as_ptr(),
+                    i.payloads.len(),
+                    i.bytes.as_ptr(),
+                    i.bytes.len(),
+                    i.names.as_ptr(),
+                    i.names.len(),
+                    records.as_mut_ptr(),
+                    i.records,
                 )
             },
         }
@@ -74,16 +99,39 @@ pub mod rattle {
     extern "C" {
         fn runs_successors(words: *const u32, n: usize, p: usize) -> FlatSuccessors;
         fn runs_serves(words: *const u32, n: usize, p: usize, q: usize) -> bool;
-        fn runs_longest_run(words: *const u32, n: usize, marks: *mut u8, marks_n: usize, lengths: *mut u32, lengths_n: usize) -> RunAnswer;
+        fn runs_longest_run(
+            words: *const u32,
+            n: usize,
+            marks: *mut u8,
+            marks_n: usize,
+            lengths: *mut u32,
+            lengths_n: usize,
+        ) -> RunAnswer;
         fn meter_begin(m: *mut Meter);
         fn meter_feed(words: *const u32, n: usize, m: *mut Meter, q: usize) -> u32;
         fn records_answer(
-            words: *const u32, n: usize, tags: *const u8, tags_n: usize, payloads: *const u64, payloads_n: usize,
-            bytes: *const u8, bytes_n: usize, names: *const u64, names_n: usize, records: usize,
+            words: *const u32,
+            n: usize,
+            tags: *const u8,
+            tags_n: usize,
+            payloads: *const u64,
+            payloads_n: usize,
+            bytes: *const u8,
+            bytes_n: usize,
+            names: *const u64,
+            names_n: usize,
+            records: usize,
         ) -> Answer;
         fn records_flat(
-            words: *const u32, n: usize, tags: *const u8, tags_n: usize, payloads: *const u64, payloads_n: usize,
-            names: *const u64, names_n: usize, pc: usize,
+            words: *const u32,
+            n: usize,
+            tags: *const u8,
+            tags_n: usize,
+            payloads: *const u64,
+            payloads_n: usize,
+            names: *const u64,
+            names_n: usize,
+            pc: usize,
         ) -> Record;
     }
 
@@ -91,16 +139,32 @@ pub mod rattle {
         assert!(i.records <= records.len());
         let answer = unsafe {
             records_answer(
-                i.words.as_ptr(), i.words.len(), i.tags.as_ptr(), i.tags.len(), i.payloads.as_ptr(), i.payloads.len(),
-                i.bytes.as_ptr(), i.bytes.len(), i.names.as_ptr(), i.names.len(), i.records,
+                i.words.as_ptr(),
+                i.words.len(),
+                i.tags.as_ptr(),
+                i.tags.len(),
+                i.payloads.as_ptr(),
+                i.payloads.len(),
+                i.bytes.as_ptr(),
+                i.bytes.len(),
+                i.names.as_ptr(),
+                i.names.len(),
+                i.records,
             )
         };
         if answer.number == 0 {
             for (pc, record) in records[..i.words.len()].iter_mut().enumerate() {
                 *record = unsafe {
                     records_flat(
-                        i.words.as_ptr(), i.words.len(), i.tags.as_ptr(), i.tags.len(), i.payloads.as_ptr(),
-                        i.payloads.len(), i.names.as_ptr(), i.names.len(), pc,
+                        i.words.as_ptr(),
+                        i.words.len(),
+                        i.tags.as_ptr(),
+                        i.tags.len(),
+                        i.payloads.as_ptr(),
+                        i.payloads.len(),
+                        i.names.as_ptr(),
+                        i.names.len(),
+                        pc,
                     )
                 };
             }
@@ -113,9 +177,7 @@ pub mod rattle {
             name: "Rattle",
             successors: |w, p| unsafe { runs_successors(w.as_ptr(), w.len(), p) }.into(),
             serves: |w, p, q| unsafe { runs_serves(w.as_ptr(), w.len(), p, q) },
-            run: |w, m, l| unsafe {
-                runs_longest_run(w.as_ptr(), w.len(), m.as_mut_ptr(), m.len(), l.as_mut_ptr(), l.len())
-            },
+            run: |w, m, l| unsafe { runs_longest_run(w.as_ptr(), w.len(), m.as_mut_ptr(), m.len(), l.as_mut_ptr(), l.len()) },
             begin: |m| unsafe { meter_begin(m) },
             feed: |w, m, q| unsafe { meter_feed(w.as_ptr(), w.len(), m, q) },
             feed_all: |w, m, list| unsafe {
