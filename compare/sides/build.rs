@@ -30,16 +30,18 @@ fn main() {
     println!("cargo:rustc-link-search=native={}", out.display());
     println!("cargo:rustc-link-lib=static=twin");
 
-    println!("cargo:rustc-check-cfg=cfg(rattle)");
+    println!("cargo:rustc-check-cfg=cfg(rattle, rattle_records)");
     println!("cargo:rerun-if-env-changed=RATTLE_LIBS");
     let Ok(folder) = std::env::var("RATTLE_LIBS") else { return };
     println!("cargo:rerun-if-changed={folder}");
     println!("cargo:rustc-cfg=rattle");
     println!("cargo:rustc-link-search=native={folder}");
-    for entry in std::fs::read_dir(&folder).expect("RATTLE_LIBS is a folder") {
-        let name = entry.unwrap().file_name().into_string().unwrap();
-        if let Some(library) = name.strip_prefix("lib").and_then(|n| n.strip_suffix(".a")) {
-            println!("cargo:rustc-link-lib=static={library}");
-        }
+    for name in ["exports", "meter"] {
+        println!("cargo:rustc-link-lib=static={name}");
+    }
+    // Records join in once the library exports them.
+    let symbols = Command::new("nm").arg(Path::new(&folder).join("libexports.a")).output().expect("nm");
+    if String::from_utf8_lossy(&symbols.stdout).contains(" T lawendeb_record") {
+        println!("cargo:rustc-cfg=rattle_records");
     }
 }

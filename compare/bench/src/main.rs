@@ -105,7 +105,7 @@ fn row(what: &str, code: &str, n: usize, times: &[f64], each: f64) -> Vec<f64> {
 /// How the time a word at the largest size compares with that at the middle one.
 fn flat_row(rows: &[Vec<f64>]) {
     let cells: Vec<String> = rows[2].iter().zip(&rows[1]).map(|(l, m)| format!("{:.2}", l / m)).collect();
-    println!("| | | {} / {} | {} | {}", SIZES[2], SIZES[1], cells.join(" | "), "|".repeat(cells.len() - 1));
+    println!("| | | {} / {} | {} |{}", SIZES[2], SIZES[1], cells.join(" | "), " |".repeat(cells.len() - 1));
 }
 
 fn run_rows(sides: &[Side], rounds: usize) {
@@ -176,9 +176,10 @@ fn lift_rows(sides: &[Side], rounds: usize) {
             let mut calls: Vec<Box<dyn FnMut()>> = vec![];
             for (side, mut records) in sides.iter().zip(lent) {
                 let input = &input;
+                let lift = side.lift.unwrap();
                 calls.push(Box::new(move || {
                     for _ in 0..repeat {
-                        let answer = (side.lift)(black_box(input), &mut records);
+                        let answer = lift(black_box(input), &mut records);
                         assert_eq!(answer.number, 0);
                     }
                     black_box(&records);
@@ -209,8 +210,10 @@ fn memory_rows(sides: &[Side]) {
         (side.feed)(&input.words, &mut m, 0);
         let feed = stack::used(|| assert_eq!((side.feed)(&input.words, &mut m, 1), 0));
         println!("| feed | {} | 0 | 0 | {feed} |", side.name);
-        let lift = stack::used(|| assert_eq!((side.lift)(&input, &mut records).number, 0));
-        println!("| lift | {} | {} | 0 | {lift} |", side.name, std::mem::size_of::<Record>());
+        if let Some(lift) = side.lift {
+            let depth = stack::used(|| assert_eq!(lift(&input, &mut records).number, 0));
+            println!("| lift | {} | {} | 0 | {depth} |", side.name, std::mem::size_of::<Record>());
+        }
     }
     let proto = oracle::prototype(&input);
     let heap = heap::most(|| oracle::lift(&proto)) / n;
@@ -221,22 +224,22 @@ fn memory_rows(sides: &[Side]) {
     println!("\nPeak resident memory of this whole program: {}.", high.trim_start_matches("VmHWM:").trim());
 }
 
+/// The head of a table with a column for each side and for each of `extra`, and the ratios to the first.
+fn head(sides: &[Side], extra: &[&str]) {
+    let names: Vec<&str> = sides.iter().map(|s| s.name).chain(extra.iter().copied()).collect();
+    let ratios = names[1..].iter().map(|n| format!("{n} / {}", names[0]));
+    let cells: Vec<String> = names.iter().map(|n| n.to_string()).chain(ratios).collect();
+    println!("\n| nanoseconds | code | words | {} |\n|---|---|---|{}", cells.join(" | "), "---|".repeat(cells.len()));
+}
+
 fn main() {
     let rounds = std::env::args().nth(1).map_or(25, |a| a.parse().expect("a number of rounds"));
     let sides = sides::sides();
-    let names: Vec<&str> = sides.iter().map(|s| s.name).collect();
-    let later: Vec<String> = names[1..].iter().map(|n| format!("{n} / {}", names[0])).collect();
-    let head = |extra: &[&str]| {
-        let mut cells: Vec<String> = names.iter().map(|n| n.to_string()).collect();
-        cells.extend(extra.iter().map(|e| e.to_string()));
-        cells.extend(later.clone());
-        cells.extend(extra.iter().map(|e| format!("{e} / {}", names[0])));
-        println!("\n| nanoseconds | code | words | {} |\n|---|---|---|{}", cells.join(" | "), "---|".repeat(cells.len()));
-    };
-    head(&[]);
+    head(&sides, &[]);
     run_rows(&sides, rounds);
     feed_rows(&sides, rounds);
-    head(&["luad"]);
-    lift_rows(&sides, rounds);
-    memory_rows(&sides);
+    let lifting: Vec<Side> = sides.into_iter().filter(|s| s.lift.is_some()).collect();
+    head(&lifting, &["luad"]);
+    lift_rows(&lifting, rounds);
+    memory_rows(&sides::sides());
 }

@@ -25,7 +25,8 @@ fn untouched() -> Record {
 pub fn compare(side: &Side, input: &Input, lifted: Option<&[Record]>) -> Result<u64, String> {
     let expected = check(input);
     let mut records = vec![untouched(); input.records.max(input.words.len()) + 2];
-    let answer = (side.lift)(input, &mut records);
+    let lift = side.lift.expect("a side that lifts");
+    let answer = lift(input, &mut records);
     if answer != expected {
         return Err(format!("answer {answer:?}, by document 01 {expected:?}"));
     }
@@ -74,7 +75,7 @@ fn smaller(input: &Input) -> Vec<Input> {
 pub fn hold(sides: &[Side], input: &Input, counts: &mut Counts) {
     let accepted = check(input).number == 0;
     let lifted = accepted.then(|| oracle::records(input));
-    for side in sides {
+    for side in sides.iter().filter(|s| s.lift.is_some()) {
         match compare(side, input, lifted.as_deref()) {
             Ok(number) => *counts.answers.entry(number).or_default() += 1,
             Err(_) => {

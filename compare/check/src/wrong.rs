@@ -13,13 +13,13 @@ fn record(seed: u64) -> String {
     // CONCAT's range saturates at the end and not one operation at a time.
     let side = Side {
         name: "wrong record",
-        lift: |input, out| {
-            let answer = (twin::side().lift)(input, out);
+        lift: Some(|input, out| {
+            let answer = twin::side().lift.unwrap()(input, out);
             for r in out.iter_mut().filter(|r| r.opcode == 53 && r.operands[0].numbers[0] + r.operands[1].numbers[0] > 255) {
                 r.reads[0].numbers[1] = 255;
             }
             answer
-        },
+        }),
         ..twin::side()
     };
     let mut rng = Rng::new(seed);

@@ -71,7 +71,7 @@ pub mod twin {
                 twin_begin(m);
                 list.iter().map(|&q| u64::from(twin_feed(w.as_ptr(), w.len(), m, q as usize) != 0)).sum()
             },
-            lift: |i: &Input, records| unsafe {
+            lift: Some(|i: &Input, records| unsafe {
                 assert!(i.records <= records.len());
                 twin_lift(
                     i.words.as_ptr(),
@@ -87,7 +87,7 @@ pub mod twin {
                     records.as_mut_ptr(),
                     i.records,
                 )
-            },
+            }),
         }
     }
 }
@@ -96,10 +96,20 @@ pub mod twin {
 pub mod rattle {
     use super::*;
 
+    /// crates/meter's struct: begun is 0, or any other number.
+    #[repr(C)]
+    #[derive(Clone, Copy)]
+    pub struct LentMeter {
+        begun: u32,
+        last: u32,
+        count: u32,
+        services: u32,
+    }
+
     extern "C" {
-        fn runs_successors(words: *const u32, n: usize, p: usize) -> FlatSuccessors;
-        fn runs_serves(words: *const u32, n: usize, p: usize, q: usize) -> bool;
-        fn runs_longest_run(
+        fn lawendeb_successors(words: *const u32, n: usize, p: usize) -> FlatSuccessors;
+        fn lawendeb_serves(words: *const u32, n: usize, p: usize, q: usize) -> bool;
+        fn lawendeb_longest_run(
             words: *const u32,
             n: usize,
             marks: *mut u8,
@@ -107,84 +117,109 @@ pub mod rattle {
             lengths: *mut u32,
             lengths_n: usize,
         ) -> RunAnswer;
-        fn meter_begin(m: *mut Meter);
-        fn meter_feed(words: *const u32, n: usize, m: *mut Meter, q: usize) -> u32;
-        fn records_answer(
-            words: *const u32,
-            n: usize,
-            tags: *const u8,
-            tags_n: usize,
-            payloads: *const u64,
-            payloads_n: usize,
-            bytes: *const u8,
-            bytes_n: usize,
-            names: *const u64,
-            names_n: usize,
-            records: usize,
-        ) -> Answer;
-        fn records_flat(
-            words: *const u32,
-            n: usize,
-            tags: *const u8,
-            tags_n: usize,
-            payloads: *const u64,
-            payloads_n: usize,
-            names: *const u64,
-            names_n: usize,
-            pc: usize,
-        ) -> Record;
+        fn lawendeb_begin(m: *mut LentMeter);
+        fn lawendeb_feed(words: *const u32, n: usize, m: *mut LentMeter, q: usize) -> u32;
     }
 
-    fn lift(i: &Input, records: &mut [Record]) -> Answer {
-        assert!(i.records <= records.len());
-        let answer = unsafe {
-            records_answer(
-                i.words.as_ptr(),
-                i.words.len(),
-                i.tags.as_ptr(),
-                i.tags.len(),
-                i.payloads.as_ptr(),
-                i.payloads.len(),
-                i.bytes.as_ptr(),
-                i.bytes.len(),
-                i.names.as_ptr(),
-                i.names.len(),
-                i.records,
-            )
-        };
-        if answer.number == 0 {
-            for (pc, record) in records[..i.words.len()].iter_mut().enumerate() {
-                *record = unsafe {
-                    records_flat(
-                        i.words.as_ptr(),
-                        i.words.len(),
-                        i.tags.as_ptr(),
-                        i.tags.len(),
-                        i.payloads.as_ptr(),
-                        i.payloads.len(),
-                        i.names.as_ptr(),
-                        i.names.len(),
-                        pc,
-                    )
-                };
-            }
-        }
+    /// Lends the meter in the library's form.
+    fn lend<T>(m: &mut Meter, call: impl FnOnce(&mut LentMeter) -> T) -> T {
+        let mut lent = LentMeter { begun: u32::from(m.begun), last: m.last, count: m.since, services: m.services };
+        let answer = call(&mut lent);
+        *m = Meter { begun: lent.begun != 0, last: lent.last, since: lent.count, services: lent.services };
         answer
     }
 
     pub fn side() -> Side {
         Side {
             name: "Rattle",
-            successors: |w, p| unsafe { runs_successors(w.as_ptr(), w.len(), p) }.into(),
-            serves: |w, p, q| unsafe { runs_serves(w.as_ptr(), w.len(), p, q) },
-            run: |w, m, l| unsafe { runs_longest_run(w.as_ptr(), w.len(), m.as_mut_ptr(), m.len(), l.as_mut_ptr(), l.len()) },
-            begin: |m| unsafe { meter_begin(m) },
-            feed: |w, m, q| unsafe { meter_feed(w.as_ptr(), w.len(), m, q) },
-            feed_all: |w, m, list| unsafe {
-                meter_begin(m);
-                list.iter().map(|&q| u64::from(meter_feed(w.as_ptr(), w.len(), m, q as usize) != 0)).sum()
+            successors: |w, p| unsafe { lawendeb_successors(w.as_ptr(), w.len(), p) }.into(),
+            serves: |w, p, q| unsafe { lawendeb_serves(w.as_ptr(), w.len(), p, q) },
+            run: |w, m, l| unsafe { lawendeb_longest_run(w.as_ptr(), w.len(), m.as_mut_ptr(), m.len(), l.as_mut_ptr(), l.len()) },
+            begin: |m| lend(m, |m| unsafe { lawendeb_begin(m) }),
+            feed: |w, m, q| lend(m, |m| unsafe { lawendeb_feed(w.as_ptr(), w.len(), m, q) }),
+            feed_all: |w, m, list| {
+                lend(m, |m| unsafe {
+                    lawendeb_begin(m);
+                    list.iter().map(|&q| u64::from(lawendeb_feed(w.as_ptr(), w.len(), m, q as usize) != 0)).sum()
+                })
             },
-            lift,
+            #[cfg(rattle_records)]
+            lift: Some(records::lift),
+            #[cfg(not(rattle_records))]
+            lift: None,
+        }
+    }
+
+    #[cfg(rattle_records)]
+    mod records {
+        use super::*;
+
+        extern "C" {
+            fn lawendeb_answer(
+                words: *const u32,
+                n: usize,
+                tags: *const u8,
+                tags_n: usize,
+                payloads: *const u64,
+                payloads_n: usize,
+                names: *const u64,
+                names_n: usize,
+                bytes: *const u8,
+                bytes_n: usize,
+                records: usize,
+            ) -> Answer;
+            fn lawendeb_record(
+                words: *const u32,
+                n: usize,
+                tags: *const u8,
+                tags_n: usize,
+                payloads: *const u64,
+                payloads_n: usize,
+                names: *const u64,
+                names_n: usize,
+                bytes: *const u8,
+                bytes_n: usize,
+                pc: usize,
+            ) -> Record;
+        }
+
+        pub fn lift(i: &Input, records: &mut [Record]) -> Answer {
+            assert!(i.records <= records.len());
+            let answer = unsafe {
+                lawendeb_answer(
+                    i.words.as_ptr(),
+                    i.words.len(),
+                    i.tags.as_ptr(),
+                    i.tags.len(),
+                    i.payloads.as_ptr(),
+                    i.payloads.len(),
+                    i.names.as_ptr(),
+                    i.names.len(),
+                    i.bytes.as_ptr(),
+                    i.bytes.len(),
+                    i.records,
+                )
+            };
+            if answer.number == 0 {
+                for (pc, record) in records[..i.words.len()].iter_mut().enumerate() {
+                    *record = unsafe {
+                        lawendeb_record(
+                            i.words.as_ptr(),
+                            i.words.len(),
+                            i.tags.as_ptr(),
+                            i.tags.len(),
+                            i.payloads.as_ptr(),
+                            i.payloads.len(),
+                            i.names.as_ptr(),
+                            i.names.len(),
+                            i.bytes.as_ptr(),
+                            i.bytes.len(),
+                            pc,
+                        )
+                    };
+                }
+            }
+            answer
         }
     }
 }

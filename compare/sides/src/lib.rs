@@ -25,7 +25,7 @@ pub struct Side {
     /// A begin and a feed of each word of the list; how many were refused.
     pub feed_all: fn(&[u32], &mut Meter, &[u32]) -> u64,
     /// The answer, and on 0 a record for each word; `input.records` says how many are lent.
-    pub lift: fn(&Input, &mut [Record]) -> Answer,
+    pub lift: Option<fn(&Input, &mut [Record]) -> Answer>,
 }
 
 /// Every side but the model itself: the C twin, and the proved library where it was linked.
@@ -53,6 +53,6 @@ pub fn model_side() -> Side {
             model::meter::begin(m);
             list.iter().map(|&q| u64::from(model::meter::feed(words, m, q as usize) != 0)).sum()
         },
-        lift: |input, _| model::input::check(input),
+        lift: None,
     }
 }
