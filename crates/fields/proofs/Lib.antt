@@ -1,0 +1,4 @@
+pub mod Cases
+pub mod Difference
+pub mod Entries
+pub mod Lopcodes

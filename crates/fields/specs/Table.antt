@@ -1,0 +1,187 @@
+-- The opcode table: "for each of the 128 values one table of four columns gives the mode, the step class, the companion
+-- wanted and the fallback rule". Each column is a list of rows, opcodes from the first to the last, and what all others have.
+-- Assumes nothing.
+use Prim.Native.Nat.{ℕ, zero, suc}
+use mathlib.Core.Bool.{Bool, true, false}
+use mathlib.Core.List.{List, [], _∷_}
+use lib.Dec.{leb}
+use Rattle.fields.specs.Opcodes.{«OP_LOADI», «OP_LOADF», «OP_LOADK», «OP_LOADKX», «OP_LFALSESKIP», «OP_GETTABUP», «OP_GETFIELD», «OP_SETTABUP», «OP_SETFIELD», «OP_NEWTABLE», «OP_SELF», «OP_ADDI», «OP_SHR», «OP_MMBIN», «OP_MMBINK», «OP_UNM», «OP_BNOT», «OP_LEN», «OP_CONCAT», «OP_TBC», «OP_JMP», «OP_EQ», «OP_TESTSET», «OP_CALL», «OP_TAILCALL», «OP_RETURN1», «OP_FORLOOP», «OP_FORPREP», «OP_TFORPREP», «OP_TFORCALL», «OP_TFORLOOP», «OP_SETLIST», «OP_CLOSURE», «OP_EXTRAARG», «OP_UNKNOWN», «OP_LAST»}
+use Rattle.fields.specs.Events.{«TM_INDEX», «TM_NEWINDEX», «TM_LEN», «TM_UNM», «TM_BNOT», «TM_CONCAT», «TM_CALL», «TM_CLOSE»}
+
+-- the opcodes from the first to the last have what follows
+pub data Row (X : Type 0) : Type 0 where
+  row : ℕ → ℕ → X → Row X
+
+abbrev pub pick : {X : Type 0} → Bool → X → X → X
+pick true a b = a
+pick false a b = b
+
+-- what the first row that has the opcode says, or what all others have
+abbrev pub lookup : {X : Type 0} → List (Row X) → X → ℕ → X
+lookup [] others opcode = others
+lookup (row first last x ∷ rows) others opcode =
+    pick (leb first opcode) (pick (leb opcode last) x (lookup rows others opcode)) (lookup rows others opcode)
+
+-- Column 0, the mode: the Rust's OpMode54 by `mode`; unknown opcodes have none.
+pub data OpMode54 : Type 0 where
+  noMode : OpMode54
+  iABC : OpMode54
+  iABx : OpMode54
+  iAsBx : OpMode54
+  iAx : OpMode54
+  isJ : OpMode54
+
+abbrev pub modeNumber : OpMode54 → ℕ
+modeNumber noMode = 0
+modeNumber iABC = 1
+modeNumber iABx = 2
+modeNumber iAsBx = 3
+modeNumber iAx = 4
+modeNumber isJ = 5
+
+unfoldable pub modeOf : ℕ → OpMode54
+modeOf =
+    lookup
+    (row «OP_LOADI» «OP_LOADF» iAsBx
+    ∷ row «OP_LOADK» «OP_LOADKX» iABx
+    ∷ row «OP_JMP» «OP_JMP» isJ
+    ∷ row «OP_FORLOOP» «OP_TFORPREP» iABx
+    ∷ row «OP_TFORLOOP» «OP_TFORLOOP» iABx
+    ∷ row «OP_CLOSURE» «OP_CLOSURE» iABx
+    ∷ row «OP_EXTRAARG» «OP_EXTRAARG» iAx
+    ∷ row «OP_UNKNOWN» «OP_LAST» noMode
+    ∷ [])
+    iABC
+
+-- Column 1, the step class: document 01's table of steps, "Next word".
+pub data StepClass : Type 0 where
+  -- p+1
+  following : StepClass
+  -- none: the function returns
+  returning : StepClass
+  -- p+1, p+2
+  branching : StepClass
+  -- p+2
+  skipping : StepClass
+  -- p+2 if its k is 1, else p+1
+  skippingIfK : StepClass
+  -- p+1+sJ
+  jumping : StepClass
+  -- p+1-Bx, p+1
+  looping : StepClass
+  -- p+1, p+2+Bx
+  preparing : StepClass
+  -- p+1+Bx
+  entering : StepClass
+  -- none: always bad
+  invalid : StepClass
+
+abbrev pub classNumber : StepClass → ℕ
+classNumber following = 0
+classNumber returning = 1
+classNumber branching = 2
+classNumber skipping = 3
+classNumber skippingIfK = 4
+classNumber jumping = 5
+classNumber looping = 6
+classNumber preparing = 7
+classNumber entering = 8
+classNumber invalid = 9
+
+-- Column 2, the companion wanted: document 01's table of steps, "Bad unless".
+pub data Companion : Type 0 where
+  -- nothing is asked
+  alone : Companion
+  -- word p+1 is 46 to 48
+  metamethodAfter : Companion
+  -- p > 0 and word p-1 is 21 to 45
+  arithmeticBefore : Companion
+  -- word p+1 is JMP
+  jumpAfter : Companion
+  -- word p+1 is EXTRAARG
+  extraAfter : Companion
+  -- word p+1 is EXTRAARG, if its own k is 1
+  extraAfterIfK : Companion
+  -- word p+1+Bx is TFORCALL
+  callAtTarget : Companion
+  -- word p+1 is TFORLOOP
+  loopAfter : Companion
+
+abbrev pub companionNumber : Companion → ℕ
+companionNumber alone = 0
+companionNumber metamethodAfter = 1
+companionNumber arithmeticBefore = 2
+companionNumber jumpAfter = 3
+companionNumber extraAfter = 4
+companionNumber extraAfterIfK = 5
+companionNumber callAtTarget = 6
+companionNumber loopAfter = 7
+
+-- Document 01's table of steps, row for row: opcodes, "Next word", "Bad unless".
+abbrev pub stepTable : List (Row (StepClass × Companion))
+stepTable =
+    row «OP_TAILCALL» «OP_RETURN1» (returning, alone)
+    ∷ row «OP_ADDI» «OP_SHR» (branching, metamethodAfter)
+    ∷ row «OP_MMBIN» «OP_MMBINK» (following, arithmeticBefore)
+    ∷ row «OP_EQ» «OP_TESTSET» (branching, jumpAfter)
+    ∷ row «OP_LFALSESKIP» «OP_LFALSESKIP» (skipping, alone)
+    ∷ row «OP_LOADKX» «OP_LOADKX» (skipping, extraAfter)
+    ∷ row «OP_NEWTABLE» «OP_NEWTABLE» (skipping, extraAfter)
+    ∷ row «OP_SETLIST» «OP_SETLIST» (skippingIfK, extraAfterIfK)
+    ∷ row «OP_JMP» «OP_JMP» (jumping, alone)
+    ∷ row «OP_FORLOOP» «OP_FORLOOP» (looping, alone)
+    ∷ row «OP_TFORLOOP» «OP_TFORLOOP» (looping, alone)
+    ∷ row «OP_FORPREP» «OP_FORPREP» (preparing, alone)
+    ∷ row «OP_TFORPREP» «OP_TFORPREP» (entering, callAtTarget)
+    ∷ row «OP_TFORCALL» «OP_TFORCALL» (following, loopAfter)
+    ∷ row «OP_EXTRAARG» «OP_EXTRAARG» (invalid, alone)
+    ∷ row «OP_UNKNOWN» «OP_LAST» (invalid, alone)
+    ∷ []
+
+unfoldable pub classOf : ℕ → StepClass
+classOf opcode = lookup stepTable (following, alone) opcode .0
+
+unfoldable pub companionOf : ℕ → Companion
+companionOf opcode = lookup stepTable (following, alone) opcode .1
+
+-- Column 3, the fallback rule: the metamethod that lifter.rs records, none, a fixed event or the one that C names.
+pub data FallbackRule : Type 0 where
+  fixed : ℕ → FallbackRule
+  byC : FallbackRule
+  noFallback : FallbackRule
+
+-- an event stands for itself; 25 is the number of `__metamethod`, so the two rules take the numbers after it
+abbrev pub fallbackNumber : FallbackRule → ℕ
+fallbackNumber (fixed event) = event
+fallbackNumber byC = 26
+fallbackNumber noFallback = 27
+
+unfoldable pub fallbackOf : ℕ → FallbackRule
+fallbackOf =
+    lookup
+    (row «OP_GETTABUP» «OP_GETFIELD» (fixed «TM_INDEX»)
+    ∷ row «OP_SETTABUP» «OP_SETFIELD» (fixed «TM_NEWINDEX»)
+    ∷ row «OP_SELF» «OP_SELF» (fixed «TM_INDEX»)
+    ∷ row «OP_MMBIN» «OP_MMBINK» byC
+    ∷ row «OP_UNM» «OP_UNM» (fixed «TM_UNM»)
+    ∷ row «OP_BNOT» «OP_BNOT» (fixed «TM_BNOT»)
+    ∷ row «OP_LEN» «OP_LEN» (fixed «TM_LEN»)
+    ∷ row «OP_CONCAT» «OP_CONCAT» (fixed «TM_CONCAT»)
+    ∷ row «OP_TBC» «OP_TBC» (fixed «TM_CLOSE»)
+    ∷ row «OP_CALL» «OP_TAILCALL» (fixed «TM_CALL»)
+    ∷ [])
+    noFallback
+
+-- the numbers of n opcodes from the given one on, four for each
+abbrev pub rowsOf : ℕ → ℕ → List ℕ
+rowsOf opcode zero = []
+rowsOf opcode (suc n) =
+    modeNumber (modeOf opcode)
+    ∷ classNumber (classOf opcode)
+    ∷ companionNumber (companionOf opcode)
+    ∷ fallbackNumber (fallbackOf opcode)
+    ∷ rowsOf (suc opcode) n
+
+-- the 512 numbers of the opcode table
+unfoldable pub opcodeTable : List ℕ
+opcodeTable = rowsOf 0 128

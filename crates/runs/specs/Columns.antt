@@ -1,0 +1,36 @@
+-- What a number in a column of the opcode table stands for: the way back from fields' classNumber and companionNumber.
+-- Assumes nothing.
+use Prim.Native.Nat.{ℕ}
+use mathlib.Core.List.{List, [], _∷_}
+use lib.ListN.{getD}
+use Rattle.fields.specs.Table.{StepClass, following, returning, branching, skipping, skippingIfK, jumping, looping, preparing, entering, invalid, Companion, alone, metamethodAfter, arithmeticBefore, jumpAfter, extraAfter, extraAfterIfK, callAtTarget, loopAfter}
+
+abbrev pub classes : List StepClass
+classes =
+    following
+    ∷ returning
+    ∷ branching
+    ∷ skipping
+    ∷ skippingIfK
+    ∷ jumping
+    ∷ looping
+    ∷ preparing
+    ∷ entering
+    ∷ []
+
+unfoldable pub classFrom : ℕ → StepClass
+classFrom number = getD classes number invalid
+
+abbrev pub companions : List Companion
+companions =
+    alone
+    ∷ metamethodAfter
+    ∷ arithmeticBefore
+    ∷ jumpAfter
+    ∷ extraAfter
+    ∷ extraAfterIfK
+    ∷ callAtTarget
+    ∷ []
+
+unfoldable pub companionFrom : ℕ → Companion
+companionFrom number = getD companions number loopAfter
