@@ -84,14 +84,14 @@ struct twin_run twin_longest_run(const uint32_t *w, size_t n, uint8_t *marks, si
     return (struct twin_run){0, 0, lengths[first], first};
 }
 
-void twin_begin(struct twin_meter *m) { m->begun = false; m->last = 0; m->since = 0; }
+void twin_begin(struct twin_meter *m) { m->begun = 0; m->last = 0; m->since = 0; }
 
 uint32_t twin_feed(const uint32_t *w, size_t n, struct twin_meter *m, size_t q) {
     if (n > TWIN_WORDS) return 1;
     if (!m->begun) {
         if (m->last || m->since) return 11;
         if (q != 0 || n == 0) return 10;
-        m->begun = true;
+        m->begun = 1;
         m->since = 1;
         return 0;
     }

@@ -12,7 +12,7 @@ enum { TWIN_WORDS = 32768, TWIN_CONSTANTS = 65536, TWIN_NAMES = 255 };
 struct twin_successors { uint64_t kind, first, second; };
 struct twin_run { uint64_t number, place, longest, first; };
 struct twin_answer { uint64_t number, place; };
-struct twin_meter { bool begun; uint32_t last, since, services; };
+struct twin_meter { uint32_t begun, last, since, services; };
 
 /* FLAT.md */
 struct twin_slot { uint64_t kind, numbers[3]; };

@@ -7,14 +7,14 @@
 #include <string.h>
 
 #ifdef RATTLE
-struct twin_successors runs_successors(const uint32_t *words, size_t n, size_t p);
-struct twin_run runs_longest_run(const uint32_t *words, size_t n, uint8_t *marks, size_t marks_n, uint32_t *lengths, size_t lengths_n);
-void meter_begin(struct twin_meter *m);
-uint32_t meter_feed(const uint32_t *words, size_t n, struct twin_meter *m, size_t q);
-#define successors runs_successors
-#define longest_run runs_longest_run
-#define begin meter_begin
-#define feed meter_feed
+struct twin_successors lawendeb_successors(const uint32_t *words, size_t n, size_t p);
+struct twin_run lawendeb_longest_run(const uint32_t *words, size_t n, uint8_t *marks, size_t marks_n, uint32_t *lengths, size_t lengths_n);
+void lawendeb_begin(struct twin_meter *m);
+uint32_t lawendeb_feed(const uint32_t *words, size_t n, struct twin_meter *m, size_t q);
+#define successors lawendeb_successors
+#define longest_run lawendeb_longest_run
+#define begin lawendeb_begin
+#define feed lawendeb_feed
 #else
 #define successors twin_successors
 #define longest_run twin_longest_run

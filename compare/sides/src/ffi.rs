@@ -10,6 +10,23 @@ use model::meter::Meter;
 use model::run::RunAnswer;
 use model::Answer;
 
+/// The meter as it is lent: include/lawendeb.h. begun is 0, or any other number.
+#[repr(C)]
+pub struct LentMeter {
+    begun: u32,
+    last: u32,
+    count: u32,
+    services: u32,
+}
+
+/// Lends the meter in that form.
+fn lend<T>(m: &mut Meter, call: impl FnOnce(&mut LentMeter) -> T) -> T {
+    let mut lent = LentMeter { begun: u32::from(m.begun), last: m.last, count: m.since, services: m.services };
+    let answer = call(&mut lent);
+    *m = Meter { begun: lent.begun != 0, last: lent.last, since: lent.count, services: lent.services };
+    answer
+}
+
 /// kind: 0 invalid, 1 stop, 2 one, 3 two.
 #[repr(C)]
 pub struct FlatSuccessors {
@@ -41,8 +58,8 @@ pub mod twin {
             lengths: *mut u32,
             lengths_n: usize,
         ) -> RunAnswer;
-        fn twin_begin(m: *mut Meter);
-        fn twin_feed(words: *const u32, n: usize, m: *mut Meter, q: usize) -> u32;
+        fn twin_begin(m: *mut LentMeter);
+        fn twin_feed(words: *const u32, n: usize, m: *mut LentMeter, q: usize) -> u32;
         fn twin_lift(
             words: *const u32,
             n: usize,
@@ -65,11 +82,13 @@ pub mod twin {
             successors: |w, p| unsafe { twin_successors(w.as_ptr(), w.len(), p) }.into(),
             serves: |w, p, q| unsafe { twin_serves(w.as_ptr(), w.len(), p, q) },
             run: |w, m, l| unsafe { twin_longest_run(w.as_ptr(), w.len(), m.as_mut_ptr(), m.len(), l.as_mut_ptr(), l.len()) },
-            begin: |m| unsafe { twin_begin(m) },
-            feed: |w, m, q| unsafe { twin_feed(w.as_ptr(), w.len(), m, q) },
-            feed_all: |w, m, list| unsafe {
-                twin_begin(m);
-                list.iter().map(|&q| u64::from(twin_feed(w.as_ptr(), w.len(), m, q as usize) != 0)).sum()
+            begin: |m| lend(m, |m| unsafe { twin_begin(m) }),
+            feed: |w, m, q| lend(m, |m| unsafe { twin_feed(w.as_ptr(), w.len(), m, q) }),
+            feed_all: |w, m, list| {
+                lend(m, |m| unsafe {
+                    twin_begin(m);
+                    list.iter().map(|&q| u64::from(twin_feed(w.as_ptr(), w.len(), m, q as usize) != 0)).sum()
+                })
             },
             lift: Some(|i: &Input, records| unsafe {
                 assert!(i.records <= records.len());
@@ -96,16 +115,6 @@ pub mod twin {
 pub mod rattle {
     use super::*;
 
-    /// crates/meter's struct: begun is 0, or any other number.
-    #[repr(C)]
-    #[derive(Clone, Copy)]
-    pub struct LentMeter {
-        begun: u32,
-        last: u32,
-        count: u32,
-        services: u32,
-    }
-
     extern "C" {
         fn lawendeb_successors(words: *const u32, n: usize, p: usize) -> FlatSuccessors;
         fn lawendeb_serves(words: *const u32, n: usize, p: usize, q: usize) -> bool;
@@ -119,14 +128,6 @@ pub mod rattle {
         ) -> RunAnswer;
         fn lawendeb_begin(m: *mut LentMeter);
         fn lawendeb_feed(words: *const u32, n: usize, m: *mut LentMeter, q: usize) -> u32;
-    }
-
-    /// Lends the meter in the library's form.
-    fn lend<T>(m: &mut Meter, call: impl FnOnce(&mut LentMeter) -> T) -> T {
-        let mut lent = LentMeter { begun: u32::from(m.begun), last: m.last, count: m.since, services: m.services };
-        let answer = call(&mut lent);
-        *m = Meter { begun: lent.begun != 0, last: lent.last, since: lent.count, services: lent.services };
-        answer
     }
 
     pub fn side() -> Side {
