@@ -2,6 +2,7 @@
 pub mod edges;
 mod lengths;
 pub mod longest;
+mod packed;
 mod search;
 pub mod successors;
 

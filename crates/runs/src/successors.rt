@@ -173,8 +173,14 @@ pub(crate) fn successors_in(table: &[u8; 512], words: &[u32], p: usize) -> Succe
 pub fn successors(words: &[u32], p: usize) -> Successors
     ensures { λ r. ⌜ r ≡ successorsOf (now (words .entry)) p ⌝ }
 {
-    let table = fields::lookup::table();
-    successors_in(&table, words, p)
+    if words.len() <= p {
+        return Successors::Invalid;
+    }
+    let both = crate::packed::both(words[p]);
+    if both == 0 {
+        return one_of(words.len(), p + 1);
+    }
+    successors_by(both / 16, both % 16, words, p)
 }
 
 fn has_successor(s: Successors, q: usize) -> bool
