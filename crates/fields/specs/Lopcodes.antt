@@ -95,7 +95,7 @@ abbrev «MASK1» : ℕ → ℕ → ℕ
 abbrev getarg : ℕ → ℕ → ℕ → ℕ
 getarg i position size = bitAnd (i >> position) («MASK1» size 0)
 
-abbrev «GET_OPCODE» : ℕ → ℕ
+abbrev pub «GET_OPCODE» : ℕ → ℕ
 «GET_OPCODE» i = bitAnd (i >> «POS_OP») («MASK1» «SIZE_OP» 0)
 
 abbrev «GETARG_A» : ℕ → ℕ
@@ -113,10 +113,14 @@ abbrev «GETARG_C» : ℕ → ℕ
 abbrev «GETARG_sC» : ℕ → ℤ
 «GETARG_sC» i = sC2int («GETARG_C» i)
 
-abbrev «GETARG_k» : ℕ → ℕ
+-- not 0 exactly if k is 1
+abbrev pub «TESTARG_k» : ℕ → ℕ
+«TESTARG_k» i = bitAnd i (1 << «POS_k»)
+
+abbrev pub «GETARG_k» : ℕ → ℕ
 «GETARG_k» i = getarg i «POS_k» 1
 
-abbrev «GETARG_Bx» : ℕ → ℕ
+abbrev pub «GETARG_Bx» : ℕ → ℕ
 «GETARG_Bx» i = getarg i «POS_Bx» «SIZE_Bx»
 
 abbrev «GETARG_Ax» : ℕ → ℕ
@@ -125,7 +129,7 @@ abbrev «GETARG_Ax» : ℕ → ℕ
 abbrev «GETARG_sBx» : ℕ → ℤ
 «GETARG_sBx» i = pos (getarg i «POS_Bx» «SIZE_Bx») -ℤ pos «OFFSET_sBx»
 
-abbrev «GETARG_sJ» : ℕ → ℤ
+abbrev pub «GETARG_sJ» : ℕ → ℤ
 «GETARG_sJ» i = pos (getarg i «POS_sJ» «SIZE_sJ») -ℤ pos «OFFSET_sJ»
 
 -- the word taken apart by the header's macros

@@ -1,4 +1,3 @@
-pub mod Cases
 pub mod Columns
 pub mod Elements
 pub mod Lent

@@ -2,4 +2,3 @@
 pub mod Lift
 pub mod Refusals
 pub mod Walk
-pub mod Cases

@@ -1,0 +1,84 @@
+-- The numbers in the columns of the opcode table lead back to what they stand for.
+-- Assumes nothing.
+use Prim.Native.Nat.{ℕ, _+_, _*_, _/_, _%_, _≤_, _<_}
+use mathlib.Core.Path.{_≡_, refl, ap, _∙_}
+use mathlib.Core.List.{List}
+use native.Mathlib.Omega.{arith}
+use lib.ListN.{getD, List·getD-eq-default}
+use Rattle.fields.specs.Word.{opcodeOf}
+use Rattle.fields.specs.Table.{StepClass, following, returning, branching, skipping, skippingIfK, jumping, looping, preparing, entering, invalid, classNumber, classOf, Companion, alone, metamethodAfter, arithmeticBefore, jumpAfter, extraAfter, extraAfterIfK, callAtTarget, loopAfter, companionNumber, companionOf, opcodeTable}
+use Rattle.fields.proofs.Entries.{entry}
+use Rattle.runs.specs.Successors.{opcodeAt}
+use Rattle.runs.specs.Columns.{classes, classFrom, companions, companionFrom, bothOf}
+
+pub class-back : (x : StepClass) → classFrom (classNumber x) ≡ x
+unfolding classFrom
+class-back following = refl
+class-back returning = refl
+class-back branching = refl
+class-back skipping = refl
+class-back skippingIfK = refl
+class-back jumping = refl
+class-back looping = refl
+class-back preparing = refl
+class-back entering = refl
+class-back invalid = refl
+
+-- past the named numbers
+pub class-past : (number : ℕ) → 9 ≤ number → classFrom number ≡ invalid
+unfolding classFrom
+class-past number h = List·getD-eq-default classes invalid h
+
+pub companion-back : (x : Companion) → companionFrom (companionNumber x) ≡ x
+unfolding companionFrom
+companion-back alone = refl
+companion-back metamethodAfter = refl
+companion-back arithmeticBefore = refl
+companion-back jumpAfter = refl
+companion-back extraAfter = refl
+companion-back extraAfterIfK = refl
+companion-back callAtTarget = refl
+companion-back loopAfter = refl
+
+pub companion-past : (number : ℕ) → 7 ≤ number → companionFrom number ≡ loopAfter
+unfolding companionFrom
+companion-past number h = List·getD-eq-default companions loopAfter h
+
+-- word p's columns, looked up in the opcode table
+module _ (table ws : List ℕ) (p : ℕ) (right : table ≡ opcodeTable) where
+  pub class-in : classFrom (getD table (opcodeOf (getD ws p 0) * 4 + 1) 0) ≡ classOf (opcodeAt ws p)
+  unfolding opcodeAt
+  class-in =
+      rw (right, entry (opcodeOf (getD ws p 0)) 1 (omega arith) (omega arith)) (class-back (classOf (opcodeOf (getD ws p 0))))
+
+  pub companion-in : companionFrom (getD table (opcodeOf (getD ws p 0) * 4 + 2) 0) ≡ companionOf (opcodeAt ws p)
+  unfolding opcodeAt
+  companion-in =
+      rw (right, entry (opcodeOf (getD ws p 0)) 2 (omega arith) (omega arith))
+      (companion-back (companionOf (opcodeOf (getD ws p 0))))
+
+-- the same, from both columns in a byte
+class-low : (x : StepClass) → classNumber x < 16
+class-low following = omega arith
+class-low returning = omega arith
+class-low branching = omega arith
+class-low skipping = omega arith
+class-low skippingIfK = omega arith
+class-low jumping = omega arith
+class-low looping = omega arith
+class-low preparing = omega arith
+class-low entering = omega arith
+class-low invalid = omega arith
+
+module _ (ws : List ℕ) (p both : ℕ) (right : both ≡ bothOf (opcodeOf (getD ws p 0))) where
+  pub class-of-both : classFrom (both % 16) ≡ classOf (opcodeAt ws p)
+  unfolding opcodeAt
+  class-of-both =
+      let o : ℕ = opcodeOf (getD ws p 0) in
+      ap classFrom (omega (arith, class-low (classOf o))) ∙ class-back (classOf o)
+
+  pub companion-of-both : companionFrom (both / 16) ≡ companionOf (opcodeAt ws p)
+  unfolding opcodeAt
+  companion-of-both =
+      let o : ℕ = opcodeOf (getD ws p 0) in
+      ap companionFrom (omega (arith, class-low (classOf o))) ∙ companion-back (companionOf o)

@@ -1,0 +1,158 @@
+-- The lowest number at which a test holds, the largest of some numbers, and lists by their elements. Assumes nothing.
+use mathlib.Core.Path.{_≡_, refl, sym, ap, ap₂, subst, _∙_}
+use mathlib.Core.Logic.{_⊎_, inl, inr, ⊎-elim}
+use mathlib.Core.Bool.{Bool, true, false, cond}
+use mathlib.Core.List.{List, [], _∷_, _++_}
+use Prim.Native.Nat.{ℕ, zero, suc, _+_, _-_, _≤_, _<_, max}
+use native.Mathlib.Nat.{not-suc-le-zero, le-of-suc-le-suc, le-antisymm, add-zero}
+use native.Mathlib.Omega.{arith}
+use borrow.Author.Tests.{eq-eqb, ne-eqb}
+use lib.Dec.{eqb}
+use lib.ListN.{length, getD, take, drop, replicate, take-append-drop}
+use lib.Seq.{ext-getD, getD-take, length-take-le}
+use Rattle.runs.specs.Longest.{most, lowest}
+use Rattle.runs.specs.Run.{table, over}
+use Rattle.runs.specs.Invariants.{Top}
+use Rattle.runs.proofs.Order.{split, same-or-not}
+
+-- the lowest of the numbers from i up to n, as i goes down
+pub lowest-none : (t : ℕ → Bool) (n : ℕ) → n ≡ lowest t n (n - n)
+unfolding lowest
+lowest-none t n = let e : n - n ≡ 0 = omega arith in sym (ap (lowest t n) e)
+
+pub lowest-down : (t : ℕ → Bool) (n i : ℕ) → i < n → lowest t i (n - i) ≡ cond (t i) i (lowest t (i + 1) (n - (i + 1)))
+unfolding lowest
+lowest-down t n i h = let e : n - i ≡ suc (n - (i + 1)) = omega arith in ap (lowest t i) e
+
+pub lowest-whole : (t : ℕ → Bool) (n : ℕ) → lowest t 0 (n - 0) ≡ lowest t 0 n
+lowest-whole t n = let e : n - 0 ≡ n = omega arith in ap (lowest t 0) e
+
+-- it is where the test holds first
+pub record First (t : ℕ → Bool) (i k a : ℕ) : Type 0 where
+  pub from : i ≤ a
+  pub upto : a ≤ i + k
+  pub holds : a < i + k → t a ≡ true
+  pub not-before : (p : ℕ) → i ≤ p → p < a → t p ≡ false
+
+pub lowest-first : (t : ℕ → Bool) (i k : ℕ) → First t i k (lowest t i k)
+unfolding lowest
+lowest-first t i zero = record { from = omega arith; upto = omega arith; holds = λ h. absurd (omega arith); not-before = λ p h l. absurd (omega arith) }
+lowest-first t i (suc k) = go (lowest-first t (i + 1) k) (t i) refl
+  where
+    go : First t (i + 1) k (lowest t (i + 1) k) → (b : Bool) → t i ≡ b → First t i (suc k) (cond b i (lowest t (i + 1) k))
+    go f true e = record { from = omega arith; upto = omega arith; holds = λ h. e; not-before = λ p h l. absurd (omega arith) }
+    go f false e =
+        record {
+          from = omega (arith, f .from);
+          upto = omega (arith, f .upto);
+          holds = λ h. f .holds (omega arith);
+          not-before = λ p h l. ⊎-elim (λ d. subst (λ (x : ℕ). t x ≡ false) (sym d) e) (λ n. f .not-before p (above p h n) l) (same-or-not p i);
+        }
+      where
+        above : (p : ℕ) → i ≤ p → (p ≡ i → ⊥) → i + 1 ≤ p
+        above p h n = ⊎-elim (λ d. absurd (n (omega arith))) (λ d. omega arith) (split p i)
+
+apart : (t : ℕ → Bool) (a : ℕ) → t a ≡ true → t a ≡ false → ⊥
+apart t a y n = let z : _≡_ {A = ℕ} 0 1 = cc in omega arith
+
+-- so it is that number, whatever way it was found
+pub lowest-is : (t : ℕ → Bool) (k a : ℕ) → a < k → t a ≡ true → ((p : ℕ) → p < a → t p ≡ false) → a ≡ lowest t 0 k
+lowest-is t k a l e h =
+    let f = lowest-first t 0 k in
+    ⊎-elim
+    (λ d. ⊎-elim (λ c. le-antisymm d c) (λ c. absurd (apart t a e (f .not-before a (omega arith) c))) (split (lowest t 0 k) a))
+    (λ d. absurd (apart t (lowest t 0 k) (f .holds (omega arith)) (h (lowest t 0 k) d)))
+    (split a (lowest t 0 k))
+
+-- the largest of the numbers f p below k
+pub most-upper : (f : ℕ → ℕ) (k p : ℕ) → p < k → f p ≤ most f k
+unfolding most
+most-upper f zero p h = absurd (not-suc-le-zero h)
+most-upper f (suc k) p h =
+    let r = most-upper f k p in
+    ⊎-elim (λ e. omega (arith, ap f e)) (λ n. omega (arith, r (omega (arith, below n)))) (same-or-not p k)
+  where
+    below : (p ≡ k → ⊥) → p < k
+    below n = omega arith
+
+pub most-least : (f : ℕ → ℕ) (k v : ℕ) → ((p : ℕ) → p < k → f p ≤ v) → most f k ≤ v
+unfolding most
+most-least f zero v h = omega arith
+most-least f (suc k) v h = let r = most-least f k v (λ p l. h p (omega arith)) in omega (arith, h k (omega arith))
+
+pub most-attained : (f : ℕ → ℕ) (k : ℕ) → 0 < most f k → (p : ℕ) × (p < k) × (f p ≡ most f k)
+unfolding most
+most-attained f zero h = absurd (not-suc-le-zero h)
+most-attained f (suc k) h = go (most-attained f k) (split (f k) (most f k))
+  where
+    go : (0 < most f k → (p : ℕ) × (p < k) × (f p ≡ most f k)) → (f k ≤ most f k) ⊎ (most f k < f k) → (p : ℕ) × (p < suc k) × (f p ≡ max (most f k) (f k))
+    go rec (inl d) = let r = rec (omega arith) in (r .0, omega (arith, r .1), omega (arith, r .2))
+    go rec (inr d) = (k, omega arith, omega arith)
+
+-- the scan for the largest: a turn that finds a larger one, and a turn that does not
+pub top-none : (f : ℕ → ℕ) → Top f 0 0 0
+top-none f = record { upper = λ p h. absurd (not-suc-le-zero h); attained = λ h. absurd (not-suc-le-zero h); below = λ p h. absurd (not-suc-le-zero h) }
+
+below-or-last : (k p : ℕ) → p < k + 1 → (p < k) ⊎ (p ≡ k)
+below-or-last k p h = ⊎-elim (λ e. inr e) (λ n. inl (⊎-elim (λ d. absurd (n (omega arith))) (λ d. d) (split k p))) (same-or-not p k)
+
+module _ (f : ℕ → ℕ) (k v a : ℕ) (t : Top f k v a) where
+  pub top-more : v < f k → Top f (k + 1) (f k) k
+  top-more h =
+      record {
+        upper = λ p l. ⊎-elim (λ d. omega (arith, t .upper p d)) (λ e. omega (arith, ap f e)) (below-or-last k p l);
+        attained = λ z. (omega arith, refl);
+        below = λ p l. omega (arith, t .upper p l);
+      }
+
+  pub top-same : f k ≤ v → Top f (k + 1) v a
+  top-same h =
+      record {
+        upper = λ p l. ⊎-elim (λ d. t .upper p d) (λ e. omega (arith, ap f e)) (below-or-last k p l);
+        attained = λ z. let u = t .attained z in (omega (arith, u .0), u .1);
+        below = t .below;
+      }
+
+  -- what it has found at the end
+  pub top-most : v ≡ most f k
+  top-most =
+      le-antisymm
+      (⊎-elim (λ d. omega arith) (λ d. let u = t .attained d in omega (arith, u .1, most-upper f k a (u .0))) (split v 0))
+      (most-least f k v (t .upper))
+
+  pub top-lowest : 0 < v → a ≡ lowest (λ p. eqb (f p) (most f k)) 0 k
+  top-lowest z =
+      let u = t .attained z in
+      lowest-is (λ p. eqb (f p) (most f k)) k a (u .0) (eq-eqb _ _ (u .1 ∙ top-most))
+      (λ p l. ne-eqb (f p) (most f k) (λ e. omega (arith, t .below p l, e, top-most)))
+
+-- numbers that are the same have the same largest
+pub top-as : (f h : ℕ → ℕ) (k v a : ℕ) → ((p : ℕ) → p < k → f p ≡ h p) → Top f k v a → Top h k v a
+top-as f h k v a e t =
+    record {
+      upper = λ p l. omega (arith, e p l, t .upper p l);
+      attained = λ z. let u = t .attained z in (u .0, sym (e a (u .0)) ∙ u .1);
+      below = λ p l. let d = t .below p l in let u = t .attained (omega arith) in omega (arith, e p (omega (arith, u .0)));
+    }
+
+-- lists by their first elements and the rest
+length-table : (f : ℕ → ℕ) (i k : ℕ) → length (table f i k) ≡ k
+length-table f i zero = refl
+length-table f i (suc k) = ap suc (length-table f (suc i) k)
+
+getD-table : (f : ℕ → ℕ) (i k p : ℕ) → p < k → getD (table f i k) p 0 ≡ f (i + p)
+getD-table f i zero p l = absurd (not-suc-le-zero l)
+getD-table f i (suc k) zero l = ap f (sym (add-zero i))
+getD-table f i (suc k) (suc p) l = getD-table f (suc i) k p (le-of-suc-le-suc l) ∙ ap f (omega arith)
+
+pub over-is : (f : ℕ → ℕ) (k : ℕ) (l₀ l : List ℕ) → k ≤ length l → ((p : ℕ) → p < k → getD l p 0 ≡ f p) → drop k l ≡ drop k l₀ → l ≡ over f k l₀
+over-is f k l₀ l h e d = sym (take-append-drop k l) ∙ ap₂ (λ (a b : List ℕ). a ++ b) front d
+  where
+    front : take k l ≡ table f 0 k
+    front =
+        ext-getD 0 (take k l) (table f 0 k) (length-take-le k l h ∙ sym (length-table f 0 k))
+        (λ p j. let q : p < k = omega (arith, j, length-take-le k l h) in getD-take k l p 0 q ∙ e p q ∙ sym (getD-table f 0 k p q ∙ ap f (omega arith)))
+
+pub zeros-table : (i k : ℕ) → replicate k 0 ≡ table (λ p. 0) i k
+zeros-table i zero = refl
+zeros-table i (suc k) = ap (λ (l : List ℕ). 0 ∷ l) (zeros-table (suc i) k)

@@ -1,0 +1,203 @@
+-- lvm.c's next words are document 01's, for a word that is not bad: the two classifications of opcodes agree by a computed
+-- test, and then a case of the switch at a time.
+-- Assumes nothing.
+use Prim.Native.Nat.{ℕ, _+_, _*_, _<_, _^_}
+use mathlib.Core.Path.{_≡_, refl, ap, sym, _∙_}
+use mathlib.Core.Logic.{inl, inr, _↔_}
+use mathlib.Core.Bool.{Bool, true, false, true≢false}
+use mathlib.Core.List.{List, [], _∷_}
+use native.Mathlib.Omega.{arith}
+use lib.Dec.{T, ltb, eqb, eqb→eq}
+use lib.Bits.{and-high}
+use lib.IntN.{ℤ, pos, negsuc, _+ℤ_, _-ℤ_, +ℤ-assoc, +ℤ-comm, +ℤ-idr}
+use lib.ListN.{length, getD}
+use borrow.Author.Tests.{ltb-false, eqb-true, eqb-false, eq-eqb, ne-eqb}
+use Rattle.fields.specs.declared.word.RawInstruction54.{RawInstruction54}
+use Rattle.fields.specs.Word.{opcodeOf, kOf, bxOf, sjOf}
+use Rattle.fields.specs.Lopcodes.{«GET_OPCODE», «GETARG_Bx», «GETARG_sJ», «TESTARG_k»}
+use Rattle.fields.specs.Table.{pick, StepClass, following, returning, branching, skipping, skippingIfK, jumping, looping, preparing, entering, invalid, classNumber, classOf}
+use Rattle.fields.proofs.Lopcodes.{agreement}
+use Rattle.runs.specs.declared.edges.Successors.{Successors}
+use Rattle.runs.specs.declared.edges.Successors.the-variants.{One, Two}
+use Rattle.runs.specs.Columns.{classFrom}
+use Rattle.runs.specs.Successors.{unless, one, ordered, two, opcodeAt, nextOf, companionPresent, successorsOf, isInvalid, listOf}
+use Rattle.runs.specs.Lvm.{Body, still, skip, arith as arithmetic, jmp, condjump, testset, call, leave, loop, forprep, tforprep, tforcall, setlist, assert0, absent, waysOf, switch, vmdispatch, placesOf, goesOn, Among, integers, Agreement}
+use Rattle.runs.proofs.Columns.{class-back}
+use Rattle.runs.proofs.Below.{all, all-at}
+
+-- The two classifications.
+
+-- the step class that a body of the switch amounts to
+abbrev classBy : Body → StepClass
+classBy still = following
+classBy skip = skipping
+classBy arithmetic = branching
+classBy jmp = jumping
+classBy condjump = branching
+classBy testset = branching
+classBy call = following
+classBy leave = returning
+classBy loop = looping
+classBy forprep = preparing
+classBy tforprep = entering
+classBy tforcall = following
+classBy setlist = skippingIfK
+classBy assert0 = invalid
+classBy absent = invalid
+
+alike-at : ℕ → Bool
+alike-at o = eqb (classNumber (classOf o)) (classNumber (classBy (vmdispatch switch o)))
+
+alike-below : T (all alike-at 128)
+unfolding alike-at classOf
+alike-below = tt
+
+class-by : (o : ℕ) → o < 128 → classOf o ≡ classBy (vmdispatch switch o)
+unfolding alike-at
+class-by o h =
+    sym (class-back (classOf o))
+    ∙ (ap classFrom (eqb→eq _ _ (all-at alike-at 128 alike-below o h)) ∙ class-back (classBy (vmdispatch switch o)))
+
+-- Sets of next words.
+
+abbrev Same : List ℤ → List ℤ → Type 0
+Same xs ys = (z : ℤ) → Among z xs ↔ Among z ys
+
+swapped : {x y z : ℤ} → Among z (x ∷ y ∷ []) → Among z (y ∷ x ∷ [])
+swapped (inl e) = inr (inl e)
+swapped (inr (inl e)) = inl e
+swapped (inr (inr e)) = absurd e
+
+doubled : {x y z : ℤ} → x ≡ y → Among z (x ∷ y ∷ []) → Among z (x ∷ [])
+doubled d (inl e) = inl e
+doubled d (inr (inl e)) = inl (e ∙ sym d)
+doubled d (inr (inr e)) = absurd e
+
+single : {x y z : ℤ} → Among z (x ∷ []) → Among z (x ∷ y ∷ [])
+single (inl e) = inl e
+single (inr e) = absurd e
+
+itself : (xs : List ℤ) → Same xs xs
+itself xs z = (λ m. m, λ m. m)
+
+-- a test that a word that is not bad has passed
+passed : (t : Bool) (s : Successors) → isInvalid (unless t s) ≡ false → unless t s ≡ s
+unfolding unless
+passed true s e = refl
+passed false s e = absurd (true≢false e)
+
+-- one next word, and two of them, of a word that is not bad
+one-same : (n : ℕ) (x : ℤ) → isInvalid (one n x) ≡ false → integers (listOf (one n x)) ≡ x ∷ []
+unfolding one
+one-same n (pos q) e = ap (λ (s : Successors). integers (listOf s)) (passed (ltb q n) (One q) e)
+one-same n (negsuc q) e = absurd (true≢false e)
+
+ordered-same : (q r : ℕ) → Same (pos q ∷ pos r ∷ []) (integers (listOf (ordered q r)))
+unfolding ordered
+ordered-same q r = go (ltb q r) (ltb r q) refl refl
+  where
+    go : (a b : Bool) → ltb q r ≡ a → ltb r q ≡ b → Same (pos q ∷ pos r ∷ []) (integers (listOf (pick a (Two q r) (pick b (Two r q) (One q)))))
+    go true b d e z = (λ m. m, λ m. m)
+    go false true d e z = (swapped, swapped)
+    go false false d e z =
+        let equal : pos q ≡ pos r = ap pos (omega (arith, ltb-false q r d, ltb-false r q e)) in
+        (doubled equal, single)
+
+two-same : (n : ℕ) (x y : ℤ) → isInvalid (two n x y) ≡ false → Same (x ∷ y ∷ []) (integers (listOf (two n x y)))
+unfolding two
+two-same n (pos q) (pos r) e =
+    let first = passed (ltb q n) (unless (ltb r n) (ordered q r)) e in
+    rw (first, passed (ltb r n) (ordered q r) (sym (ap isInvalid first) ∙ e)) (ordered-same q r)
+two-same n (pos q) (negsuc r) e = absurd (true≢false e)
+two-same n (negsuc q) y e = absurd (true≢false e)
+
+-- A word's fields, by the header's macros.
+module _ (w : ℕ) (fits : w < 2 ^ 32) where
+  opcode-is : «GET_OPCODE» w ≡ opcodeOf w
+  opcode-is = ap (λ (i : RawInstruction54). i .«opcode_num») (agreement w fits)
+
+  bx-is : «GETARG_Bx» w ≡ bxOf w
+  bx-is = ap (λ (i : RawInstruction54). i .bx) (agreement w fits)
+
+  sj-is : «GETARG_sJ» w ≡ sjOf w
+  sj-is = ap (λ (i : RawInstruction54). i .sj) (agreement w fits)
+
+test-is : (w : ℕ) → «TESTARG_k» w ≡ kOf w * 2 ^ 15
+test-is w = and-high w 1 15
+
+k-set : (w : ℕ) → kOf w ≡ 1 → eqb («TESTARG_k» w) 0 ≡ false
+k-set w e = ne-eqb («TESTARG_k» w) 0 (λ d. omega (arith, test-is w))
+
+k-clear : (w : ℕ) → (kOf w ≡ 1 → ⊥) → eqb («TESTARG_k» w) 0 ≡ true
+k-clear w e = eq-eqb («TESTARG_k» w) 0 (omega (arith, test-is w))
+
+-- A case of the switch at a time.
+module _ (n : ℕ) where
+  one-by : (x y : ℤ) → x ≡ y → isInvalid (one n y) ≡ false → Same (x ∷ []) (integers (listOf (one n y)))
+  one-by x y d e = rw (one-same n y e, d) (itself (y ∷ []))
+
+  two-by : (x y x' y' : ℤ) → x ≡ x' → y ≡ y' → isInvalid (two n x' y') ≡ false → Same (x ∷ y ∷ []) (integers (listOf (two n x' y')))
+  two-by x y x' y' c d e = rw (c, d) (two-same n x' y' e)
+
+  -- the C's order is the other one
+  two-back : (x y x' y' : ℤ) → x ≡ x' → y ≡ y' → isInvalid (two n x' y') ≡ false → Same (y ∷ x ∷ []) (integers (listOf (two n x' y')))
+  two-back x y x' y' c d e z =
+      let both = two-by x y x' y' c d e z in
+      (λ m. both .0 (swapped m), λ m. swapped (both .1 m))
+
+module _ (n w p : ℕ) (fits : w < 2 ^ 32) where
+  list-same : (t : Bool) → eqb (kOf w) 1 ≡ t
+      → isInvalid (pick t (one n (pos (p + 2))) (one n (pos (p + 1)))) ≡ false
+      → Same (placesOf (waysOf setlist (pos (p + 1)) w)) (integers (listOf (pick t (one n (pos (p + 2))) (one n (pos (p + 1))))))
+  list-same true d e = rw (k-set w (eqb-true _ _ d)) (one-by n _ (pos (p + 2)) (ap pos (omega arith)) e)
+  list-same false d e = rw (k-clear w (eqb-false _ _ d)) (one-by n _ (pos (p + 1)) refl e)
+
+  body-same : (b : Body) → isInvalid (nextOf (classBy b) n w p) ≡ false
+      → Same (placesOf (waysOf b (pos (p + 1)) w)) (integers (listOf (nextOf (classBy b) n w p)))
+  body-same still e = one-by n _ (pos (p + 1)) refl e
+  body-same skip e = one-by n _ (pos (p + 2)) (ap pos (omega arith)) e
+  body-same arithmetic e = two-back n (pos (p + 1)) _ (pos (p + 1)) (pos (p + 2)) refl (ap pos (omega arith)) e
+  body-same jmp e = one-by n _ (pos (p + 1) +ℤ sjOf w) (ap (pos (p + 1) +ℤ_) (+ℤ-idr («GETARG_sJ» w) ∙ sj-is w fits)) e
+  body-same condjump e = two-back n (pos (p + 1)) _ (pos (p + 1)) (pos (p + 2)) refl (ap pos (omega arith)) e
+  body-same testset e = two-back n (pos (p + 1)) _ (pos (p + 1)) (pos (p + 2)) refl (ap pos (omega arith)) e
+  body-same call e = one-by n _ (pos (p + 1)) refl e
+  body-same leave e = itself []
+  body-same loop e =
+      two-by n _ _ (pos (p + 1) -ℤ pos (bxOf w)) (pos (p + 1)) (ap (λ (b : ℕ). pos (p + 1) -ℤ pos b) (bx-is w fits)) refl e
+  body-same forprep e =
+      two-back n _ _ (pos (p + 1)) (pos (p + 2 + bxOf w)) refl (ap pos (omega (arith, bx-is w fits))) e
+  body-same tforprep e = one-by n _ (pos (p + 1 + bxOf w)) (ap pos (omega (arith, bx-is w fits))) e
+  body-same tforcall e = one-by n _ (pos (p + 1)) refl e
+  body-same setlist e = list-same (eqb (kOf w) 1) refl e
+  body-same assert0 e = absurd (true≢false e)
+  body-same absent e = absurd (true≢false e)
+
+  found-same : (b : Body) (s : Successors) (places : List ℤ) → places ≡ placesOf (waysOf b (pos (p + 1)) w)
+      → s ≡ nextOf (classBy b) n w p → isInvalid s ≡ false → Same places (integers (listOf s))
+  found-same b s places d c e = rw (d, c) (body-same b (sym (ap isInvalid c) ∙ e))
+
+-- the steps of a word that is not bad are those of its class
+steps-by : (ws : List ℕ) (p : ℕ) → isInvalid (successorsOf ws p) ≡ false
+    → successorsOf ws p ≡ nextOf (classOf (opcodeAt ws p)) (length ws) (getD ws p 0) p
+unfolding successorsOf
+steps-by ws p e =
+    let steps : Successors = nextOf (classOf (opcodeAt ws p)) (length ws) (getD ws p 0) p in
+    let first = passed (ltb p (length ws)) (unless (companionPresent ws p) steps) e in
+    first ∙ passed (companionPresent ws p) steps (sym (ap isInvalid first) ∙ e)
+
+same : (ws : List ℕ) (p : ℕ) → getD ws p 0 < 2 ^ 32 → isInvalid (successorsOf ws p) ≡ false
+    → Same (goesOn ws p) (integers (listOf (successorsOf ws p)))
+unfolding goesOn opcodeAt
+same ws p fits e =
+    found-same (length ws) (getD ws p 0) p fits (vmdispatch switch (opcodeOf (getD ws p 0))) (successorsOf ws p) (goesOn ws p)
+    (ap (λ (o : ℕ). placesOf (waysOf (vmdispatch switch o) (pos (p + 1)) (getD ws p 0))) (opcode-is (getD ws p 0) fits))
+    (steps-by ws p e
+    ∙ ap (λ (x : StepClass). nextOf x (length ws) (getD ws p 0) p) (class-by (opcodeOf (getD ws p 0)) (omega arith)))
+    e
+
+one-later : (p : ℕ) (j : ℤ) → pos p +ℤ (j +ℤ pos 1) ≡ pos (p + 1) +ℤ (j +ℤ pos 0)
+one-later p j =
+    ap (pos p +ℤ_) (+ℤ-comm j (pos 1)) ∙ (sym (+ℤ-assoc (pos p) (pos 1) j) ∙ ap (pos (p + 1) +ℤ_) (sym (+ℤ-idr j)))
+
+pub agreement-holds : Agreement
+agreement-holds = record { same = same; alike = λ p i. one-later p («GETARG_sJ» i) }

@@ -1,0 +1,82 @@
+-- Which check answers where, and what the slices then hold. Assumes nothing.
+use mathlib.Core.Path.{_≡_, refl, sym, ap, subst, _∙_}
+use mathlib.Core.Bool.{Bool, true, false, cond, _||_}
+use mathlib.Core.List.{List, _++_}
+use Prim.Native.Nat.{ℕ, _≤_, _<_}
+use native.Mathlib.Omega.{arith}
+use borrow.Author.Tests.{lt-ltb, le-ltb, eq-eqb, ne-eqb}
+use lib.Dec.{ltb, eqb}
+use lib.ListN.{length, drop, replicate}
+use Rattle.runs.specs.declared.longest.Run.{Run}
+use Rattle.runs.specs.declared.longest.Run.the-variants.{Accepted, Refused}
+use Rattle.runs.specs.Marks.{markOf}
+use Rattle.runs.specs.Longest.{lengthOf, longest, first}
+use Rattle.runs.specs.Instance.{graphOf, unitWeight}
+use Rattle.runs.specs.Run.{mostWords, lowestInvalid, refuse, runOf, untouched, over, marksAfter, lengthsAfter}
+use Rattle.runs.specs.Invariants.{Lent}
+use Rattle.runs.proofs.Lists.{zeros-table}
+
+or-right : (b : Bool) → (b || true) ≡ true
+or-right true = refl
+or-right false = refl
+
+-- the checks before any word is read
+module _ (ws : List ℕ) (a b : ℕ) where
+  pub run-1 : mostWords < length ws → runOf ws a b ≡ Refused 1 0
+  unfolding runOf
+  run-1 h = simp (lt-ltb mostWords (length ws) h)
+
+  module _ (few : length ws ≤ mostWords) where
+    pub run-6-marks : a < length ws → runOf ws a b ≡ Refused 6 0
+    unfolding runOf
+    run-6-marks h = simp (le-ltb mostWords (length ws) few, lt-ltb a (length ws) h)
+
+    pub run-6-lengths : b < length ws → runOf ws a b ≡ Refused 6 0
+    unfolding runOf
+    run-6-lengths h = simp (le-ltb mostWords (length ws) few, lt-ltb b (length ws) h, or-right (ltb a (length ws)))
+
+    pub run-7 : length ws ≤ a → length ws ≤ b → length ws ≡ 0 → runOf ws a b ≡ Refused 7 0
+    unfolding runOf
+    run-7 h k z = simp (le-ltb mostWords (length ws) few, le-ltb a (length ws) h, le-ltb b (length ws) k, eq-eqb (length ws) 0 z)
+
+    -- the checks after the search
+    module _ (h : length ws ≤ a) (k : length ws ≤ b) (some : 0 < length ws) where
+      pub run-words : runOf ws a b ≡ refuse (ltb (lowestInvalid ws) (length ws)) 8 (lowestInvalid ws) (refuse (ltb mostWords (longest (graphOf ws) unitWeight)) 9 0 (Accepted (longest (graphOf ws) unitWeight) (first (graphOf ws) unitWeight)))
+      unfolding runOf
+      run-words = simp (le-ltb mostWords (length ws) few, le-ltb a (length ws) h, le-ltb b (length ws) k, ne-eqb (length ws) 0 (λ z. omega arith))
+
+module _ (ws m l : List ℕ) where
+  -- what `longest_run` promises
+  abbrev pub Outcome : Run → List ℕ → List ℕ → Type 0
+  Outcome r m′ l′ = (r ≡ runOf ws (length m) (length l)) × ((m′ ≡ marksAfter ws m l) × (l′ ≡ lengthsAfter ws m l))
+
+  pub outcome-kept : (number : ℕ) → runOf ws (length m) (length l) ≡ Refused number 0 → untouched number ≡ true → Outcome (Refused number 0) m l
+  unfolding marksAfter lengthsAfter
+  outcome-kept number e u = (sym e, (simp (e, u), simp (e, u)))
+
+  module _ (lent : Lent (length ws) m l) where
+    run-is : runOf ws (length m) (length l) ≡ refuse (ltb (lowestInvalid ws) (length ws)) 8 (lowestInvalid ws) (refuse (ltb mostWords (longest (graphOf ws) unitWeight)) 9 0 (Accepted (longest (graphOf ws) unitWeight) (first (graphOf ws) unitWeight)))
+    run-is = run-words ws (length m) (length l) (lent .few) (lent .m-long) (lent .l-long) (lent .some)
+
+    module _ {m′ l′ : List ℕ} (marks : m′ ≡ over (markOf (graphOf ws)) (length ws) m) where
+      zeros : l′ ≡ replicate (length ws) 0 ++ drop (length ws) l → l′ ≡ over (λ p. 0) (length ws) l
+      zeros e = e ∙ ap (λ (x : List ℕ). x ++ drop (length ws) l) (zeros-table 0 (length ws))
+
+      pub outcome-8 : {p : ℕ} → p ≡ lowestInvalid ws → p < length ws → l′ ≡ replicate (length ws) 0 ++ drop (length ws) l → Outcome (Refused 8 p) m′ l′
+      unfolding marksAfter lengthsAfter
+      outcome-8 {p} q h e =
+          let r : runOf ws (length m) (length l) ≡ Refused 8 p = run-is ∙ simp (← q, lt-ltb p (length ws) h) in
+          (sym r, (simp r marks, simp r (zeros e)))
+
+      module _ (valid : length ws ≤ lowestInvalid ws) where
+        pub outcome-9 : mostWords < longest (graphOf ws) unitWeight → l′ ≡ replicate (length ws) 0 ++ drop (length ws) l → Outcome (Refused 9 0) m′ l′
+        unfolding marksAfter lengthsAfter
+        outcome-9 h e =
+            let r : runOf ws (length m) (length l) ≡ Refused 9 0 = run-is ∙ simp (le-ltb _ _ valid, lt-ltb _ _ h) in
+            (sym r, (simp r marks, simp r (zeros e)))
+
+        pub outcome-0 : {v a : ℕ} → v ≡ longest (graphOf ws) unitWeight → a ≡ first (graphOf ws) unitWeight → v ≤ mostWords → l′ ≡ over (lengthOf (graphOf ws) unitWeight) (length ws) l → Outcome (Accepted v a) m′ l′
+        unfolding marksAfter lengthsAfter
+        outcome-0 {v} {a} q f h e =
+            let r : runOf ws (length m) (length l) ≡ Accepted v a = run-is ∙ simp (le-ltb _ _ valid, ← q, ← f, le-ltb mostWords v h) in
+            (sym r, (simp r marks, simp r e))

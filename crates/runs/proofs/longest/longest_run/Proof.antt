@@ -1,0 +1,40 @@
+use mathlib.Core.Path.{_≡_, refl}
+use Prim.Native.Nat.{ℕ, _<_}
+use native.Mathlib.Omega.{arith}
+use borrow.Author.Needs.{needs}
+use Rattle.runs.proofs.Outcome.{run-1, run-6-marks, run-6-lengths, run-7, outcome-kept}
+use Rattle.runs.proofs.longest.longest_run.Statement.{statement}
+use Rattle.runs.proofs.longest.longest_run.Tie as tie
+
+returns : tie.Need-returns
+returns c = outcome-kept _ _ _ 1 (run-1 _ _ _ (c .if1 .taken)) refl
+
+returns-2 : tie.Need-returns-2
+returns-2 c = outcome-kept _ _ _ 6 (run-6-marks _ _ _ (c .before .if1 .left) (c .if2 .taken)) refl
+
+returns-3 : tie.Need-returns-3
+returns-3 c = outcome-kept _ _ _ 6 (run-6-lengths _ _ _ (c .before .before .if1 .left) (c .if3 .taken)) refl
+
+returns-4 : tie.Need-returns-4
+returns-4 c = outcome-kept _ _ _ 7 (run-7 _ _ _ (c .before .before .before .if1 .left) (c .before .before .if2 .left) (c .before .if3 .left) (c .if4 .taken)) refl
+
+run-of-words-requires : tie.Need-run-of-words-requires
+run-of-words-requires c κs =
+    let d = c .before .before in
+    record { some = above (d .if4 .left); few = d .before .before .before .if1 .left; m-long = d .before .before .if2 .left; l-long = d .before .if3 .left }
+  where
+    above : {n : ℕ} → (n ≡ 0 → ⊥) → 0 < n
+    above {n} z = omega arith
+
+pub longest-run-spec : {M : Type 1} → statement M
+longest-run-spec =
+    tie.close
+    (tie.spec
+    returns
+    returns-2
+    returns-3
+    returns-4
+    run-of-words-requires
+    (λ c. search needs)
+    (λ c. search needs)
+    (λ c. c .before .before .before .before .run-of-words .ensures))

@@ -1,0 +1,23 @@
+-- `runs::packed::both` meets its contract by the computed test of all bytes.
+-- Assumes nothing.
+use Prim.Native.Nat.{_%_}
+use native.Mathlib.Nat.{div-one}
+use native.Mathlib.Omega.{arith}
+use Rattle.runs.proofs.Bytes.{byte-of}
+use borrow.Author.Needs.{needs}
+use Rattle.runs.proofs.packed.both.Statement.{statement}
+use Rattle.runs.proofs.packed.both.Tie as tie
+
+returns : tie.Need-returns
+returns c = rw (c .eight .ensures, div-one) (byte-of (c .before .args .word % 128) (omega arith))
+
+pub both-spec : {M : Type 1} → statement M
+both-spec =
+    tie.close
+    (tie.spec
+    (λ c κs. search needs)
+    (λ c. search needs)
+    (λ c. search needs)
+    (λ c. search needs)
+    (λ c. search needs)
+    returns)

@@ -1,0 +1,211 @@
+-- lvm.c of Lua 5.4: where luaV_execute goes on after a word, in the C's own shape: pc after the fetch, then as each case of the
+-- switch moves it. What a case tests of values may come out either way, so both arms are given; errors and a coroutine's
+-- yield inside a word are left out (docs/DIFFERENCES.md has the yields). `Agreement` says that for a word that is not bad
+-- these are the next words of document 01's table of steps.
+-- Assumes nothing.
+use Prim.Native.Nat.{ℕ, _+_, _<_, _^_}
+use mathlib.Core.Path.{_≡_}
+use mathlib.Core.Logic.{_⊎_, _↔_}
+use mathlib.Core.Bool.{false}
+use mathlib.Core.List.{List, [], _∷_}
+use lib.Dec.{eqb}
+use lib.IntN.{ℤ, pos, _+ℤ_, _-ℤ_}
+use lib.ListN.{getD}
+use Rattle.fields.specs.Opcodes.{«OP_MOVE», «OP_LOADI», «OP_LOADF», «OP_LOADK», «OP_LOADKX», «OP_LOADFALSE», «OP_LFALSESKIP», «OP_LOADTRUE», «OP_LOADNIL», «OP_GETUPVAL», «OP_SETUPVAL», «OP_GETTABUP», «OP_GETTABLE», «OP_GETI», «OP_GETFIELD», «OP_SETTABUP», «OP_SETTABLE», «OP_SETI», «OP_SETFIELD», «OP_NEWTABLE», «OP_SELF», «OP_ADDI», «OP_ADDK», «OP_SUBK», «OP_MULK», «OP_MODK», «OP_POWK», «OP_DIVK», «OP_IDIVK», «OP_BANDK», «OP_BORK», «OP_BXORK», «OP_SHRI», «OP_SHLI», «OP_ADD», «OP_SUB», «OP_MUL», «OP_MOD», «OP_POW», «OP_DIV», «OP_IDIV», «OP_BAND», «OP_BOR», «OP_BXOR», «OP_SHR», «OP_SHL», «OP_MMBIN», «OP_MMBINI», «OP_MMBINK», «OP_UNM», «OP_BNOT», «OP_NOT», «OP_LEN», «OP_CONCAT», «OP_CLOSE», «OP_TBC», «OP_JMP», «OP_EQ», «OP_LT», «OP_LE», «OP_EQK», «OP_EQI», «OP_LTI», «OP_LEI», «OP_GTI», «OP_GEI», «OP_TEST», «OP_TESTSET», «OP_CALL», «OP_TAILCALL», «OP_RETURN», «OP_RETURN0», «OP_RETURN1», «OP_FORLOOP», «OP_FORPREP», «OP_TFORPREP», «OP_TFORCALL», «OP_TFORLOOP», «OP_SETLIST», «OP_CLOSURE», «OP_VARARG», «OP_VARARGPREP», «OP_EXTRAARG»}
+use Rattle.fields.specs.Lopcodes.{«GET_OPCODE», «GETARG_Bx», «GETARG_sJ», «TESTARG_k»}
+use Rattle.fields.specs.Table.{pick}
+use Rattle.runs.specs.Successors.{successorsOf, isInvalid, listOf}
+
+-- how a case goes on
+pub data Way : Type 0 where
+  -- `vmbreak`: the loop fetches the word at pc
+  fetch : ℤ → Way
+  -- the word at pc is executed without being fetched anew, which document 01 takes for a step of its own
+  along : ℤ → Way
+
+-- #define dojump(ci,i,e)  { pc += GETARG_sJ(i) + e; .. }
+abbrev pub dojump : ℤ → ℕ → ℤ → ℤ
+dojump pc i e = pc +ℤ («GETARG_sJ» i +ℤ e)
+
+-- #define donextjump(ci)  { Instruction ni = *pc; dojump(ci, ni, 1); }
+abbrev pub donextjump : ℤ → Way
+donextjump pc = along pc
+
+-- #define docondjump()  if (cond != GETARG_k(i)) pc++; else donextjump(ci);
+abbrev pub docondjump : ℤ → List Way
+docondjump pc = fetch (pc +ℤ pos 1) ∷ donextjump pc ∷ []
+
+-- what the cases of the switch do to pc
+pub data Body : Type 0 where
+  -- nothing
+  still : Body
+  -- pc++, over an extra argument or the next word
+  skip : Body
+  -- op_arithI, op_arithK, op_arithfK, op_bitwiseK, op_arith, op_arithf, op_bitwise and their like: pc++ where the operands
+  -- are numbers, else on to the metamethod word
+  arith : Body
+  -- dojump(ci, i, 0)
+  jmp : Body
+  -- docondjump(), also at the end of op_order and op_orderI
+  condjump : Body
+  -- if (..) pc++; else { ..; donextjump(ci); }
+  testset : Body
+  -- luaD_precall, for a C function here, for a Lua function by `goto startfunc`, which `returning` ends at the saved pc
+  call : Body
+  -- goto ret, or for a tail call of a Lua function goto startfunc
+  leave : Body
+  -- pc -= GETARG_Bx(i) while the loop lasts
+  loop : Body
+  -- if (forprep(L, ra)) pc += GETARG_Bx(i) + 1;
+  forprep : Body
+  -- pc += GETARG_Bx(i); i = *(pc++); goto l_tforcall;
+  tforprep : Body
+  -- i = *(pc++); goto l_tforloop;
+  tforcall : Body
+  -- if (TESTARG_k(i)) { ..; pc++; }
+  setlist : Body
+  -- lua_assert(0)
+  assert0 : Body
+  -- the switch has no such case, and no default
+  absent : Body
+
+abbrev pub waysOf : Body → ℤ → ℕ → List Way
+waysOf still pc i = fetch pc ∷ []
+waysOf skip pc i = fetch (pc +ℤ pos 1) ∷ []
+waysOf arith pc i = fetch (pc +ℤ pos 1) ∷ fetch pc ∷ []
+waysOf jmp pc i = fetch (dojump pc i (pos 0)) ∷ []
+waysOf condjump pc i = docondjump pc
+waysOf testset pc i = fetch (pc +ℤ pos 1) ∷ donextjump pc ∷ []
+waysOf call pc i = fetch pc ∷ []
+waysOf leave pc i = []
+waysOf loop pc i = fetch (pc -ℤ pos («GETARG_Bx» i)) ∷ fetch pc ∷ []
+waysOf forprep pc i = fetch (pc +ℤ (pos («GETARG_Bx» i) +ℤ pos 1)) ∷ fetch pc ∷ []
+waysOf tforprep pc i = along (pc +ℤ pos («GETARG_Bx» i)) ∷ []
+waysOf tforcall pc i = along pc ∷ []
+waysOf setlist pc i = pick (eqb («TESTARG_k» i) 0) (fetch pc ∷ []) (fetch (pc +ℤ pos 1) ∷ [])
+waysOf assert0 pc i = fetch pc ∷ []
+waysOf absent pc i = fetch pc ∷ []
+
+pub data Case : Type 0 where
+  vmcase : ℕ → Body → Case
+
+-- the cases, in the C's order
+abbrev pub switch : List Case
+switch =
+    vmcase «OP_MOVE» still
+    ∷ vmcase «OP_LOADI» still
+    ∷ vmcase «OP_LOADF» still
+    ∷ vmcase «OP_LOADK» still
+    ∷ vmcase «OP_LOADKX» skip
+    ∷ vmcase «OP_LOADFALSE» still
+    ∷ vmcase «OP_LFALSESKIP» skip
+    ∷ vmcase «OP_LOADTRUE» still
+    ∷ vmcase «OP_LOADNIL» still
+    ∷ vmcase «OP_GETUPVAL» still
+    ∷ vmcase «OP_SETUPVAL» still
+    ∷ vmcase «OP_GETTABUP» still
+    ∷ vmcase «OP_GETTABLE» still
+    ∷ vmcase «OP_GETI» still
+    ∷ vmcase «OP_GETFIELD» still
+    ∷ vmcase «OP_SETTABUP» still
+    ∷ vmcase «OP_SETTABLE» still
+    ∷ vmcase «OP_SETI» still
+    ∷ vmcase «OP_SETFIELD» still
+    ∷ vmcase «OP_NEWTABLE» skip
+    ∷ vmcase «OP_SELF» still
+    ∷ vmcase «OP_ADDI» arith
+    ∷ vmcase «OP_ADDK» arith
+    ∷ vmcase «OP_SUBK» arith
+    ∷ vmcase «OP_MULK» arith
+    ∷ vmcase «OP_MODK» arith
+    ∷ vmcase «OP_POWK» arith
+    ∷ vmcase «OP_DIVK» arith
+    ∷ vmcase «OP_IDIVK» arith
+    ∷ vmcase «OP_BANDK» arith
+    ∷ vmcase «OP_BORK» arith
+    ∷ vmcase «OP_BXORK» arith
+    ∷ vmcase «OP_SHRI» arith
+    ∷ vmcase «OP_SHLI» arith
+    ∷ vmcase «OP_ADD» arith
+    ∷ vmcase «OP_SUB» arith
+    ∷ vmcase «OP_MUL» arith
+    ∷ vmcase «OP_MOD» arith
+    ∷ vmcase «OP_POW» arith
+    ∷ vmcase «OP_DIV» arith
+    ∷ vmcase «OP_IDIV» arith
+    ∷ vmcase «OP_BAND» arith
+    ∷ vmcase «OP_BOR» arith
+    ∷ vmcase «OP_BXOR» arith
+    ∷ vmcase «OP_SHR» arith
+    ∷ vmcase «OP_SHL» arith
+    ∷ vmcase «OP_MMBIN» still
+    ∷ vmcase «OP_MMBINI» still
+    ∷ vmcase «OP_MMBINK» still
+    ∷ vmcase «OP_UNM» still
+    ∷ vmcase «OP_BNOT» still
+    ∷ vmcase «OP_NOT» still
+    ∷ vmcase «OP_LEN» still
+    ∷ vmcase «OP_CONCAT» still
+    ∷ vmcase «OP_CLOSE» still
+    ∷ vmcase «OP_TBC» still
+    ∷ vmcase «OP_JMP» jmp
+    ∷ vmcase «OP_EQ» condjump
+    ∷ vmcase «OP_LT» condjump
+    ∷ vmcase «OP_LE» condjump
+    ∷ vmcase «OP_EQK» condjump
+    ∷ vmcase «OP_EQI» condjump
+    ∷ vmcase «OP_LTI» condjump
+    ∷ vmcase «OP_LEI» condjump
+    ∷ vmcase «OP_GTI» condjump
+    ∷ vmcase «OP_GEI» condjump
+    ∷ vmcase «OP_TEST» condjump
+    ∷ vmcase «OP_TESTSET» testset
+    ∷ vmcase «OP_CALL» call
+    ∷ vmcase «OP_TAILCALL» leave
+    ∷ vmcase «OP_RETURN» leave
+    ∷ vmcase «OP_RETURN0» leave
+    ∷ vmcase «OP_RETURN1» leave
+    ∷ vmcase «OP_FORLOOP» loop
+    ∷ vmcase «OP_FORPREP» forprep
+    ∷ vmcase «OP_TFORPREP» tforprep
+    ∷ vmcase «OP_TFORCALL» tforcall
+    ∷ vmcase «OP_TFORLOOP» loop
+    ∷ vmcase «OP_SETLIST» setlist
+    ∷ vmcase «OP_CLOSURE» still
+    ∷ vmcase «OP_VARARG» still
+    ∷ vmcase «OP_VARARGPREP» still
+    ∷ vmcase «OP_EXTRAARG» assert0
+    ∷ []
+
+abbrev pub vmdispatch : List Case → ℕ → Body
+vmdispatch [] o = absent
+vmdispatch (vmcase opcode body ∷ cases) o = pick (eqb o opcode) body (vmdispatch cases o)
+
+-- the word that is executed next
+abbrev pub placeOf : Way → ℤ
+placeOf (fetch pc) = pc
+placeOf (along pc) = pc
+
+abbrev pub placesOf : List Way → List ℤ
+placesOf [] = []
+placesOf (way ∷ ways) = placeOf way ∷ placesOf ways
+
+-- the words at which luaV_execute can go on after word p, `i = *(pc++)`
+unfoldable pub goesOn : List ℕ → ℕ → List ℤ
+goesOn ws p = placesOf (waysOf (vmdispatch switch («GET_OPCODE» (getD ws p 0))) (pos (p + 1)) (getD ws p 0))
+
+abbrev pub Among : ℤ → List ℤ → Type 0
+Among z [] = ⊥
+Among z (x ∷ xs) = (z ≡ x) ⊎ Among z xs
+
+abbrev pub integers : List ℕ → List ℤ
+integers [] = []
+integers (q ∷ qs) = pos q ∷ integers qs
+
+pub record Agreement : Type 0 where
+  -- "for a word that is not bad, the set of next words is the same"
+  pub same :
+      (ws : List ℕ) (p : ℕ) → getD ws p 0 < 2 ^ 32 → isInvalid (successorsOf ws p) ≡ false →
+      (z : ℤ) → Among z (goesOn ws p) ↔ Among z (integers (listOf (successorsOf ws p)))
+  -- a JMP that a test takes along, pc at it, moves pc to where its own case, pc past it, would
+  pub alike : (p i : ℕ) → dojump (pos p) i (pos 1) ≡ dojump (pos (p + 1)) i (pos 0)

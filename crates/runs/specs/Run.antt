@@ -1,0 +1,89 @@
+-- The whole outcome of `longest_run`: its answer and the two lent slices, refusals included.
+-- Assumes nothing.
+use mathlib.Core.Bool.{Bool, cond, not, _&&_, _||_}
+use mathlib.Core.List.{List, [], _∷_, _++_}
+use Prim.Native.Nat.{ℕ, zero, suc}
+use lib.Dec.{ltb, eqb}
+use lib.ListN.{length, drop}
+use Rattle.runs.specs.declared.longest.Run.{Run}
+use Rattle.runs.specs.declared.longest.Run.the-variants.{Accepted, Refused}
+use Rattle.runs.specs.Marks.{markOf}
+use Rattle.runs.specs.Longest.{lengthOf, lowest, longest, first}
+use Rattle.runs.specs.Successors.{successorsOf, isInvalid}
+use Rattle.runs.specs.Instance.{graphOf, unitWeight}
+
+-- "Each answer carries its number, 0 when accepted, and a place, 0 unless named. On refusal L and its first word are 0."
+abbrev pub numberOf : Run → ℕ
+numberOf (Accepted l f) = 0
+numberOf (Refused k p) = k
+
+abbrev pub placeOf : Run → ℕ
+placeOf (Accepted l f) = 0
+placeOf (Refused k p) = p
+
+-- L
+abbrev pub longestOf : Run → ℕ
+longestOf (Accepted l f) = l
+longestOf (Refused k p) = 0
+
+abbrev pub firstOf : Run → ℕ
+firstOf (Accepted l f) = f
+firstOf (Refused k p) = 0
+
+-- "32,769 words (32,768 pass)"
+abbrev pub mostWords : ℕ
+mostWords = 32768
+
+-- "a reachable bad word"
+abbrev pub reachesInvalid : List ℕ → ℕ → Bool
+reachesInvalid ws p = eqb (markOf (graphOf ws) p) 1 && isInvalid (successorsOf ws p)
+
+-- "place: the lowest"; n if there is none
+unfoldable pub lowestInvalid : List ℕ → ℕ
+lowestInvalid ws = lowest (reachesInvalid ws) 0 (length ws)
+
+-- where the test holds, a refusal with its number and place; else what the later checks say
+abbrev pub refuse : Bool → ℕ → ℕ → Run → Run
+refuse t number place later = cond t (Refused number place) later
+
+-- "Checks run in this order": of the words and of the lengths of the marks slice and the lengths slice
+unfoldable pub runOf : List ℕ → ℕ → ℕ → Run
+runOf ws marks lengths =
+    -- "more than 32,768 words"
+    refuse (ltb mostWords (length ws)) 1 0
+    -- "a lent result slice shorter than the words"
+    (refuse (ltb marks (length ws) || ltb lengths (length ws)) 6 0
+    -- "no words"
+    (refuse (eqb (length ws) 0) 7 0
+    -- "a reachable bad word; place: the lowest"
+    (refuse (ltb (lowestInvalid ws) (length ws)) 8 (lowestInvalid ws)
+    -- "L over 32,768"
+    (refuse (ltb mostWords (longest (graphOf ws) unitWeight)) 9 0
+    (Accepted (longest (graphOf ws) unitWeight) (first (graphOf ws) unitWeight))))))
+
+-- f i, f (i + 1), .. : k of them
+abbrev pub table : (ℕ → ℕ) → ℕ → ℕ → List ℕ
+table f i zero = []
+table f i (suc k) = f i ∷ table f (suc i) k
+
+-- a slice whose first n elements are those of f. "Elements past n are untouched"
+abbrev pub over : (ℕ → ℕ) → ℕ → List ℕ → List ℕ
+over f n l = table f 0 n ++ drop n l
+
+-- "Nothing lent is altered, except that 8 and 9 leave the reachable marks and n zero lengths." 0 is acceptance
+abbrev pub untouched : ℕ → Bool
+untouched number = not (eqb number 0 || eqb number 8 || eqb number 9)
+
+module _ (ws marks lengths : List ℕ) where
+  abbrev pub numberIs : ℕ
+  numberIs = numberOf (runOf ws (length marks) (length lengths))
+
+  -- the marks slice after the run
+  unfoldable pub marksAfter : List ℕ
+  marksAfter = cond (untouched numberIs) marks (over (markOf (graphOf ws)) (length ws) marks)
+
+  -- the lengths slice after the run
+  unfoldable pub lengthsAfter : List ℕ
+  lengthsAfter =
+      cond (untouched numberIs) lengths
+      (cond (eqb numberIs 0) (over (lengthOf (graphOf ws) unitWeight) (length ws) lengths) (over (λ p. 0) (length ws) lengths))

@@ -1,0 +1,121 @@
+-- Document 01, "Steps": the successors of word p of the words ws, and which of the steps serve.
+-- Assumes nothing.
+use Prim.Native.Nat.{ℕ, _+_, _-_}
+use mathlib.Core.Bool.{Bool, true, false, _&&_, _||_}
+use mathlib.Core.List.{List, [], _∷_}
+use lib.Dec.{ltb, leb, eqb}
+use lib.IntN.{ℤ, pos, negsuc, _+ℤ_, _-ℤ_}
+use lib.ListN.{length, getD}
+use Rattle.fields.specs.Opcodes.{«OP_ADDI», «OP_SHR», «OP_MMBIN», «OP_MMBINK», «OP_JMP», «OP_CALL», «OP_TFORCALL», «OP_TFORLOOP», «OP_EXTRAARG»}
+use Rattle.fields.specs.Word.{opcodeOf, kOf, bxOf, sjOf}
+use Rattle.fields.specs.Table.{pick, StepClass, following, returning, branching, skipping, skippingIfK, jumping, looping, preparing, entering, invalid, classOf, Companion, alone, metamethodAfter, arithmeticBefore, jumpAfter, extraAfter, extraAfterIfK, callAtTarget, loopAfter, companionOf}
+use Rattle.runs.specs.declared.edges.Successors.{Successors}
+use Rattle.runs.specs.declared.edges.Successors.the-variants.{Invalid, Stop, One, Two}
+
+-- "bad unless"
+unfoldable pub unless : Bool → Successors → Successors
+unless t s = pick t s Invalid
+
+-- one next word: "a word is also bad if a next word is below 0, or n or more"
+unfoldable pub one : ℕ → ℤ → Successors
+one n (pos q) = unless (ltb q n) (One q)
+one n (negsuc q) = Invalid
+
+-- "two equal steps are one; steps are given lower first"
+unfoldable pub ordered : ℕ → ℕ → Successors
+ordered q r = pick (ltb q r) (Two q r) (pick (ltb r q) (Two r q) (One q))
+
+-- two next words, each below 0 or n or more making the word bad
+unfoldable pub two : ℕ → ℤ → ℤ → Successors
+two n (pos q) (pos r) = unless (ltb q n) (unless (ltb r n) (ordered q r))
+two n (pos q) (negsuc r) = Invalid
+two n (negsuc q) r = Invalid
+
+-- the opcode of word i; past the end it is that of 0, MOVE, which is no row's companion
+unfoldable pub opcodeAt : List ℕ → ℕ → ℕ
+opcodeAt ws i = opcodeOf (getD ws i 0)
+
+-- whether an opcode is one of those from the first to the last
+unfoldable pub isIn : ℕ → ℕ → ℕ → Bool
+isIn first last opcode = leb first opcode && leb opcode last
+
+-- "Next word", a clause for each kind of the table of steps: the steps of word p, w, of n words whose companion is there
+abbrev pub nextOf : StepClass → ℕ → ℕ → ℕ → Successors
+-- none
+nextOf returning n w p = Stop
+-- p+1, p+2
+nextOf branching n w p = two n (pos (p + 1)) (pos (p + 2))
+-- p+2
+nextOf skipping n w p = one n (pos (p + 2))
+-- "SETLIST 78 if its k is 1": p+2; else as all others p+1
+nextOf skippingIfK n w p = pick (eqb (kOf w) 1) (one n (pos (p + 2))) (one n (pos (p + 1)))
+-- p+1+sJ
+nextOf jumping n w p = one n (pos (p + 1) +ℤ sjOf w)
+-- p+1-Bx, p+1
+nextOf looping n w p = two n (pos (p + 1) -ℤ pos (bxOf w)) (pos (p + 1))
+-- p+1, p+2+Bx
+nextOf preparing n w p = two n (pos (p + 1)) (pos (p + 2 + bxOf w))
+-- p+1+Bx
+nextOf entering n w p = one n (pos (p + 1 + bxOf w))
+-- none: always bad
+nextOf invalid n w p = Invalid
+-- p+1
+nextOf following n w p = one n (pos (p + 1))
+
+-- "Bad unless", a clause for each kind of the table of steps: the companion of word p stands where it is wanted
+abbrev pub standsAt : Companion → List ℕ → ℕ → Bool
+-- word p+1 is 46 to 48
+standsAt metamethodAfter ws p = isIn «OP_MMBIN» «OP_MMBINK» (opcodeAt ws (p + 1))
+-- p > 0 and word p-1 is 21 to 45
+standsAt arithmeticBefore ws p = ltb 0 p && isIn «OP_ADDI» «OP_SHR» (opcodeAt ws (p - 1))
+-- word p+1 is JMP
+standsAt jumpAfter ws p = eqb (opcodeAt ws (p + 1)) «OP_JMP»
+-- word p+1 is EXTRAARG
+standsAt extraAfter ws p = eqb (opcodeAt ws (p + 1)) «OP_EXTRAARG»
+-- the same for "SETLIST 78 if its k is 1"
+standsAt extraAfterIfK ws p = pick (eqb (kOf (getD ws p 0)) 1) (eqb (opcodeAt ws (p + 1)) «OP_EXTRAARG») true
+-- p+1+Bx: that word is TFORCALL
+standsAt callAtTarget ws p = eqb (opcodeAt ws (p + 1 + bxOf (getD ws p 0))) «OP_TFORCALL»
+-- p+1: that word is TFORLOOP
+standsAt loopAfter ws p = eqb (opcodeAt ws (p + 1)) «OP_TFORLOOP»
+-- nothing is asked
+standsAt alone ws p = true
+
+-- whether the companion that word p wants is there
+unfoldable pub companionPresent : List ℕ → ℕ → Bool
+companionPresent ws p = standsAt (companionOf (opcodeAt ws p)) ws p
+
+-- the steps of word p. "A bad word has no steps, nor has a word number of n or more": the latter is answered as the former
+unfoldable pub successorsOf : List ℕ → ℕ → Successors
+successorsOf ws p =
+    unless (ltb p (length ws))
+    (unless (companionPresent ws p) (nextOf (classOf (opcodeAt ws p)) (length ws) (getD ws p 0) p))
+
+-- the word is bad
+abbrev pub isInvalid : Successors → Bool
+isInvalid Invalid = true
+isInvalid Stop = false
+isInvalid (One a) = false
+isInvalid (Two a b) = false
+
+-- the steps themselves
+abbrev pub listOf : Successors → List ℕ
+listOf Invalid = []
+listOf Stop = []
+listOf (One a) = a ∷ []
+listOf (Two a b) = a ∷ b ∷ []
+
+-- q is among the steps
+abbrev pub hasSuccessor : Successors → ℕ → Bool
+hasSuccessor Invalid q = false
+hasSuccessor Stop q = false
+hasSuccessor (One a) q = eqb a q
+hasSuccessor (Two a b) q = eqb a q || eqb b q
+
+-- q is a step from p
+unfoldable pub isSuccessor : List ℕ → ℕ → ℕ → Bool
+isSuccessor ws p q = hasSuccessor (successorsOf ws p) q
+
+-- "a step p to q serves if p is CALL or TFORCALL, or q ≤ p"
+unfoldable pub servesOf : List ℕ → ℕ → ℕ → Bool
+servesOf ws p q = eqb (opcodeAt ws p) «OP_CALL» || eqb (opcodeAt ws p) «OP_TFORCALL» || leb q p

@@ -1,0 +1,10 @@
+// Layer 2, over fields: the successors of a word, and the longest run without a service.
+pub mod edges;
+mod lengths;
+pub mod longest;
+mod packed;
+mod search;
+pub mod successors;
+
+pub use longest::Run;
+pub use longest::longest_run;

@@ -1,0 +1,81 @@
+// Which words are reachable: a breadth-first search. A word enters the queue once, so that n places are enough.
+ghost use mathlib.Core.Path.{_≡_};
+ghost use mathlib.Core.List.{List, _++_};
+ghost use Prim.Native.Nat.{ℕ, _+_, _≤_, _<_};
+ghost use lib.ListN.{length, getD, drop, replicate};
+ghost use Rattle.fields.specs.Table.{opcodeTable};
+ghost use Rattle.runs.specs.Marks.{push as pushed};
+ghost use Rattle.runs.specs.Instance.{graphOf};
+ghost use Rattle.runs.specs.Invariants.{Lent, Marked, Visiting, Visited, searchAt};
+use crate::edges::Successors;
+use crate::successors::successors_in;
+
+// Word q is marked and put at the queue's end, if it is not marked yet. The new tail.
+fn push(marks: &mut [u8], queue: &mut [u32], tail: usize, q: usize) -> usize
+    requires { ⌜ (q < length (now marks)) × (getD (now marks) q 0 ≡ 0 → tail < length (now queue)) × (q < 32768) ⌝ }
+    ensures { λ r. ⌜ (now (marks .exit) ≡ pushed (searchAt (now (marks .entry)) (now (queue .entry)) tail) q .marks) × (now (queue .exit) ≡ pushed (searchAt (now (marks .entry)) (now (queue .entry)) tail) q .queue) × (r ≡ pushed (searchAt (now (marks .entry)) (now (queue .entry)) tail) q .tail) ⌝ }
+{
+    if marks[q] == 0 {
+        marks[q] = 1;
+        queue[tail] = q as u32;
+        return tail + 1;
+    }
+    tail
+}
+
+// A turn of the search: the successors of the word at the queue's head are marked and queued. The new tail.
+fn visit(
+    table: &[u8; 512],
+    words: &[u32],
+    marks: &mut [u8],
+    queue: &mut [u32],
+    head: usize,
+    tail: usize,
+) -> usize
+    requires { ⌜ (now table ≡ opcodeTable) × Visiting (graphOf (now words)) (now marks) (now queue) head tail ⌝ }
+    ensures { λ r. ⌜ Visited (graphOf (now (words .entry))) (now (marks .entry)) (now (queue .entry)) head (now (marks .exit)) (now (queue .exit)) r ⌝ }
+{
+    let p = queue[head] as usize;
+    let s = successors_in(table, words, p);
+    match s {
+        Successors::Invalid => {
+            return tail;
+        }
+        Successors::Stop => {
+            return tail;
+        }
+        Successors::One(a) => {
+            return push(marks, queue, tail, a);
+        }
+        Successors::Two(a, b) => {
+            let t = push(marks, queue, tail, a);
+            return push(marks, queue, t, b);
+        }
+    }
+}
+
+// The first n marks become 0.
+fn clear_marks(marks: &mut [u8], n: usize)
+    requires { ⌜ n ≤ length (now marks) ⌝ }
+    ensures { λ _. ⌜ now (marks .exit) ≡ replicate n 0 ++ drop n (now (marks .entry)) ⌝ }
+{
+    let mut i = 0;
+    while i < n {
+        marks[i] = 0;
+        i += 1;
+    }
+}
+
+// The marks of all words. The queue is work space: its first n elements are left as they come.
+pub(crate) fn mark_reachable(table: &[u8; 512], words: &[u32], marks: &mut [u8], queue: &mut [u32])
+    requires { ⌜ (now table ≡ opcodeTable) × Lent (length (now words)) (now marks) (now queue) ⌝ }
+    ensures { λ _. ⌜ Marked (graphOf (now (words .entry))) (now (marks .entry)) (now (marks .exit)) × (drop (length (now (words .entry))) (now (queue .exit)) ≡ drop (length (now (words .entry))) (now (queue .entry))) ⌝ }
+{
+    clear_marks(marks, words.len());
+    let mut tail = push(marks, queue, 0, 0);
+    let mut head = 0;
+    while head < tail {
+        tail = visit(table, words, marks, queue, head, tail);
+        head += 1;
+    }
+}

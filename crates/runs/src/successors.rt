@@ -1,0 +1,216 @@
+// The successors of a word (document 01, "Steps").
+ghost use mathlib.Core.Path.{_≡_};
+ghost use Prim.Native.Nat.{_<_, _^_};
+ghost use lib.IntN.{pos, _+ℤ_, _-ℤ_};
+ghost use lib.ListN.{length, getD};
+ghost use Rattle.fields.specs.Word.{bxOf, sjOf};
+ghost use Rattle.fields.specs.Table.{opcodeTable};
+ghost use Rattle.runs.specs.Columns.{classFrom, companionFrom};
+ghost use Rattle.runs.specs.Successors.{one, two, opcodeAt, isIn, nextOf, standsAt, unless, successorsOf, hasSuccessor, isSuccessor, servesOf};
+use crate::edges::Successors;
+use fields::columns::*;
+use fields::opcodes::*;
+
+// JMP's distance is Ax less this.
+const OFFSET_SJ: usize = 16777215;
+
+fn one_of(n: usize, q: usize) -> Successors
+    ensures { λ r. ⌜ r ≡ one n (pos q) ⌝ }
+{
+    if q < n {
+        Successors::One(q)
+    } else {
+        Successors::Invalid
+    }
+}
+
+fn two_of(n: usize, q: usize, r: usize) -> Successors
+    requires { ⌜ q < r ⌝ }
+    ensures { λ s. ⌜ s ≡ two n (pos q) (pos r) ⌝ }
+{
+    if r < n {
+        Successors::Two(q, r)
+    } else {
+        Successors::Invalid
+    }
+}
+
+fn jump(n: usize, word: u32, next: usize) -> Successors
+    requires { ⌜ next < 2 ^ 62 ⌝ }
+    ensures { λ r. ⌜ r ≡ one n (pos next +ℤ sjOf word) ⌝ }
+{
+    let to = next + fields::word::ax(word) as usize;
+    if to < OFFSET_SJ {
+        return Successors::Invalid;
+    }
+    one_of(n, to - OFFSET_SJ)
+}
+
+fn loop_back(n: usize, word: u32, next: usize) -> Successors
+    ensures { λ r. ⌜ r ≡ two n (pos next -ℤ pos (bxOf word)) (pos next) ⌝ }
+{
+    let back = fields::word::bx(word) as usize;
+    if next < back {
+        return Successors::Invalid;
+    }
+    if back == 0 {
+        return one_of(n, next);
+    }
+    two_of(n, next - back, next)
+}
+
+// The steps of a step class, as the opcode table numbers them.
+fn next_of(class: u8, n: usize, word: u32, p: usize) -> Successors
+    requires { ⌜ p < 2 ^ 61 ⌝ }
+    ensures { λ r. ⌜ r ≡ nextOf (classFrom class) n word p ⌝ }
+{
+    match class {
+        FOLLOWING => one_of(n, p + 1),
+        RETURNING => Successors::Stop,
+        BRANCHING => two_of(n, p + 1, p + 2),
+        SKIPPING => one_of(n, p + 2),
+        SKIPPING_IF_K => {
+            if fields::word::k(word) == 1 {
+                one_of(n, p + 2)
+            } else {
+                one_of(n, p + 1)
+            }
+        }
+        JUMPING => jump(n, word, p + 1),
+        LOOPING => loop_back(n, word, p + 1),
+        PREPARING => two_of(n, p + 1, p + 2 + fields::word::bx(word) as usize),
+        ENTERING => one_of(n, p + 1 + fields::word::bx(word) as usize),
+        // INVALID
+        _ => Successors::Invalid,
+    }
+}
+
+fn is_in(first: u8, last: u8, opcode: u8) -> bool
+    ensures { λ r. ⌜ r ≡ isIn first last opcode ⌝ }
+{
+    if first <= opcode {
+        opcode <= last
+    } else {
+        false
+    }
+}
+
+// The opcode of word i, 0 past the end.
+fn opcode_at(words: &[u32], i: usize) -> u8
+    ensures { λ r. ⌜ r ≡ opcodeAt (now (words .entry)) i ⌝ }
+{
+    if i < words.len() {
+        fields::word::opcode(words[i])
+    } else {
+        0
+    }
+}
+
+// Whether a companion, as the opcode table numbers them, stands where word p wants it.
+fn stands_at(companion: u8, words: &[u32], p: usize) -> bool
+    requires { ⌜ p < length (now words) ⌝ }
+    ensures { λ r. ⌜ r ≡ standsAt (companionFrom companion) (now (words .entry)) p ⌝ }
+{
+    match companion {
+        ALONE => true,
+        METAMETHOD_AFTER => is_in(OP_MMBIN, OP_MMBINK, opcode_at(words, p + 1)),
+        ARITHMETIC_BEFORE => {
+            if 0 < p {
+                is_in(OP_ADDI, OP_SHR, opcode_at(words, p - 1))
+            } else {
+                false
+            }
+        }
+        JUMP_AFTER => opcode_at(words, p + 1) == OP_JMP,
+        EXTRA_AFTER => opcode_at(words, p + 1) == OP_EXTRAARG,
+        EXTRA_AFTER_IF_K => {
+            if fields::word::k(words[p]) == 1 {
+                opcode_at(words, p + 1) == OP_EXTRAARG
+            } else {
+                true
+            }
+        }
+        CALL_AT_TARGET => {
+            opcode_at(words, p + 1 + fields::word::bx(words[p]) as usize) == OP_TFORCALL
+        }
+        // LOOP_AFTER
+        _ => opcode_at(words, p + 1) == OP_TFORLOOP,
+    }
+}
+
+// The successors of word p by its companion and its step class, as the opcode table numbers them.
+fn successors_by(companion: u8, class: u8, words: &[u32], p: usize) -> Successors
+    requires { ⌜ p < length (now words) ⌝ }
+    ensures { λ r. ⌜ r ≡ unless (standsAt (companionFrom companion) (now (words .entry)) p) (nextOf (classFrom class) (length (now (words .entry))) (getD (now (words .entry)) p 0) p) ⌝ }
+{
+    if stands_at(companion, words, p) {
+        next_of(class, words.len(), words[p], p)
+    } else {
+        Successors::Invalid
+    }
+}
+
+// The successors of word p, by a lent copy of the opcode table: what loops call. The most frequent words come first.
+pub(crate) fn successors_in(table: &[u8; 512], words: &[u32], p: usize) -> Successors
+    requires { ⌜ now table ≡ opcodeTable ⌝ }
+    ensures { λ r. ⌜ r ≡ successorsOf (now (words .entry)) p ⌝ }
+{
+    if words.len() <= p {
+        return Successors::Invalid;
+    }
+    let word = words[p];
+    let companion = fields::lookup::companion_in(table, word);
+    let class = fields::lookup::step_class_in(table, word);
+    if companion == ALONE {
+        if class == FOLLOWING {
+            return one_of(words.len(), p + 1);
+        }
+    }
+    successors_by(companion, class, words, p)
+}
+
+// The successors of word p.
+pub fn successors(words: &[u32], p: usize) -> Successors
+    ensures { λ r. ⌜ r ≡ successorsOf (now (words .entry)) p ⌝ }
+{
+    if words.len() <= p {
+        return Successors::Invalid;
+    }
+    let both = crate::packed::both(words[p]);
+    if both == 0 {
+        return one_of(words.len(), p + 1);
+    }
+    successors_by(both / 16, both % 16, words, p)
+}
+
+fn has_successor(s: Successors, q: usize) -> bool
+    ensures { λ r. ⌜ r ≡ hasSuccessor s q ⌝ }
+{
+    match s {
+        Successors::Invalid => false,
+        Successors::Stop => false,
+        Successors::One(a) => a == q,
+        Successors::Two(a, b) => { if a == q { true } else { b == q } }
+    }
+}
+
+// Whether q is a step from p.
+pub fn is_successor(words: &[u32], p: usize, q: usize) -> bool
+    ensures { λ r. ⌜ r ≡ isSuccessor (now (words .entry)) p q ⌝ }
+{
+    has_successor(successors(words, p), q)
+}
+
+// Whether a step from p to q serves.
+pub fn serves(words: &[u32], p: usize, q: usize) -> bool
+    ensures { λ r. ⌜ r ≡ servesOf (now (words .entry)) p q ⌝ }
+{
+    let opcode = opcode_at(words, p);
+    if opcode == OP_CALL {
+        return true;
+    }
+    if opcode == OP_TFORCALL {
+        return true;
+    }
+    q <= p
+}

@@ -1,0 +1,5 @@
+pub mod Columns
+pub mod Line
+pub mod Format
+pub mod Rows
+pub mod Claims
