@@ -100,6 +100,14 @@ module _ (ws : List ℕ) (p : ℕ) where
     unfolding successorsOf companionPresent
     by-columns = rw (d, e) (let-through (ltb p (length ws)) _ (lt-ltb p (length ws) inside))
 
+    pub refused-by : standsAt (companionFrom companion) ws p ≡ false → Invalid ≡ successorsOf ws p
+    unfolding unless
+    refused-by f = rw f at by-columns
+
+    pub stepped-by : standsAt (companionFrom companion) ws p ≡ true → nextOf (classFrom class) (length ws) (getD ws p 0) p ≡ successorsOf ws p
+    unfolding unless
+    stepped-by f = rw f at by-columns
+
   -- the most frequent words: p+1, and nothing is asked
   pub plainly : p < length ws → companionFrom 0 ≡ companionOf (opcodeAt ws p) → classFrom 0 ≡ classOf (opcodeAt ws p) → one (length ws) (pos (p + 1)) ≡ successorsOf ws p
   unfolding unless companionFrom classFrom

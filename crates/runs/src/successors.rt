@@ -150,7 +150,8 @@ fn successors_by(companion: u8, class: u8, words: &[u32], p: usize) -> Successor
     }
 }
 
-// The successors of word p, by a lent copy of the opcode table: what loops call. The most frequent words come first.
+// The successors of word p, by a lent copy of the opcode table: what loops call. The most frequent words come first, so that the
+// compiler puts them into the loop and calls only for the others.
 pub(crate) fn successors_in(table: &[u8; 512], words: &[u32], p: usize) -> Successors
     requires { ⌜ now table ≡ opcodeTable ⌝ }
     ensures { λ r. ⌜ r ≡ successorsOf (now (words .entry)) p ⌝ }
@@ -166,7 +167,13 @@ pub(crate) fn successors_in(table: &[u8; 512], words: &[u32], p: usize) -> Succe
             return one_of(words.len(), p + 1);
         }
     }
-    successors_by(companion, class, words, p)
+    if stands_at(companion, words, p) {
+        if class == BRANCHING {
+            return two_of(words.len(), p + 1, p + 2);
+        }
+        return next_of(class, words.len(), word, p);
+    }
+    Successors::Invalid
 }
 
 // The successors of word p.
