@@ -1,8 +1,7 @@
 -- `records::walk::lift_proto_lua54` meets its contract: a walk of its MIR, by hand. `planned` decides the answer and the number of turns;
 -- the borrow of `records` is opened once, before the loop, and closed once, after it; in a turn `lift_at` is called by value. All that the
 -- proof knows of the two callees is that each meets its contract. What the five shared slices own stands in one formula, `Lent` (proofs/Lent.antt).
--- The invariant: the row is `filled` up to i. The variant: the number of turns left.
--- Assumes nothing.
+-- The invariant: the row is `filled` up to i. The variant: the number of turns left. Assumes nothing.
 use mathlib.Core.Path.{_≡_, refl, sym, _∙_, ap, subst}
 use Prim.Native.Nat.{ℕ, zero, suc, _+_, _*_, _<_, _≤_, _^_}
 use native.Mathlib.Nat.{add-zero, zero-add, lt-suc-self, lt-irrefl}
