@@ -28,12 +28,8 @@ fn show_lent(label: &[u8], words: &[u32], marks: &mut [u8], lengths: &mut [u32])
     slices(marks, lengths);
 }
 
-pub fn runs_of_few() {
-    let mv = plain(OP_MOVE);
-    let ret = plain(OP_RETURN0);
-    show(b"no words", &[]);
+fn accepted(mv: u32, ret: u32) {
     show(b"one word", &[ret]);
-    show(b"one bad word", &[83]);
     show(
         b"the sheet",
         &[2147483649, 2147483669, 109051951, 2147483192],
@@ -42,44 +38,42 @@ pub fn runs_of_few() {
         b"an unreachable bad word",
         &[with_ax(OP_JMP, OFFSET_SJ + 1), 83, ret],
     );
+    show(b"a tie", &[mv, plain(OP_CALL), mv, ret]);
+    let on = with_ax(OP_JMP, OFFSET_SJ + 3);
+    let back = with_ax(OP_JMP, OFFSET_SJ - 4);
+    show(b"entered by a back edge alone", &[on, mv, mv, ret, back]);
+    show(b"a step to itself", &[mv, with_ax(OP_JMP, OFFSET_SJ - 1)]);
+}
+
+fn refused(mv: u32) {
+    let skip = with_ax(OP_JMP, OFFSET_SJ + 1);
+    show(b"no words", &[]);
+    show(b"one bad word", &[83]);
     show(
         b"a reachable bad word after a bad one that is not",
-        &[with_ax(OP_JMP, OFFSET_SJ + 1), 83, 84],
+        &[skip, 83, 84],
     );
-    show(
-        b"two bad words, the lower",
-        &[plain(OP_LT), with_ax(OP_JMP, OFFSET_SJ + 1), 83, 84],
-    );
-    show(b"a tie", &[mv, plain(OP_CALL), mv, ret]);
-    show(
-        b"entered by a back edge alone",
-        &[
-            with_ax(OP_JMP, OFFSET_SJ + 3),
-            mv,
-            mv,
-            ret,
-            with_ax(OP_JMP, OFFSET_SJ - 4),
-        ],
-    );
-    show(b"a step to itself", &[mv, with_ax(OP_JMP, OFFSET_SJ - 1)]);
+    show(b"two bad words, the lower", &[plain(OP_LT), skip, 83, 84]);
     show(b"falls off the end", &[mv, mv]);
-    show_lent(
-        b"marks one short",
-        &[mv, mv, ret],
-        &mut [9u8; 2],
-        &mut [9u32; 3],
-    );
-    show_lent(
-        b"lengths one short",
-        &[mv, mv, ret],
-        &mut [9u8; 3],
-        &mut [9u32; 2],
-    );
+}
+
+fn lent(mv: u32, ret: u32) {
+    let words = [mv, mv, ret];
+    show_lent(b"marks one short", &words, &mut [9u8; 2], &mut [9u32; 3]);
+    show_lent(b"lengths one short", &words, &mut [9u8; 3], &mut [9u32; 2]);
     show_lent(
         b"slices just long enough",
-        &[mv, mv, ret],
+        &words,
         &mut [9u8; 3],
         &mut [9u32; 3],
     );
     show_lent(b"no words, no slices", &[], &mut [], &mut []);
+}
+
+pub fn runs_of_few() {
+    let mv = plain(OP_MOVE);
+    let ret = plain(OP_RETURN0);
+    accepted(mv, ret);
+    refused(mv);
+    lent(mv, ret);
 }
