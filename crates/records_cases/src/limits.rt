@@ -182,23 +182,28 @@ pub fn constants() {
     );
 }
 
-// A constant of each tag, after one of a known tag: the tags that are accepted, and how many are refused at the second place.
-pub fn tags() {
+// A constant of a tag, after one of a known tag: printed if it is known, and so is any answer but refusal 3 at the second place.
+fn tag(t: u8) {
     let words = [0u32; 1];
+    let tags = [TAG_FLOAT, t];
     let payloads = [0u64; 2];
-    let mut refused: u64 = 0;
-    print::text(b"known tags");
-    for tag in 0..256 {
-        let tags = [TAG_FLOAT, tag as u8];
-        let answer = planned(&words, &tags, &payloads, &payloads, &tags, 1).answer;
-        if answer.number == 0 {
-            print::number(tag as u64);
-        } else if answer.number == 3 && answer.place == 1 {
-            refused += 1;
-        }
+    let plan = planned(&words, &tags, &payloads, &payloads, &tags, 1);
+    let answer = plan.answer;
+    if answer.number != 3 {
+        print::number(t as u64);
+    } else if answer.place != 1 {
+        print::text(b" place");
     }
-    print::text(b", refused");
-    print::number(refused);
+}
+
+pub fn tags() {
+    print::text(b"known tags");
+    let mut t: u8 = 0;
+    while t < 255 {
+        tag(t);
+        t += 1;
+    }
+    tag(255);
     print::end();
 }
 

@@ -5,20 +5,27 @@ use crate::sums;
 use records::lift::lift_word;
 use values::lookup::*;
 
-// A, k, B and C of the eight patterns, in their bits.
-const PATTERNS: [u32; 8] = [
-    0,
-    16875648,
-    67305728,
-    16973696,
-    4294934272,
-    276791680,
-    293617536,
-    302023296,
-];
+fn word(opcode: u32, a: u32, k: u32, b: u32, c: u32) -> u32 {
+    opcode % 128 + a % 256 * 128 + k % 2 * 32768 + b % 256 * 65536 + c % 256 * 16777216
+}
 
-// The sum of n records from a word on.
-fn records_from(words: &[u32], first: usize, n: usize) -> u64 {
+// Opcode i / 8 with pattern i mod 8.
+fn sample_word(i: usize) -> u32 {
+    let opcode = (i / 8 % 128) as u32;
+    match i % 8 {
+        0 => word(opcode, 0, 0, 0, 0),
+        1 => word(opcode, 1, 1, 1, 1),
+        2 => word(opcode, 2, 0, 3, 4),
+        3 => word(opcode, 255, 1, 2, 1),
+        4 => word(opcode, 254, 0, 255, 255),
+        5 => word(opcode, 3, 1, 127, 16),
+        6 => word(opcode, 127, 0, 128, 17),
+        _ => word(opcode, 5, 1, 0, 18),
+    }
+}
+
+// A sum, and the record of a word.
+fn with_record(sum: u64, words: &[u32], pc: usize) -> u64 {
     let tags = [
         TAG_SHORT_STRING,
         TAG_INTEGER,
@@ -40,31 +47,54 @@ fn records_from(words: &[u32], first: usize, n: usize) -> u64 {
         9221120237041090561,
     ];
     let names = [17179869184u64, UNNAMED, 21474836484, 9];
+    let lifted = lift_word(words, &tags, &payloads, &names, b"_ENVprint", pc);
+    let instruction = lifted.instruction;
+    sums::record(sum, instruction)
+}
+
+// The sum of the records from a word to another.
+fn records_from(words: &[u32], first: usize, last: usize) -> u64 {
     let mut sum: u64 = 0;
-    for i in 0..n {
-        let lifted = lift_word(words, &tags, &payloads, &names, b"_ENVprint", first + i);
-        if lifted.present {
-            sum = sums::record(sum, lifted.instruction);
-        }
+    let mut i = first;
+    while i < last {
+        sum = with_record(sum, words, i);
+        i += 1;
     }
     sum
 }
 
 fn fill(words: &mut [u32]) {
     for i in 0..words.len() {
-        words[i] = ((i / 8) % 128) as u32 + PATTERNS[i % 8];
+        words[i] = sample_word(i);
+    }
+}
+
+fn show_opcodes(words: &[u32]) {
+    let mut opcode: usize = 0;
+    while opcode < 128 {
+        print::text(b"opcode");
+        print::number(opcode as u64);
+        print::number(records_from(words, opcode * 8, opcode * 8 + 8));
+        print::end();
+        opcode += 1;
+    }
+}
+
+fn show_each(words: &[u32]) {
+    let mut i: usize = 0;
+    while i < words.len() {
+        print::text(b"corner");
+        print::number(i as u64);
+        print::number(records_from(words, i, i + 1));
+        print::end();
+        i += 1;
     }
 }
 
 pub fn opcodes() {
     let mut words = [0u32; 1024];
     fill(&mut words);
-    for opcode in 0..128 {
-        print::text(b"opcode");
-        print::number(opcode as u64);
-        print::number(records_from(&words, opcode * 8, 8));
-        print::end();
-    }
+    show_opcodes(&words);
 }
 
 pub fn corners() {
@@ -101,10 +131,5 @@ pub fn corners() {
         268435504,
         4,
     ];
-    for i in 0..words.len() {
-        print::text(b"corner");
-        print::number(i as u64);
-        print::number(records_from(&words, i, 1));
-        print::end();
-    }
+    show_each(&words);
 }

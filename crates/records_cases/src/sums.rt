@@ -4,9 +4,12 @@ use values::ir::Confidence;
 use values::ir::EffectTarget;
 use values::ir::Fallback;
 use values::ir::ImplicitEffect;
+use values::ir::Operands;
 use values::ir::OptionalPc;
+use values::ir::Reads;
 use values::ir::SemanticInstruction;
 use values::ir::TypedOperand;
+use values::ir::Writes;
 use values::model::ConstantValue;
 use values::model::Name;
 use values::model::Span;
@@ -26,10 +29,15 @@ fn four(sum: u64, kind: u64, x: u64, y: u64, z: u64) -> u64 {
 // A signed number in two's complement.
 fn complement(x: i64) -> u64 {
     if x < 0 {
-        18446744073709551615 - ((-1 - x) as u64)
+        let y = !x;
+        18446744073709551615 - (y as u64)
     } else {
         x as u64
     }
+}
+
+fn wide(x: i32) -> i64 {
+    x as i64
 }
 
 fn place(s: Span) -> u64 {
@@ -71,7 +79,7 @@ fn operand(sum: u64, x: TypedOperand) -> u64 {
         TypedOperand::Jump { offset, target_pc } => four(
             sum,
             6,
-            complement(offset as i64),
+            complement(wide(offset)),
             target_pc as u64,
             0,
         ),
@@ -146,40 +154,61 @@ fn trust(sum: u64, x: Confidence) -> u64 {
 }
 
 fn head(sum: u64, r: SemanticInstruction) -> u64 {
+    let confidence = r.confidence;
+    let jump_target = r.jump_target;
+    let companion_pc = r.companion_pc;
+    let metamethod_fallback = r.metamethod_fallback;
+    let implicit_effect = r.implicit_effect;
     let known = trust(
         mix(two(sum, r.pc as u64, r.raw_word as u64), r.opcode as u64),
-        r.confidence,
+        confidence,
     );
-    let pcs = pc(pc(known, r.jump_target), r.companion_pc);
-    effect(fallback(pcs, r.metamethod_fallback), r.implicit_effect)
+    let pcs = pc(pc(known, jump_target), companion_pc);
+    effect(fallback(pcs, metamethod_fallback), implicit_effect)
 }
 
-fn operands(sum: u64, r: SemanticInstruction) -> u64 {
-    let all = r.operands;
+fn operands(sum: u64, all: Operands) -> u64 {
     let slots = all.slots;
-    let first = operand(
-        operand(mix(sum, all.count as u64), slots[0].operand),
-        slots[1].operand,
-    );
-    operand(operand(first, slots[2].operand), slots[3].operand)
-}
-
-fn reads(sum: u64, r: SemanticInstruction) -> u64 {
-    let all = r.reads;
-    let slots = all.slots;
-    let first = target(mix(sum, all.count as u64), slots[0].target);
-    target(target(first, slots[1].target), slots[2].target)
-}
-
-fn writes(sum: u64, r: SemanticInstruction) -> u64 {
-    let all = r.writes;
-    let slots = all.slots;
-    target(
-        target(mix(sum, all.count as u64), slots[0].target),
-        slots[1].target,
+    let a = slots[0];
+    let b = slots[1];
+    let c = slots[2];
+    let d = slots[3];
+    let x = a.operand;
+    let y = b.operand;
+    let z = c.operand;
+    let u = d.operand;
+    operand(
+        operand(operand(operand(mix(sum, all.count as u64), x), y), z),
+        u,
     )
 }
 
+fn reads(sum: u64, all: Reads) -> u64 {
+    let slots = all.slots;
+    let a = slots[0];
+    let b = slots[1];
+    let c = slots[2];
+    let x = a.target;
+    let y = b.target;
+    let z = c.target;
+    target(target(target(mix(sum, all.count as u64), x), y), z)
+}
+
+fn writes(sum: u64, all: Writes) -> u64 {
+    let slots = all.slots;
+    let a = slots[0];
+    let b = slots[1];
+    let x = a.target;
+    let y = b.target;
+    target(target(mix(sum, all.count as u64), x), y)
+}
+
 pub fn record(sum: u64, r: SemanticInstruction) -> u64 {
-    writes(reads(operands(head(sum, r), r), r), r)
+    let all_operands = r.operands;
+    let all_reads = r.reads;
+    let all_writes = r.writes;
+    writes(
+        reads(operands(head(sum, r), all_operands), all_reads),
+        all_writes,
+    )
 }
