@@ -1,3 +1,4 @@
+-- Layer 3: the meter, the reference model, and demand 3.
 pub mod Feed
 pub mod Model
 pub mod Calls

@@ -39,7 +39,7 @@ pub record ElementWise (words tags payloads names : List ℕ) (bytes : ℕ) (rec
       → (i : ℕ) (d : SemanticInstruction)
       → i < length words
       → getD (recordsAfter words tags payloads names bytes records) i d ≡ liftOf words tags payloads names i
-  -- accepted: "Elements past n are untouched, records too"
+  -- accepted or not: "Elements past n are untouched, records too"
   pub untouched :
       (i : ℕ) (d : SemanticInstruction)
       → length words ≤ i
