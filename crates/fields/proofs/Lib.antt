@@ -1,4 +1,3 @@
-pub mod Cases
 pub mod Difference
 pub mod Entries
 pub mod Lopcodes

@@ -4,4 +4,3 @@ pub mod Events
 pub mod Word
 pub mod Lopcodes
 pub mod Table
-pub mod Cases

@@ -8,17 +8,17 @@ use lib.IntN.{ℤ, pos, _-ℤ_}
 use Rattle.fields.specs.declared.word.RawInstruction54.{RawInstruction54}
 use Rattle.fields.specs.Word.{fieldsOf}
 
--- C's operators on Instruction, a 32-bit unsigned type
-infixl 60 _<<_
-infixl 60 _>>_
-abbrev _<<_ : ℕ → ℕ → ℕ
-x << n = x * 2 ^ n % 2 ^ 32
+-- C's operators <<, >> and ~ on Instruction, a 32-bit unsigned type
+infixl 60 _shl_
+infixl 60 _shr_
+abbrev _shl_ : ℕ → ℕ → ℕ
+x shl n = x * 2 ^ n % 2 ^ 32
 
-abbrev _>>_ : ℕ → ℕ → ℕ
-x >> n = x / 2 ^ n
+abbrev _shr_ : ℕ → ℕ → ℕ
+x shr n = x / 2 ^ n
 
-abbrev ~ : ℕ → ℕ
-~ x = 2 ^ 32 - 1 - x
+abbrev complement : ℕ → ℕ
+complement x = 2 ^ 32 - 1 - x
 
 -- sizes and positions of the arguments
 abbrev «SIZE_C» : ℕ
@@ -68,35 +68,35 @@ abbrev «POS_sJ» : ℕ
 
 -- the largest arguments, and the offsets of the signed ones
 abbrev «MAXARG_Bx» : ℕ
-«MAXARG_Bx» = (1 << «SIZE_Bx») - 1
+«MAXARG_Bx» = (1 shl «SIZE_Bx») - 1
 
 abbrev «OFFSET_sBx» : ℕ
-«OFFSET_sBx» = «MAXARG_Bx» >> 1
+«OFFSET_sBx» = «MAXARG_Bx» shr 1
 
 abbrev «MAXARG_sJ» : ℕ
-«MAXARG_sJ» = (1 << «SIZE_sJ») - 1
+«MAXARG_sJ» = (1 shl «SIZE_sJ») - 1
 
 abbrev «OFFSET_sJ» : ℕ
-«OFFSET_sJ» = «MAXARG_sJ» >> 1
+«OFFSET_sJ» = «MAXARG_sJ» shr 1
 
 abbrev «MAXARG_C» : ℕ
-«MAXARG_C» = (1 << «SIZE_C») - 1
+«MAXARG_C» = (1 shl «SIZE_C») - 1
 
 abbrev «OFFSET_sC» : ℕ
-«OFFSET_sC» = «MAXARG_C» >> 1
+«OFFSET_sC» = «MAXARG_C» shr 1
 
 abbrev sC2int : ℕ → ℤ
 sC2int i = pos i -ℤ pos «OFFSET_sC»
 
 -- n bits of 1 from position p on
 abbrev «MASK1» : ℕ → ℕ → ℕ
-«MASK1» n p = ~ (~ 0 << n) << p
+«MASK1» n p = complement (complement 0 shl n) shl p
 
 abbrev getarg : ℕ → ℕ → ℕ → ℕ
-getarg i position size = bitAnd (i >> position) («MASK1» size 0)
+getarg i position size = bitAnd (i shr position) («MASK1» size 0)
 
 abbrev pub «GET_OPCODE» : ℕ → ℕ
-«GET_OPCODE» i = bitAnd (i >> «POS_OP») («MASK1» «SIZE_OP» 0)
+«GET_OPCODE» i = bitAnd (i shr «POS_OP») («MASK1» «SIZE_OP» 0)
 
 abbrev «GETARG_A» : ℕ → ℕ
 «GETARG_A» i = getarg i «POS_A» «SIZE_A»
@@ -115,7 +115,7 @@ abbrev «GETARG_sC» : ℕ → ℤ
 
 -- not 0 exactly if k is 1
 abbrev pub «TESTARG_k» : ℕ → ℕ
-«TESTARG_k» i = bitAnd i (1 << «POS_k»)
+«TESTARG_k» i = bitAnd i (1 shl «POS_k»)
 
 abbrev pub «GETARG_k» : ℕ → ℕ
 «GETARG_k» i = getarg i «POS_k» 1

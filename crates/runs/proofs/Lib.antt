@@ -2,7 +2,6 @@ pub mod Backward
 pub mod Below
 pub mod Bounds
 pub mod Bytes
-pub mod Cases
 pub mod Columns
 pub mod Demand
 pub mod Heaviest

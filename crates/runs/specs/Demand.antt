@@ -34,9 +34,9 @@ pub record RunsTooLong (ws : List ℕ) : Type 0 where
   pub passes : Passes ws start count
 
 pub record Demand (ws : List ℕ) (marks lengths : ℕ) : Type 0 where
-  -- "refused exactly if no words, or some course meets a bad word, or the longest run is over 32,768"
+  -- "it is refused exactly if it has no words, some course meets a bad word, or the longest run is over 32,768"
   pub refused : (0 < numberOf (runOf ws marks lengths)) ↔ ((length ws ≡ 0) ⊎ (MeetsInvalid ws ⊎ RunsTooLong ws))
-  -- "if accepted, no course passes more than L words without a service between them"
+  -- "If accepted, no course passes more than L words without a service between them"
   pub bounded : numberOf (runOf ws marks lengths) ≡ 0 → (p k : ℕ) → Passes ws p k → k ≤ longestOf (runOf ws marks lengths)
   -- "and some course passes exactly L"
   pub reached : numberOf (runOf ws marks lengths) ≡ 0 → Passes ws (firstOf (runOf ws marks lengths)) (longestOf (runOf ws marks lengths))

@@ -1,5 +1,4 @@
 -- Layer 2: the successors of a word, paths and the longest run.
-pub mod Cases
 pub mod Columns
 pub mod Laws
 pub mod Lvm

@@ -1,6 +1,7 @@
 -- lvm.c of Lua 5.4: where luaV_execute goes on after a word, in the C's own shape: pc after the fetch, then as each case of the
--- switch moves it. What a case tests of values may come out either way, so both arms are given. `Agreement` says that for a
--- word that is not bad these are the next words of document 01's table of steps.
+-- switch moves it. What a case tests of values may come out either way, so both arms are given; errors and a coroutine's
+-- yield inside a word are left out (docs/DIFFERENCES.md has the yields). `Agreement` says that for a word that is not bad
+-- these are the next words of document 01's table of steps.
 -- Assumes nothing.
 use Prim.Native.Nat.{ℕ, _+_, _<_, _^_}
 use mathlib.Core.Path.{_≡_}

@@ -1,11 +1,11 @@
 // The length of every word, from the highest down: an edge that does not serve goes forward, so that what it needs is there.
 ghost use mathlib.Core.Path.{_≡_};
 ghost use mathlib.Core.Bool.{cond};
-ghost use mathlib.Core.List.{List, _++_};
-ghost use Prim.Native.Nat.{ℕ, _+_, _≤_, _<_};
+ghost use mathlib.Core.List.{_++_};
+ghost use Prim.Native.Nat.{_+_, _≤_, _<_};
 ghost use lib.ListN.{length, getD, drop, replicate};
 ghost use Rattle.fields.specs.Table.{opcodeTable};
-ghost use Rattle.runs.specs.Longest.{lengthOf, most, lowest};
+ghost use Rattle.runs.specs.Longest.{lengthOf};
 ghost use Rattle.runs.specs.Successors.{servesOf};
 ghost use Rattle.runs.specs.Instance.{graphOf, unitWeight};
 ghost use Rattle.runs.specs.Run.{reachesInvalid, lowestInvalid};

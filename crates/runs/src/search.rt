@@ -1,7 +1,7 @@
 // Which words are reachable: a search with a queue. A word enters it once at most, so that n places are enough.
 ghost use mathlib.Core.Path.{_≡_};
-ghost use mathlib.Core.List.{List, _++_};
-ghost use Prim.Native.Nat.{ℕ, _+_, _≤_, _<_};
+ghost use mathlib.Core.List.{_++_};
+ghost use Prim.Native.Nat.{_+_, _≤_, _<_};
 ghost use lib.ListN.{length, getD, drop, replicate};
 ghost use Rattle.fields.specs.Table.{opcodeTable};
 ghost use Rattle.runs.specs.Marks.{push as pushed};

@@ -185,8 +185,8 @@ fn metamethod(words: &[u32], p: usize) -> Successors
     Successors::Invalid
 }
 
-// The successors of word p, by a lent copy of the opcode table: what loops call. The most frequent words come first; a call of
-// `successors_by` in the compiled loops costs as much as all the rest.
+// The successors of word p, by a lent copy of the opcode table: what loops call. The most frequent words come first, so that the
+// compiler puts them into the loop and calls only for the others.
 pub(crate) fn successors_in(table: &[u8; 512], words: &[u32], p: usize) -> Successors
     requires { ⌜ now table ≡ opcodeTable ⌝ }
     ensures { λ r. ⌜ r ≡ successorsOf (now (words .entry)) p ⌝ }

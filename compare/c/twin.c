@@ -1,0 +1,109 @@
+/* Successors by the table, breadth-first search with its queue in the lengths, backward pass, scan; the meter. */
+#include "twin.h"
+#include "table.h"
+#include <string.h>
+
+static inline unsigned op(uint32_t w) { return w & 127; }
+static inline unsigned step_class(uint32_t w) { return table[op(w)][STEP]; }
+static inline unsigned class_at(const uint32_t *w, size_t n, size_t p) { return p < n ? step_class(w[p]) : INVALID; }
+static inline bool is_op(const uint32_t *w, size_t n, size_t p, unsigned o) { return p < n && op(w[p]) == o; }
+
+static const struct twin_successors invalid = {0, 0, 0};
+static inline struct twin_successors one(size_t n, size_t q) {
+    if (q >= n) return invalid;
+    return (struct twin_successors){2, q, 0};
+}
+/* a is at most b; an underflow has wrapped to a large number */
+static inline struct twin_successors two(size_t n, size_t a, size_t b) {
+    if (a >= n || b >= n) return invalid;
+    if (a == b) return (struct twin_successors){2, a, 0};
+    return (struct twin_successors){3, a, b};
+}
+static inline struct twin_successors successors(const uint32_t *w, size_t n, size_t p) {
+    if (p >= n) return invalid;
+    uint32_t x = w[p];
+    size_t bx = x >> 15;
+    switch (step_class(x)) {
+    case NEXT: return one(n, p + 1);
+    case STOP: return (struct twin_successors){1, 0, 0};
+    case ARITHMETIC: return class_at(w, n, p + 1) == METAMETHOD ? two(n, p + 1, p + 2) : invalid;
+    case METAMETHOD: return p > 0 && step_class(w[p - 1]) == ARITHMETIC ? one(n, p + 1) : invalid;
+    case TEST: return is_op(w, n, p + 1, 56) ? two(n, p + 1, p + 2) : invalid;
+    case SKIP: return one(n, p + 2);
+    case SETLIST: if (!(x >> 15 & 1)) return one(n, p + 1); /* fall through */
+    case EXTENDED: return is_op(w, n, p + 1, 82) ? one(n, p + 2) : invalid;
+    case JUMP: return one(n, p + 1 + (x >> 7) - 16777215);
+    case LOOP: return bx <= p + 1 ? two(n, p + 1 - bx, p + 1) : invalid;
+    case FORPREP: return two(n, p + 1, p + 2 + bx);
+    case TFORPREP: return is_op(w, n, p + 1 + bx, 76) ? one(n, p + 1 + bx) : invalid;
+    case TFORCALL: return is_op(w, n, p + 1, 77) ? one(n, p + 1) : invalid;
+    default: return invalid;
+    }
+}
+static inline bool serves(uint32_t word, size_t p, size_t q) { return op(word) == 68 || op(word) == 76 || q <= p; }
+
+struct twin_successors twin_successors(const uint32_t *w, size_t n, size_t p) { return successors(w, n, p); }
+bool twin_serves(const uint32_t *w, size_t n, size_t p, size_t q) { return p < n ? serves(w[p], p, q) : q <= p; }
+
+/* Marks what is reachable; answers the lowest invalid word among it, n if none. */
+static size_t mark(const uint32_t *w, size_t n, uint8_t *marks, uint32_t *queue) {
+    size_t head = 0, tail = 1, lowest = n;
+    memset(marks, 0, n);
+    marks[0] = 1;
+    queue[0] = 0;
+    while (head < tail) {
+        size_t p = queue[head++];
+        struct twin_successors s = successors(w, n, p);
+        if (s.kind == 0 && p < lowest) lowest = p;
+        if (s.kind >= 2 && !marks[s.first]) { marks[s.first] = 1; queue[tail++] = (uint32_t)s.first; }
+        if (s.kind == 3 && !marks[s.second]) { marks[s.second] = 1; queue[tail++] = (uint32_t)s.second; }
+    }
+    return lowest;
+}
+static inline uint32_t on(const uint32_t *w, const uint32_t *lengths, size_t p, size_t q) {
+    return serves(w[p], p, q) ? 0 : lengths[q];
+}
+struct twin_run twin_longest_run(const uint32_t *w, size_t n, uint8_t *marks, size_t marks_n, uint32_t *lengths, size_t lengths_n) {
+    if (n > TWIN_WORDS) return (struct twin_run){1, 0, 0, 0};
+    if (marks_n < n || lengths_n < n) return (struct twin_run){6, 0, 0, 0};
+    if (n == 0) return (struct twin_run){7, 0, 0, 0};
+    size_t lowest = mark(w, n, marks, lengths);
+    memset(lengths, 0, n * sizeof *lengths);
+    if (lowest < n) return (struct twin_run){8, lowest, 0, 0};
+    for (size_t p = n; p-- > 0;) {
+        if (!marks[p]) continue;
+        struct twin_successors s = successors(w, n, p);
+        uint32_t most = 0;
+        if (s.kind >= 2) most = on(w, lengths, p, s.first);
+        if (s.kind == 3) { uint32_t other = on(w, lengths, p, s.second); if (other > most) most = other; }
+        lengths[p] = most + 1;
+    }
+    size_t first = 0;
+    for (size_t p = 1; p < n; p++)
+        if (lengths[p] > lengths[first]) first = p;
+    return (struct twin_run){0, 0, lengths[first], first};
+}
+
+void twin_begin(struct twin_meter *m) { m->begun = 0; m->last = 0; m->since = 0; }
+
+uint32_t twin_feed(const uint32_t *w, size_t n, struct twin_meter *m, size_t q) {
+    if (n > TWIN_WORDS) return 1;
+    if (!m->begun) {
+        if (m->last || m->since) return 11;
+        if (q != 0 || n == 0) return 10;
+        m->begun = 1;
+        m->since = 1;
+        return 0;
+    }
+    size_t p = m->last;
+    if (p >= n || m->since == 0 || m->since > p + 1) return 11;
+    struct twin_successors s = successors(w, n, p);
+    if (!(s.kind >= 2 && s.first == q) && !(s.kind == 3 && s.second == q)) return 10;
+    if (serves(w[p], p, q)) {
+        m->since = 1;
+        if (m->services < UINT32_MAX) m->services++;
+    } else
+        m->since++;
+    m->last = (uint32_t)q;
+    return 0;
+}

@@ -1,0 +1,39 @@
+/* The C twin: the same algorithms as the proved library, by hand, for gcc -O3. Speed is compared with it, and it is one
+   more independent implementation of document 01 in the differential tests. */
+#ifndef TWIN_H
+#define TWIN_H
+#include <stdbool.h>
+#include <stddef.h>
+#include <stdint.h>
+
+enum { TWIN_WORDS = 32768, TWIN_CONSTANTS = 65536, TWIN_NAMES = 255 };
+
+/* kind: 0 invalid, 1 stop, 2 one, 3 two; steps lower first */
+struct twin_successors { uint64_t kind, first, second; };
+struct twin_run { uint64_t number, place, longest, first; };
+struct twin_answer { uint64_t number, place; };
+struct twin_meter { uint32_t begun, last, since, services; };
+
+/* FLAT.md */
+struct twin_slot { uint64_t kind, numbers[3]; };
+struct twin_record {
+    uint64_t pc, raw_word, opcode, confidence, has_target, target, has_companion, companion, has_fallback, fallback;
+    struct twin_slot effect;
+    uint64_t operand_count;
+    struct twin_slot operands[4];
+    uint64_t read_count;
+    struct twin_slot reads[3];
+    uint64_t write_count;
+    struct twin_slot writes[2];
+};
+_Static_assert(sizeof(struct twin_record) == 53 * 8, "53 numbers");
+
+struct twin_successors twin_successors(const uint32_t *words, size_t n, size_t p);
+bool twin_serves(const uint32_t *words, size_t n, size_t p, size_t q);
+struct twin_run twin_longest_run(const uint32_t *words, size_t n, uint8_t *marks, size_t marks_n, uint32_t *lengths, size_t lengths_n);
+void twin_begin(struct twin_meter *m);
+uint32_t twin_feed(const uint32_t *words, size_t n, struct twin_meter *m, size_t q);
+struct twin_answer twin_lift(const uint32_t *words, size_t n, const uint8_t *tags, size_t tags_n, const uint64_t *payloads,
+    size_t payloads_n, const uint8_t *bytes, size_t bytes_n, const uint64_t *names, size_t names_n,
+    struct twin_record *records, size_t records_n);
+#endif

@@ -1,0 +1,71 @@
+//! check [SEED [RECORDS [FUNCTIONS [LISTS]]]]: the differential tests, counted, with this many random records, functions and
+//! lists of calls beside the systematic ones. Ends with status 1 at the first mismatch.
+
+mod gen;
+mod meters;
+mod records;
+mod rng;
+mod runs;
+mod shrink;
+mod wrong;
+
+use std::collections::BTreeMap;
+use std::time::Instant;
+
+fn fields() -> u64 {
+    let words = gen::boundaries();
+    for &word in &words {
+        let (want, _) = oracle::decode(word);
+        assert_eq!(model::word::fields(word), want, "fields of word {word}");
+    }
+    words.len() as u64
+}
+
+fn by_number(answers: &BTreeMap<u64, u64>) -> String {
+    let parts: Vec<String> = answers.iter().map(|(number, many)| format!("{number}: {many}")).collect();
+    parts.join(", ")
+}
+
+fn main() {
+    let mut args = std::env::args().skip(1).map(|a| a.parse::<u64>().expect("a number"));
+    let mut next = |default| args.next().unwrap_or(default);
+    let (seed, wanted, functions, lists) = (next(1), next(2_000_000), next(2_000_000), next(500_000));
+    let sides = sides::sides();
+    let names: Vec<&str> = sides.iter().map(|s| s.name).collect();
+    println!("seed {seed}; held against luad and the model: {}", names.join(", "));
+
+    let start = Instant::now();
+    println!("fields: {} words, model against luad", fields());
+    let c = records::all(&sides, seed, wanted);
+    println!(
+        "records: {} of {} inputs, each side against luad; answers by number: {}",
+        c.records,
+        c.inputs,
+        by_number(&c.answers)
+    );
+    println!("  {:.1} s", start.elapsed().as_secs_f64());
+
+    let start = Instant::now();
+    let c = runs::all(&sides, seed, functions);
+    println!(
+        "runs: {} functions of {} words, {} steps, each side against the model; {} functions against the definitions by brute force; answers by number: {}",
+        c.functions, c.words, c.edges, c.brute, by_number(&c.answers)
+    );
+    println!("  {:.1} s", start.elapsed().as_secs_f64());
+
+    let start = Instant::now();
+    let c = meters::all(&sides, seed, lists);
+    println!(
+        "meters: {} lists of {} feeds against the feeding book; {} single calls on any meter, answers by number: {}",
+        c.lists,
+        c.feeds,
+        c.singles,
+        by_number(&c.answers)
+    );
+    println!("  {:.1} s", start.elapsed().as_secs_f64());
+
+    for report in wrong::all(seed) {
+        println!("caught, as it must be: {report}");
+    }
+    println!("compare: no mismatch");
+}

@@ -1,0 +1,201 @@
+//! Steps, serving steps and the longest run: the model, held to the definitions by brute force, against every side.
+
+use crate::gen;
+use crate::rng::Rng;
+use crate::shrink::{shrink, words as smaller};
+use model::run::{brute, run, RunAnswer};
+use sides::{model_side, Side};
+use std::collections::BTreeMap;
+
+#[derive(Default)]
+pub struct Counts {
+    pub functions: u64,
+    pub brute: u64,
+    pub words: u64,
+    pub edges: u64,
+    pub answers: BTreeMap<u64, u64>,
+}
+
+/// Slices that are longer than the words by these, or shorter if negative.
+type Spare = (isize, isize);
+
+const MARK: u8 = 0xa5;
+const LENGTH: u32 = 0xa5a5_a5a5;
+
+fn lent(n: usize, spare: Spare) -> (Vec<u8>, Vec<u32>) {
+    let len = |s: isize| (n as isize + s).max(0) as usize;
+    (vec![MARK; len(spare.0)], vec![LENGTH; len(spare.1)])
+}
+
+/// Steps and serving of word p and of what is near it.
+fn compare_steps(side: &Side, words: &[u32], p: usize) -> Result<u64, String> {
+    let want = (model_side().successors)(words, p);
+    let got = (side.successors)(words, p);
+    if got.list != want.list || (p < words.len() && got.bad != want.bad) {
+        return Err(format!("steps of word {p}: {got:?}, by document 01 {want:?}"));
+    }
+    let steps = want.list.iter().flatten().copied();
+    for q in steps.clone() {
+        if (side.serves)(words, p, q) != model::steps::serves(words, p, q) {
+            return Err(format!("whether the step {p} to {q} serves"));
+        }
+    }
+    Ok(steps.count() as u64)
+}
+
+/// The run on one function with these slices.
+fn compare_run(side: &Side, words: &[u32], spare: Spare) -> Result<RunAnswer, String> {
+    let (mut marks, mut lengths) = lent(words.len(), spare);
+    let (mut own_marks, mut own_lengths) = lent(words.len(), spare);
+    let want = run(words, &mut own_marks, &mut own_lengths);
+    let got = (side.run)(words, &mut marks, &mut lengths);
+    if got != want {
+        return Err(format!("{got:?}, by document 01 {want:?}"));
+    }
+    if marks != own_marks {
+        return Err(format!("marks {marks:?}, by document 01 {own_marks:?}"));
+    }
+    if lengths != own_lengths {
+        return Err(format!("lengths {lengths:?}, by document 01 {own_lengths:?}"));
+    }
+    Ok(got)
+}
+
+/// The model's linear run against the definitions.
+fn compare_brute(words: &[u32]) -> Result<(), String> {
+    let (mut marks, mut lengths) = (vec![0; words.len()], vec![0; words.len()]);
+    let got = run(words, &mut marks, &mut lengths);
+    let want = brute(words);
+    if (got, marks, lengths) != want {
+        return Err(format!("{got:?}, by the definitions {want:?}"));
+    }
+    Ok(())
+}
+
+fn fail(side: &str, words: &[u32], test: impl Fn(&[u32]) -> Result<(), String>) -> ! {
+    println!("MISMATCH of {}", report(side, words, test));
+    std::process::exit(1);
+}
+
+pub fn report(side: &str, words: &[u32], test: impl Fn(&[u32]) -> Result<(), String>) -> String {
+    let small = shrink(words.to_vec(), |w| smaller(w), |w| test(w).is_err());
+    format!("steps or runs, {side}: {}\n  smallest function: {small:?}", test(&small).unwrap_err())
+}
+
+/// Steps of every word and the run, for one side.
+pub fn compare(side: &Side, words: &[u32], spare: Spare) -> Result<(RunAnswer, u64), String> {
+    let mut edges = 0;
+    for p in 0..words.len() + 2 {
+        edges += compare_steps(side, words, p)?;
+    }
+    let answer = compare_run(side, words, spare)?;
+    Ok((answer, edges))
+}
+
+fn hold(sides: &[Side], words: &[u32], spare: Spare, counts: &mut Counts) {
+    for side in sides {
+        match compare(side, words, spare) {
+            Ok((answer, edges)) => {
+                *counts.answers.entry(answer.number).or_default() += 1;
+                counts.edges += edges;
+            }
+            Err(_) => fail(side.name, words, |w| compare(side, w, spare).map(|_| ())),
+        }
+    }
+    if words.len() <= 12 {
+        counts.brute += 1;
+        if compare_brute(words).is_err() {
+            fail("the model's own run", words, compare_brute);
+        }
+    }
+    counts.functions += 1;
+    counts.words += words.len() as u64;
+}
+
+/// All pairs of opcodes, and all triples of those that matter to companions, before a return.
+fn neighbours(sides: &[Side], counts: &mut Counts) {
+    let end = gen::abc(71, 0, 0, 1, 0);
+    for first in 0..128 {
+        for second in 0..128 {
+            for k in 0..2 {
+                let pair = [gen::abc(first, 3, k, 1, 2), gen::abc(second, 1, k, 0, 0)];
+                hold(sides, &pair, (0, 0), counts);
+                hold(sides, &[pair[0], pair[1], end], (0, 0), counts);
+            }
+        }
+    }
+    let telling = gen::telling();
+    for &first in &telling {
+        for &second in &telling {
+            for &third in &telling {
+                hold(sides, &[first, second, third], (0, 0), counts);
+                hold(sides, &[first, second, third, end, end], (1, 1), counts);
+            }
+        }
+    }
+}
+
+/// Word 0 of every boundary, with a landing place for short jumps.
+fn boundaries(sides: &[Side], counts: &mut Counts) {
+    for word in gen::boundaries() {
+        let end = gen::abc(71, 0, 0, 1, 0);
+        hold(sides, &[end, word, end, end], (0, 0), counts);
+    }
+}
+
+/// Functions of the longest kind, and slices of every telling length.
+fn limits(sides: &[Side], rng: &mut Rng, counts: &mut Counts) {
+    for n in [0usize, 1, 2, 3, 100, 32_767, 32_768, 32_769] {
+        for spare in [(0, 0), (-1, 0), (0, -1), (-1, -1), (3, 5), (0, 1)] {
+            let straight = vec![0; n];
+            let mut back = straight.clone();
+            if n > 0 {
+                back[n - 1] = gen::jump(-(n as i64));
+            }
+            let mixed = gen::whole(rng, n.max(1));
+            let mut cut = gen::whole(rng, n.max(1));
+            cut.resize(n, gen::abc(71, 0, 0, 1, 0));
+            for words in [straight, back, mixed, cut] {
+                hold(sides, &words, spare, counts);
+            }
+        }
+    }
+    // Jumps that cross all of the largest function.
+    for n in [32_767usize, 32_768] {
+        let mut words = vec![0; n];
+        words[0] = gen::abx(74, 0, n as u32 - 3);
+        words[n - 2] = gen::abx(73, 0, n as u32 - 2);
+        words[n - 1] = gen::abc(71, 0, 0, 1, 0);
+        hold(sides, &words, (0, 0), counts);
+        words[0] = gen::jump(n as i64 - 2);
+        hold(sides, &words, (0, 0), counts);
+    }
+}
+
+/// Everything, with `wanted` random functions, damaged ones among them.
+pub fn all(sides: &[Side], seed: u64, wanted: u64) -> Counts {
+    let mut counts = Counts::default();
+    let mut rng = Rng::new(seed);
+    neighbours(sides, &mut counts);
+    boundaries(sides, &mut counts);
+    limits(sides, &mut rng, &mut counts);
+    for (name, input) in model::real::functions() {
+        hold(sides, &input.words, (0, 0), &mut counts);
+        let n = input.words.len();
+        let answer = run(&input.words, &mut vec![0; n], &mut vec![0; n]);
+        assert_eq!(answer.number, 0, "{name}, which luac made, is accepted");
+    }
+    let until = counts.functions + wanted;
+    while counts.functions < until {
+        let most = match rng.below(400) {
+            0 => 2_000,
+            1..=8 => 100,
+            9..=150 => 24,
+            _ => 11,
+        };
+        let words = gen::function(&mut rng, most);
+        let spare = if rng.once_in(8) { (rng.below(4) as isize - 1, rng.below(4) as isize - 1) } else { (0, 0) };
+        hold(sides, &words, spare, &mut counts);
+    }
+    counts
+}

@@ -1,0 +1,23 @@
+//! Document 01 once more, in plain Rust and with no look at the Rattle code: fields, steps, the longest run, the
+//! meter, the feeding book, and the refusals of lifting. Slow and literal where it can be; the comparison holds the
+//! proved library and the C twin against it. Terms are the document's.
+
+pub mod book;
+pub mod flat;
+pub mod input;
+pub mod meter;
+pub mod real;
+pub mod run;
+pub mod steps;
+pub mod word;
+
+/// The most words a function may have (refusal 1).
+pub const WORDS: usize = 32_768;
+
+/// A refusal's number, 0 when accepted, and its place.
+#[repr(C)]
+#[derive(Clone, Copy, Debug, PartialEq, Eq, Default)]
+pub struct Answer {
+    pub number: u64,
+    pub place: u64,
+}

@@ -1,0 +1,47 @@
+//! Compiles the C twin with gcc -O3, and links the proved library if RATTLE_LIBS names a folder with its archives.
+
+use std::path::{Path, PathBuf};
+use std::process::Command;
+
+fn must(command: &mut Command) {
+    let status = command.status().unwrap_or_else(|e| panic!("{command:?}: {e}"));
+    assert!(status.success(), "{command:?}");
+}
+
+fn main() {
+    let out = PathBuf::from(std::env::var("OUT_DIR").unwrap());
+    let c = Path::new("../c");
+    let mut objects = vec![];
+    for name in ["twin", "lift"] {
+        let object = out.join(format!("{name}.o"));
+        must(
+            Command::new("gcc")
+                .args(["-O3", "-Wall", "-Wextra", "-Werror", "-c"])
+                .arg(c.join(format!("{name}.c")))
+                .arg("-o")
+                .arg(&object),
+        );
+        objects.push(object);
+    }
+    let archive = out.join("libtwin.a");
+    let _ = std::fs::remove_file(&archive);
+    must(Command::new("ar").arg("rcs").arg(&archive).args(&objects));
+    println!("cargo:rerun-if-changed=../c");
+    println!("cargo:rustc-link-search=native={}", out.display());
+    println!("cargo:rustc-link-lib=static=twin");
+
+    println!("cargo:rustc-check-cfg=cfg(rattle, rattle_records)");
+    println!("cargo:rerun-if-env-changed=RATTLE_LIBS");
+    let Ok(folder) = std::env::var("RATTLE_LIBS") else { return };
+    println!("cargo:rerun-if-changed={folder}");
+    println!("cargo:rustc-cfg=rattle");
+    println!("cargo:rustc-link-search=native={folder}");
+    for name in ["exports", "meter"] {
+        println!("cargo:rustc-link-lib=static={name}");
+    }
+    // Records join in once the library exports them.
+    let symbols = Command::new("nm").arg(Path::new(&folder).join("libexports.a")).output().expect("nm");
+    if String::from_utf8_lossy(&symbols.stdout).contains(" T lawendeb_record") {
+        println!("cargo:rustc-cfg=rattle_records");
+    }
+}

@@ -1,0 +1,226 @@
+//! The seam: what the C twin and the proved library export, declared once, and each as a [`Side`].
+//!
+//! A slice passes as pointer, length; a number as itself; an answer is a `#[repr(C)]` struct of numbers by value. ffi.md has
+//! the Rattle signatures. Nothing checks these declarations against the Rattle source: the differential tests do.
+
+use crate::{Side, Successors};
+use model::flat::Record;
+use model::input::Input;
+use model::meter::Meter;
+use model::run::RunAnswer;
+use model::Answer;
+
+/// The meter as it is lent: include/lawendeb.h. begun is 0, or any other number.
+#[repr(C)]
+pub struct LentMeter {
+    begun: u32,
+    last: u32,
+    count: u32,
+    services: u32,
+}
+
+/// Lends the meter in that form.
+fn lend<T>(m: &mut Meter, call: impl FnOnce(&mut LentMeter) -> T) -> T {
+    let mut lent = LentMeter { begun: u32::from(m.begun), last: m.last, count: m.since, services: m.services };
+    let answer = call(&mut lent);
+    *m = Meter { begun: lent.begun != 0, last: lent.last, since: lent.count, services: lent.services };
+    answer
+}
+
+/// kind: 0 invalid, 1 stop, 2 one, 3 two.
+#[repr(C)]
+pub struct FlatSuccessors {
+    kind: u64,
+    first: u64,
+    second: u64,
+}
+
+impl From<FlatSuccessors> for Successors {
+    fn from(s: FlatSuccessors) -> Successors {
+        assert!(s.kind < 4, "a kind of successors");
+        let first = (s.kind >= 2).then_some(s.first as usize);
+        let second = (s.kind == 3).then_some(s.second as usize);
+        Successors { bad: s.kind == 0, list: [first, second] }
+    }
+}
+
+pub mod twin {
+    use super::*;
+
+    extern "C" {
+        fn twin_successors(words: *const u32, n: usize, p: usize) -> FlatSuccessors;
+        fn twin_serves(words: *const u32, n: usize, p: usize, q: usize) -> bool;
+        fn twin_longest_run(
+            words: *const u32,
+            n: usize,
+            marks: *mut u8,
+            marks_n: usize,
+            lengths: *mut u32,
+            lengths_n: usize,
+        ) -> RunAnswer;
+        fn twin_begin(m: *mut LentMeter);
+        fn twin_feed(words: *const u32, n: usize, m: *mut LentMeter, q: usize) -> u32;
+        fn twin_lift(
+            words: *const u32,
+            n: usize,
+            tags: *const u8,
+            tags_n: usize,
+            payloads: *const u64,
+            payloads_n: usize,
+            bytes: *const u8,
+            bytes_n: usize,
+            names: *const u64,
+            names_n: usize,
+            records: *mut Record,
+            records_n: usize,
+        ) -> Answer;
+    }
+
+    pub fn side() -> Side {
+        Side {
+            name: "C twin",
+            successors: |w, p| unsafe { twin_successors(w.as_ptr(), w.len(), p) }.into(),
+            serves: |w, p, q| unsafe { twin_serves(w.as_ptr(), w.len(), p, q) },
+            run: |w, m, l| unsafe { twin_longest_run(w.as_ptr(), w.len(), m.as_mut_ptr(), m.len(), l.as_mut_ptr(), l.len()) },
+            begin: |m| lend(m, |m| unsafe { twin_begin(m) }),
+            feed: |w, m, q| lend(m, |m| unsafe { twin_feed(w.as_ptr(), w.len(), m, q) }),
+            feed_all: |w, m, list| {
+                lend(m, |m| unsafe {
+                    twin_begin(m);
+                    list.iter().map(|&q| u64::from(twin_feed(w.as_ptr(), w.len(), m, q as usize) != 0)).sum()
+                })
+            },
+            lift: Some(|i: &Input, records| unsafe {
+                assert!(i.records <= records.len());
+                twin_lift(
+                    i.words.as_ptr(),
+                    i.words.len(),
+                    i.tags.as_ptr(),
+                    i.tags.len(),
+                    i.payloads.as_ptr(),
+                    i.payloads.len(),
+                    i.bytes.as_ptr(),
+                    i.bytes.len(),
+                    i.names.as_ptr(),
+                    i.names.len(),
+                    records.as_mut_ptr(),
+                    i.records,
+                )
+            }),
+        }
+    }
+}
+
+#[cfg(rattle)]
+pub mod rattle {
+    use super::*;
+
+    extern "C" {
+        fn lawendeb_successors(words: *const u32, n: usize, p: usize) -> FlatSuccessors;
+        fn lawendeb_serves(words: *const u32, n: usize, p: usize, q: usize) -> bool;
+        fn lawendeb_longest_run(
+            words: *const u32,
+            n: usize,
+            marks: *mut u8,
+            marks_n: usize,
+            lengths: *mut u32,
+            lengths_n: usize,
+        ) -> RunAnswer;
+        fn lawendeb_begin(m: *mut LentMeter);
+        fn lawendeb_feed(words: *const u32, n: usize, m: *mut LentMeter, q: usize) -> u32;
+    }
+
+    pub fn side() -> Side {
+        Side {
+            name: "Rattle",
+            successors: |w, p| unsafe { lawendeb_successors(w.as_ptr(), w.len(), p) }.into(),
+            serves: |w, p, q| unsafe { lawendeb_serves(w.as_ptr(), w.len(), p, q) },
+            run: |w, m, l| unsafe { lawendeb_longest_run(w.as_ptr(), w.len(), m.as_mut_ptr(), m.len(), l.as_mut_ptr(), l.len()) },
+            begin: |m| lend(m, |m| unsafe { lawendeb_begin(m) }),
+            feed: |w, m, q| lend(m, |m| unsafe { lawendeb_feed(w.as_ptr(), w.len(), m, q) }),
+            feed_all: |w, m, list| {
+                lend(m, |m| unsafe {
+                    lawendeb_begin(m);
+                    list.iter().map(|&q| u64::from(lawendeb_feed(w.as_ptr(), w.len(), m, q as usize) != 0)).sum()
+                })
+            },
+            #[cfg(rattle_records)]
+            lift: Some(records::lift),
+            #[cfg(not(rattle_records))]
+            lift: None,
+        }
+    }
+
+    #[cfg(rattle_records)]
+    mod records {
+        use super::*;
+
+        extern "C" {
+            fn lawendeb_answer(
+                words: *const u32,
+                n: usize,
+                tags: *const u8,
+                tags_n: usize,
+                payloads: *const u64,
+                payloads_n: usize,
+                names: *const u64,
+                names_n: usize,
+                bytes: *const u8,
+                bytes_n: usize,
+                records: usize,
+            ) -> Answer;
+            fn lawendeb_record(
+                words: *const u32,
+                n: usize,
+                tags: *const u8,
+                tags_n: usize,
+                payloads: *const u64,
+                payloads_n: usize,
+                names: *const u64,
+                names_n: usize,
+                bytes: *const u8,
+                bytes_n: usize,
+                pc: usize,
+            ) -> Record;
+        }
+
+        pub fn lift(i: &Input, records: &mut [Record]) -> Answer {
+            assert!(i.records <= records.len());
+            let answer = unsafe {
+                lawendeb_answer(
+                    i.words.as_ptr(),
+                    i.words.len(),
+                    i.tags.as_ptr(),
+                    i.tags.len(),
+                    i.payloads.as_ptr(),
+                    i.payloads.len(),
+                    i.names.as_ptr(),
+                    i.names.len(),
+                    i.bytes.as_ptr(),
+                    i.bytes.len(),
+                    i.records,
+                )
+            };
+            if answer.number == 0 {
+                for (pc, record) in records[..i.words.len()].iter_mut().enumerate() {
+                    *record = unsafe {
+                        lawendeb_record(
+                            i.words.as_ptr(),
+                            i.words.len(),
+                            i.tags.as_ptr(),
+                            i.tags.len(),
+                            i.payloads.as_ptr(),
+                            i.payloads.len(),
+                            i.names.as_ptr(),
+                            i.names.len(),
+                            i.bytes.as_ptr(),
+                            i.bytes.len(),
+                            pc,
+                        )
+                    };
+                }
+            }
+            answer
+        }
+    }
+}

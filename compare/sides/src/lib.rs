@@ -1,0 +1,58 @@
+//! The implementations that the comparison holds against each other, behind one set of functions.
+
+use model::flat::Record;
+use model::input::Input;
+use model::meter::Meter;
+use model::run::RunAnswer;
+use model::Answer;
+
+pub mod ffi;
+
+/// What a side says of a word's steps. A word number of n or more may be `bad` or not: it has no steps.
+#[derive(Clone, Copy, Debug, PartialEq, Eq)]
+pub struct Successors {
+    pub bad: bool,
+    pub list: [Option<usize>; 2],
+}
+
+pub struct Side {
+    pub name: &'static str,
+    pub successors: fn(&[u32], usize) -> Successors,
+    pub serves: fn(&[u32], usize, usize) -> bool,
+    pub run: fn(&[u32], &mut [u8], &mut [u32]) -> RunAnswer,
+    pub begin: fn(&mut Meter),
+    pub feed: fn(&[u32], &mut Meter, usize) -> u32,
+    /// A begin and a feed of each word of the list; how many were refused.
+    pub feed_all: fn(&[u32], &mut Meter, &[u32]) -> u64,
+    /// The answer, and on 0 a record for each word; `input.records` says how many are lent.
+    pub lift: Option<fn(&Input, &mut [Record]) -> Answer>,
+}
+
+/// Every side but the model itself: the C twin, and the proved library where it was linked.
+pub fn sides() -> Vec<Side> {
+    #[allow(unused_mut)]
+    let mut all = vec![ffi::twin::side()];
+    #[cfg(rattle)]
+    all.push(ffi::rattle::side());
+    all
+}
+
+/// The model, as a side.
+pub fn model_side() -> Side {
+    Side {
+        name: "model",
+        successors: |words, p| {
+            let s = model::steps::steps(words, p);
+            Successors { bad: s.bad, list: [s.list().first().copied(), s.list().get(1).copied()] }
+        },
+        serves: model::steps::serves,
+        run: model::run::run,
+        begin: model::meter::begin,
+        feed: model::meter::feed,
+        feed_all: |words, m, list| {
+            model::meter::begin(m);
+            list.iter().map(|&q| u64::from(model::meter::feed(words, m, q as usize) != 0)).sum()
+        },
+        lift: None,
+    }
+}

@@ -1,0 +1,112 @@
+-- Document 01, "Bench cases": those marked P, in its order, shown for the definitions by one theorem over their list.
+-- Assumes nothing.
+use Prim.Native.Nat.{ℕ}
+use mathlib.Core.Path.{_≡_}
+use mathlib.Core.Bool.{Bool, true}
+use mathlib.Core.List.{List, [], _∷_}
+use lib.IntN.{ℤ, pos}
+use lib.ListN.{length}
+use Rattle.fields.specs.Opcodes.{«OP_MOVE», «OP_LOADI», «OP_FORLOOP»}
+use Rattle.fields.specs.Events.{«TM_ADD»}
+use Rattle.fields.specs.Word.{opcodeOf, aOf, sbxOf}
+use Rattle.runs.specs.declared.edges.Successors.{Successors}
+use Rattle.runs.specs.declared.edges.Successors.the-variants.{Invalid, One, Two}
+use Rattle.runs.specs.declared.longest.Run.the-variants.{Accepted}
+use Rattle.runs.specs.Successors.{successorsOf, servesOf}
+use Rattle.runs.specs.Run.{runOf}
+use Rattle.values.specs.declared.ir.TypedOperand.{TypedOperand}
+use Rattle.values.specs.declared.ir.TypedOperand.the-variants as O
+use Rattle.values.specs.declared.ir.EffectTarget.{EffectTarget}
+use Rattle.values.specs.declared.ir.EffectTarget.the-variants as E
+use Rattle.values.specs.declared.ir.ImplicitEffect.{ImplicitEffect}
+use Rattle.values.specs.declared.ir.ImplicitEffect.the-variants.{CompanionPair}
+use Rattle.values.specs.declared.ir.CompanionRole.the-variants as role
+use Rattle.values.specs.declared.ir.OptionalPc.{OptionalPc}
+use Rattle.values.specs.declared.ir.OptionalPc.the-variants.{NoPc, Pc}
+use Rattle.values.specs.declared.ir.Confidence.{Confidence}
+use Rattle.values.specs.declared.ir.Confidence.the-variants.{Reviewed, Unverified}
+use Rattle.values.specs.declared.ir.SemanticInstruction.{SemanticInstruction}
+use Rattle.values.specs.declared.model.ConstantValue.the-variants.{Nil}
+use Rattle.families.specs.Shapes.{operandsOf, readsOf, writesOf}
+use Rattle.records.specs.Lift.{liftOf}
+
+pub data Case : Type 0 where
+  -- a word is this opcode, with this A and this sBx
+  fields : ℕ → ℕ → ℕ → ℤ → Case
+  -- of these words, the word of this number has these steps
+  steps : List ℕ → ℕ → Successors → Case
+  -- of these words, the step from the one to the other serves or not
+  serving : List ℕ → ℕ → ℕ → Bool → Case
+  -- these words have this L and this first word
+  run : List ℕ → ℕ → ℕ → Case
+  -- of these words, the record of this number has this jump target
+  jumps : List ℕ → ℕ → OptionalPc → Case
+  -- .. these reads and these writes
+  touches : List ℕ → ℕ → List EffectTarget → List EffectTarget → Case
+  -- .. these operands and this companion
+  shows : List ℕ → ℕ → List TypedOperand → OptionalPc → Case
+  -- .. this implicit effect and this companion
+  pairs : List ℕ → ℕ → ImplicitEffect → OptionalPc → Case
+  -- .. this confidence
+  trusts : List ℕ → ℕ → Confidence → Case
+
+-- a record with no constants and no names
+abbrev recordAt : List ℕ → ℕ → SemanticInstruction
+recordAt words pc = liftOf words [] [] [] pc
+
+abbrev pub HoldsOf : Case → Type 0
+HoldsOf (fields word opcode a sbx) = (opcodeOf word ≡ opcode) × (aOf word ≡ a) × (sbxOf word ≡ sbx)
+HoldsOf (steps words p s) = successorsOf words p ≡ s
+HoldsOf (serving words p q t) = servesOf words p q ≡ t
+HoldsOf (run words longest first) = runOf words (length words) (length words) ≡ Accepted longest first
+HoldsOf (jumps words pc target) = recordAt words pc .«jump_target» ≡ target
+HoldsOf (touches words pc reads writes) =
+    (recordAt words pc .reads ≡ readsOf reads) × (recordAt words pc .writes ≡ writesOf writes)
+HoldsOf (shows words pc operands companion) =
+    (recordAt words pc .operands ≡ operandsOf operands) × (recordAt words pc .«companion_pc» ≡ companion)
+HoldsOf (pairs words pc effect companion) =
+    (recordAt words pc .«implicit_effect» ≡ effect) × (recordAt words pc .«companion_pc» ≡ companion)
+HoldsOf (trusts words pc confidence) = recordAt words pc .confidence ≡ confidence
+
+abbrev pub Hold : List Case → Type 0
+Hold [] = Unit {0}
+Hold (case ∷ cases) = HoldsOf case × Hold cases
+
+-- the sheet of "Bench program"
+abbrev pub sheet : List ℕ
+sheet = 2147483649 ∷ 2147483669 ∷ 109051951 ∷ 2147483192 ∷ []
+
+abbrev pub cases : List Case
+cases =
+    -- "word 2147483649 is opcode 1, A 0, sBx 1"
+    fields 2147483649 «OP_LOADI» 0 (pos 1)
+    -- "word 2147483192 at 3 jumps to 1; at 0 the Rust target is 18446744073709551614 and the word is bad"
+    ∷ steps sheet 3 (One 1)
+    ∷ jumps sheet 3 (Pc 1)
+    ∷ jumps (2147483192 ∷ []) 0 (Pc 18446744073709551614)
+    ∷ steps (2147483192 ∷ []) 0 Invalid
+    -- "word 16940996 (CALL A 255, B 2, C 1) reads register 255 and range 255 to 254, writes none"
+    ∷ touches (16940996 ∷ []) 0 (E.Register 255 ∷ E.RegisterRange 255 254 ∷ []) []
+    -- "word 4 alone: constant 0, companion 1"
+    ∷ shows (4 ∷ []) 0 (O.Register 0 ∷ O.Constant 0 Nil ∷ []) (Pc 1)
+    -- "word 46 at 0: pair effect 0, event 6"
+    ∷ pairs (46 ∷ []) 0 (CompanionPair 0 (role.Event «TM_ADD»)) NoPc
+    -- "word 82 Reviewed, 83 Unverified"
+    ∷ trusts (82 ∷ []) 0 Reviewed
+    ∷ trusts (83 ∷ []) 0 Unverified
+    -- "word 163913 (FORLOOP, Bx 5) at 1: Rust target 0, step bad"
+    ∷ jumps («OP_MOVE» ∷ 163913 ∷ «OP_MOVE» ∷ []) 1 (Pc 0)
+    ∷ steps («OP_MOVE» ∷ 163913 ∷ «OP_MOVE» ∷ []) 1 Invalid
+    -- "word 74 at 0 of 3: Rust target 1, steps 1 and 2"
+    ∷ jumps (74 ∷ «OP_MOVE» ∷ «OP_MOVE» ∷ []) 0 (Pc 1)
+    ∷ steps (74 ∷ «OP_MOVE» ∷ «OP_MOVE» ∷ []) 0 (Two 1 2)
+    -- "FORLOOP with Bx 0 has one step; with Bx 1 it steps to itself, serving"
+    ∷ steps («OP_FORLOOP» ∷ «OP_MOVE» ∷ []) 0 (One 1)
+    ∷ steps (32841 ∷ «OP_MOVE» ∷ []) 0 (Two 0 1)
+    ∷ serving (32841 ∷ «OP_MOVE» ∷ []) 0 0 true
+    -- "the sheet above: L 4, first 0", and the steps that its listing shows
+    ∷ run sheet 4 0
+    ∷ steps sheet 0 (One 1)
+    ∷ steps sheet 1 (Two 2 3)
+    ∷ steps sheet 2 (One 3)
+    ∷ []

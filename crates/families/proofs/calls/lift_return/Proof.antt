@@ -1,0 +1,17 @@
+-- `families::calls::lift_return` meets its contract: each part is what its builder promises.
+-- Assumes nothing.
+use borrow.Author.Needs.{needs}
+use Rattle.families.proofs.calls.lift_return.Statement.{statement}
+use Rattle.families.proofs.calls.lift_return.Tie as tie
+
+returns : tie.Need-returns
+returns c =
+    rw (
+      c .writes0 .ensures,
+      c .before .result-reads .ensures,
+      c .before .before .operands2 .ensures,
+      c .before .before .before .count-less .ensures,
+    )
+
+pub lift-return-spec : {M : Type 1} → statement M
+lift-return-spec = tie.close (tie.spec (λ c κs. search needs) (λ c κs. search needs) (λ c κs. search needs) (λ c κs. search needs) returns)

@@ -1,0 +1,16 @@
+-- `families::calls::lift_setlist` meets its contract: each part is what its builder promises.
+-- Assumes nothing.
+use borrow.Author.Needs.{needs}
+use Rattle.families.proofs.calls.lift_setlist.Statement.{statement}
+use Rattle.families.proofs.calls.lift_setlist.Tie as tie
+
+returns : tie.Need-returns
+returns c =
+    rw (
+      c .writes0 .ensures,
+      c .before .reads1 .ensures,
+      c .before .before .operands2 .ensures,
+    )
+
+pub lift-setlist-spec : {M : Type 1} → statement M
+lift-setlist-spec = tie.close (tie.spec (λ c. search needs) (λ c κs. search needs) (λ c κs. search needs) (λ c κs. search needs) returns)

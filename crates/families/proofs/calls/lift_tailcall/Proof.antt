@@ -1,0 +1,17 @@
+-- `families::calls::lift_tailcall` meets its contract: each part is what its builder promises.
+-- Assumes nothing.
+use borrow.Author.Needs.{needs}
+use Rattle.families.proofs.calls.lift_tailcall.Statement.{statement}
+use Rattle.families.proofs.calls.lift_tailcall.Tie as tie
+
+returns : tie.Need-returns
+returns c =
+    rw (
+      c .writes0 .ensures,
+      c .before .reads1 .ensures,
+      c .before .before .operands2 .ensures,
+      c .before .before .before .count-less .ensures,
+    )
+
+pub lift-tailcall-spec : {M : Type 1} → statement M
+lift-tailcall-spec = tie.close (tie.spec (λ c κs. search needs) (λ c κs. search needs) (λ c κs. search needs) (λ c κs. search needs) returns)

@@ -1,0 +1,16 @@
+-- `families::control::lift_tbc` meets its contract: each part is what its builder promises.
+-- Assumes nothing.
+use borrow.Author.Needs.{needs}
+use Rattle.families.proofs.control.lift_tbc.Statement.{statement}
+use Rattle.families.proofs.control.lift_tbc.Tie as tie
+
+returns : tie.Need-returns
+returns c =
+    rw (
+      c .writes0 .ensures,
+      c .before .reads0 .ensures,
+      c .before .before .operands1 .ensures,
+    )
+
+pub lift-tbc-spec : {M : Type 1} → statement M
+lift-tbc-spec = tie.close (tie.spec (λ c κs. search needs) (λ c κs. search needs) (λ c κs. search needs) returns)

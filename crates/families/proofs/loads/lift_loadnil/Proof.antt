@@ -1,0 +1,17 @@
+-- `families::loads::lift_loadnil` meets its contract: each part is what its builder promises.
+-- Assumes nothing.
+use borrow.Author.Needs.{needs}
+use Rattle.families.proofs.loads.lift_loadnil.Statement.{statement}
+use Rattle.families.proofs.loads.lift_loadnil.Tie as tie
+
+returns : tie.Need-returns
+returns c =
+    rw (
+      c .writes1 .ensures,
+      c .before .register-plus .ensures,
+      c .before .before .reads0 .ensures,
+      c .before .before .before .operands2 .ensures,
+    )
+
+pub lift-loadnil-spec : {M : Type 1} → statement M
+lift-loadnil-spec = tie.close (tie.spec (λ c. search needs) (λ c. search needs) (λ c κs. search needs) (λ c κs. search needs) (λ c κs. search needs) (λ c κs. search needs) returns)

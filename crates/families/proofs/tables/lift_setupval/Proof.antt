@@ -1,0 +1,18 @@
+-- `families::tables::lift_setupval` meets its contract: each part is what its builder promises.
+-- Assumes nothing.
+use borrow.Author.Needs.{needs}
+use Rattle.families.proofs.tables.lift_setupval.Statement.{statement}
+use Rattle.families.proofs.tables.lift_setupval.Tie as tie
+
+returns : tie.Need-returns
+returns c =
+    rw (
+      c .writes1 .ensures,
+      c .before .upvalue-target .ensures,
+      c .before .before .reads1 .ensures,
+      c .before .before .before .operands2 .ensures,
+      c .before .before .before .before .upvalue-operand .ensures,
+    )
+
+pub lift-setupval-spec : {M : Type 1} → statement M
+lift-setupval-spec = tie.close (tie.spec (λ c κs. search needs) (λ c κs. search needs) (λ c κs. search needs) (λ c κs. search needs) (λ c κs. search needs) returns)

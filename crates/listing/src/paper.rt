@@ -1,0 +1,27 @@
+// The page on which an answer is written, before it goes out at once.
+ghost use mathlib.Core.Path.{_≡_};
+ghost use Prim.Native.Nat.{_+_, _≤_};
+ghost use lib.ListN.{length};
+ghost use Rattle.sheet.specs.Rows.{put};
+
+// The longest answer: 4,096 lines of 31 bytes, and the last one of 13.
+pub(crate) const PAGE: usize = 126989;
+
+// A page for any answer.
+pub fn page() -> [u8; 126989]
+    ensures { λ r. ⌜ 126989 ≡ length r ⌝ }
+{
+    [0; 126989]
+}
+
+// Puts text from index at on.
+pub(crate) fn put_text(page: &mut [u8], at: usize, text: &[u8])
+    requires { ⌜ at + length (now text) ≤ length (now page) ⌝ }
+    ensures { λ _. ⌜ now (page .exit) ≡ put (now (page .entry)) at (now (text .entry)) ⌝ }
+{
+    let mut i = 0;
+    while i < text.len() {
+        page[at + i] = text[i];
+        i += 1;
+    }
+}

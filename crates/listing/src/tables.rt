@@ -1,0 +1,74 @@
+// The program's fixed work tables, of which the library is lent the parts that a sheet fills.
+ghost use mathlib.Core.Path.{_≡_};
+ghost use Prim.Native.Nat.{_≤_};
+ghost use lib.ListN.{length};
+ghost use Rattle.sheet.specs.Rows.{put, refusalLineOf};
+ghost use Rattle.listing.specs.Answer.{runText, answerOf, writtenOf};
+use crate::paper::PAGE;
+use crate::paper::put_text;
+use crate::rows::put_listing;
+use runs::Run;
+use sheet::Sheet;
+
+// Puts the only line of a refusal, and answers how long it is.
+fn put_refusal(number: u8, place: usize, page: &mut [u8]) -> usize
+    requires { ⌜ 13 ≤ length (now page) ⌝ }
+    ensures { λ r. ⌜ r ≡ 13 ⌝ }
+    ensures { λ _. ⌜ now (page .exit) ≡ put (now (page .entry)) 0 (refusalLineOf number place) ⌝ }
+{
+    put_text(page, 0, &sheet::refusal_line(number, place));
+    13
+}
+
+// Puts what is to be written for words, and answers how long it is. Of the run's refusals only 7 and 8 can come: 4,096 words
+// are below 32,768 (1), the parts that are lent have a place for each word (6), and no run is longer than the words (9).
+fn put_run(words: &[u32], page: &mut [u8]) -> usize
+    requires { ⌜ (length (now words) ≤ 4096) × (126989 ≤ length (now page)) ⌝ }
+    ensures { λ r. ⌜ r ≡ length (runText (now (words .entry))) ⌝ }
+    ensures { λ _. ⌜ now (page .exit) ≡ put (now (page .entry)) 0 (runText (now (words .entry))) ⌝ }
+{
+    let n = words.len();
+    let mut marks = [0u8; 4096];
+    let mut lengths = [0u32; 4096];
+    let run = runs::longest_run(words, &mut marks[..n], &mut lengths[..n]);
+    match run {
+        Run::Accepted { longest, first } => {
+            return put_listing(words, &lengths[..n], longest, first, page);
+        }
+        Run::Refused { number, place } => {
+            return put_refusal(number, place, page);
+        }
+    }
+}
+
+// Puts what is to be written for a sheet's text, and answers how long it is.
+fn put_answer(text: &[u8], page: &mut [u8]) -> usize
+    requires { ⌜ 126989 ≤ length (now page) ⌝ }
+    ensures { λ r. ⌜ r ≡ length (answerOf (now (text .entry))) ⌝ }
+    ensures { λ _. ⌜ now (page .exit) ≡ put (now (page .entry)) 0 (answerOf (now (text .entry))) ⌝ }
+{
+    let mut words = [0u32; 4096];
+    let s = sheet::read(text, &mut words);
+    match s {
+        Sheet::Words(n) => {
+            return put_run(&words[..n], page);
+        }
+        Sheet::Malformed(_) => {
+            return put_refusal(sheet::number(s), sheet::place(s), page);
+        }
+        Sheet::TooLong => {
+            return put_refusal(sheet::number(s), sheet::place(s), page);
+        }
+    }
+}
+
+// From a sheet's text to what the program writes: the bytes stand at the start of the page, and their count is answered.
+pub fn answer(text: &[u8], page: &mut [u8]) -> usize
+    ensures { λ r. ⌜ r ≡ length (writtenOf (length (now (page .entry))) (now (text .entry))) ⌝ }
+    ensures { λ _. ⌜ now (page .exit) ≡ put (now (page .entry)) 0 (writtenOf (length (now (page .entry))) (now (text .entry))) ⌝ }
+{
+    if page.len() < PAGE {
+        return 0;
+    }
+    put_answer(text, page)
+}

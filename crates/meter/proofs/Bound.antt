@@ -1,0 +1,194 @@
+-- A meter and the longest run, over any lawful graph: what the model holds is a path, and the words since service are its last segment.
+-- Assumes nothing.
+use Prim.Native.Nat.{ℕ, _+_, _<_, _≤_}
+use mathlib.Core.Bool.{Bool, true, false, cond, _||_, or-true}
+use mathlib.Core.Path.{_≡_, refl, sym, ap, subst, _∙_}
+use mathlib.Core.Logic.{inl, inr}
+use mathlib.Core.List.{List, [], _∷_, _++_, append-assoc}
+use native.Mathlib.Omega.{arith}
+use lib.ListN.{length, replicate, length-append}
+use borrow.Author.Tests.{eq-eqb, lt-ltb}
+use Rattle.runs.specs.Graph.{In, Graph, Lawful, Along, Path, Unserved, Segment}
+use Rattle.runs.specs.Run.{mostWords}
+use Rattle.meter.specs.declared.step.Meter.{Meter}
+use Rattle.meter.specs.Feed.{isIn, follows, ceiling, beginOf}
+use Rattle.meter.specs.Model.{Call, begin, feed, Model, blank, lastFrom, writes, servesTo, fed, called, answerTo, modelAfter, modelAnswers, anyServes, sinceService, wordsSince}
+use Rattle.meter.specs.Calls.{meterAfter}
+use Rattle.meter.specs.Bound.{feeds, ShownOn, Bound}
+use Rattle.meter.proofs.Paths.{is-in, last-more}
+use Rattle.meter.proofs.Trust.{first-word, follows-model}
+
+-- the test of `In`, the other way round
+in-is : (q : ℕ) (xs : List ℕ) → In q xs → isIn q xs ≡ true
+in-is q [] i = absurd i
+in-is q (x ∷ xs) (inl e) = rw (eq-eqb x q (sym e))
+in-is q (x ∷ xs) (inr i) = rw (in-is q xs i, or-true)
+
+module _ (g : Graph) (law : Lawful g) where
+  -- What the model writes down is a path, or nothing.
+
+  along-more : (p : ℕ) (ps : List ℕ) (q : ℕ) → Along g p ps → follows g (lastFrom p ps) q ≡ true → Along g p (ps ++ (q ∷ []))
+  along-more p [] q a h = let i : In q (g .successors p) = is-in q (g .successors p) h in (a, i, law .inside p q i)
+  along-more p (x ∷ ps) q a h = (a .0, a .1, along-more x ps q (a .2) h)
+
+  abbrev PathOrNone : List ℕ → Type 0
+  PathOrNone [] = Unit {0}
+  PathOrNone (p ∷ ps) = Path g (p ∷ ps)
+
+  path-more : (ps : List ℕ) (q : ℕ) → PathOrNone ps → writes g ps q ≡ true → PathOrNone (ps ++ (q ∷ []))
+  path-more [] q k h = let f : (q ≡ 0) × (0 < g .size) = first-word g law q h in (f .0, omega arith)
+  path-more (p ∷ ps) q k h = (k .0, along-more p ps q (k .1) h)
+
+  path-fed : (b : Model) (q : ℕ) (t : Bool) → writes g (b .path) q ≡ t → PathOrNone (b .path) → PathOrNone (fed g b q .path)
+  path-fed b q true e k = rw e (path-more (b .path) q k e)
+  path-fed b q false e k = rw e k
+
+  path-after : (b : Model) → PathOrNone (b .path) → (calls : List Call) → PathOrNone (modelAfter g b calls .path)
+  path-after b k [] = k
+  path-after b k (begin ∷ cs) = path-after (called g b begin) tt cs
+  path-after b k (feed q ∷ cs) = path-after (fed g b q) (path-fed b q (writes g (b .path) q) refl k) cs
+
+  -- The words since service are a segment, the last of the path.
+
+  none-serves : (p : ℕ) (ps : List ℕ) → anyServes g p ps ≡ false → Unserved g p ps
+  none-serves p [] h = tt
+  none-serves p (q ∷ qs) h = go (g .serves p q) refl (none-serves q qs) h
+    where
+      go : (t : Bool) → g .serves p q ≡ t → (anyServes g q qs ≡ false → Unserved g q qs) → t || anyServes g q qs ≡ false → Unserved g p (q ∷ qs)
+      go true e later d = let z : _≡_ {A = ℕ} 0 1 = cc in absurd (omega arith)
+      go false e later d = (e, later d)
+
+  -- the path as the words before, and those since service
+  record Split (p : ℕ) (ps : List ℕ) : Type 0 where
+    before : List ℕ
+    first : ℕ
+    rest : List ℕ
+    whole : p ∷ ps ≡ before ++ (first ∷ rest)
+    since : sinceService g p ps ≡ first ∷ rest
+    unserved : Unserved g first rest
+
+  split : (p : ℕ) (ps : List ℕ) → Split p ps
+  split p [] = record { before = []; first = p; rest = []; whole = refl; since = refl; unserved = tt }
+  split p (q ∷ qs) = go (anyServes g p (q ∷ qs)) refl (split q qs)
+    where
+      go : (t : Bool) → anyServes g p (q ∷ qs) ≡ t → Split q qs → Split p (q ∷ qs)
+      go true e s = record { before = p ∷ s .before; first = s .first; rest = s .rest; whole = rw (s .whole); since = rw e (s .since); unserved = s .unserved }
+      go false e s = record { before = []; first = p; rest = q ∷ qs; whole = refl; since = rw e; unserved = none-serves p (q ∷ qs) e }
+
+  append-none : (l : List ℕ) → l ++ [] ≡ l
+  append-none [] = refl
+  append-none (x ∷ l) = rw (append-none l)
+
+  since-segment : (p : ℕ) (ps : List ℕ) → Path g (p ∷ ps) → (s : Split p ps) → Segment g (s .first) (s .rest)
+  since-segment p ps path s =
+      record { before = s .before; after = []; path = rw (append-none (s .rest)) (subst (λ (l : List ℕ). Path g l) (s .whole) path); unserved = s .unserved }
+
+  abbrev AtMost : ℕ → Type 0
+  AtMost longest = (p : ℕ) (ps : List ℕ) → Segment g p ps → length (p ∷ ps) ≤ longest
+
+  since-most : (longest : ℕ) → AtMost longest → (ps : List ℕ) → PathOrNone ps → wordsSince g ps ≤ longest
+  since-most longest most [] k = omega arith
+  since-most longest most (p ∷ ps) k =
+      let s : Split p ps = split p ps in
+      rw (s .since) (most (s .first) (s .rest) (since-segment p ps k s))
+
+  -- A path fed word by word is written down whole, and no word of it is refused.
+
+  abbrev Written : ℕ → List ℕ → ℕ → List ℕ → Type 0
+  Written x xs k qs =
+      (modelAfter g (record { path = x ∷ xs; tally = k }) (feeds qs) .path ≡ x ∷ (xs ++ qs))
+      × (modelAnswers g (record { path = x ∷ xs; tally = k }) (feeds qs) ≡ replicate (length qs) 0)
+
+  after-word : (b : Model) (q : ℕ) → writes g (b .path) q ≡ true
+      → (fed g b q ≡ record { path = b .path ++ (q ∷ []); tally = cond (servesTo g (b .path) q) (b .tally + 1) (b .tally) }) × (answerTo g b q ≡ 0)
+  after-word b q h = (rw h, rw h)
+
+  written : (x : ℕ) (xs : List ℕ) (k : ℕ) (qs : List ℕ) → Along g (lastFrom x xs) qs → Written x xs k qs
+  written x xs k [] a = (ap (λ (l : List ℕ). x ∷ l) (sym (append-none xs)), refl)
+  written x xs k (q ∷ qs) a =
+      let now : (fed g (record { path = x ∷ xs; tally = k }) q ≡ record { path = x ∷ (xs ++ (q ∷ [])); tally = cond (g .serves (lastFrom x xs) q) (k + 1) k })
+      × (answerTo g (record { path = x ∷ xs; tally = k }) q ≡ 0) =
+      after-word (record { path = x ∷ xs; tally = k }) q (in-is q (g .successors (lastFrom x xs)) (a .1)) in
+      let rest : Written x (xs ++ (q ∷ [])) (cond (g .serves (lastFrom x xs) q) (k + 1) k) qs =
+      written x (xs ++ (q ∷ [])) (cond (g .serves (lastFrom x xs) q) (k + 1) k) qs (rw (last-more x xs q) (a .2)) in (
+        ap (λ (b : Model). modelAfter g b (feeds qs) .path) (now .0) ∙ rest .0 ∙ ap (λ (l : List ℕ). x ∷ l) (append-assoc xs (q ∷ []) qs),
+        rw (now .1, now .0) (ap (λ (l : List ℕ). 0 ∷ l) (rest .1)),
+      )
+
+  starts-inside : (p : ℕ) (ps : List ℕ) → Along g p ps → p < g .size
+  starts-inside p [] a = a
+  starts-inside p (q ∷ qs) a = a .0
+
+  written-path : (words : List ℕ) → Path g words
+      → (modelAfter g blank (feeds words) .path ≡ words) × (modelAnswers g blank (feeds words) ≡ replicate (length words) 0)
+  written-path [] path = absurd path
+  written-path (p ∷ ps) path =
+      let rest : Written p [] 0 ps = written p [] 0 ps (path .1) in
+      let first : writes g [] p ≡ true = rw (eq-eqb p 0 (path .0), lt-ltb 0 (g .size) (omega (arith, starts-inside p ps (path .1)))) in
+      let now : (fed g blank p ≡ record { path = p ∷ []; tally = 0 }) × (answerTo g blank p ≡ 0) = after-word blank p first in (
+        ap (λ (b : Model). modelAfter g b (feeds ps) .path) (now .0) ∙ rest .0,
+        rw (now .1, now .0) (ap (λ (l : List ℕ). 0 ∷ l) (rest .1)),
+      )
+
+  -- On a path that ends with a segment, at least the segment's words are since service.
+
+  since-whole : (p : ℕ) (ps : List ℕ) → Unserved g p ps → (anyServes g p ps ≡ false) × (sinceService g p ps ≡ p ∷ ps)
+  since-whole p [] u = (refl, refl)
+  since-whole p (q ∷ qs) u =
+      let later : anyServes g q qs ≡ false = since-whole q qs (u .1) .0 in
+      (rw (u .0, later), rw (u .0, later))
+
+  module _ (p : ℕ) (ps : List ℕ) (u : Unserved g p ps) where
+    since-least : (b : ℕ) (bs : List ℕ) → length (p ∷ ps) ≤ length (sinceService g b (bs ++ (p ∷ ps)))
+    since-least b [] = go (anyServes g b (p ∷ ps))
+      where
+        go : (t : Bool) → length (p ∷ ps) ≤ length (cond t (sinceService g p ps) (b ∷ p ∷ ps))
+        go true = rw (since-whole p ps u .1) (omega arith)
+        go false = omega arith
+    since-least b (x ∷ xs) = go (anyServes g b (x ∷ (xs ++ (p ∷ ps)))) (since-least x xs)
+      where
+        go : (t : Bool) → length (p ∷ ps) ≤ length (sinceService g x (xs ++ (p ∷ ps)))
+            → length (p ∷ ps) ≤ length (cond t (sinceService g x (xs ++ (p ∷ ps))) (b ∷ x ∷ (xs ++ (p ∷ ps))))
+        go true later = later
+        go false later = omega (arith, length-append xs (p ∷ ps))
+
+    ends-least : (bs : List ℕ) → length (p ∷ ps) ≤ wordsSince g (bs ++ (p ∷ ps))
+    ends-least [] = rw (since-whole p ps u .1) (omega arith)
+    ends-least (b ∷ bs) = since-least b bs
+
+  along-start : (p : ℕ) (ps qs : List ℕ) → Along g p (ps ++ qs) → Along g p ps
+  along-start p [] qs a = starts-inside p qs a
+  along-start p (x ∷ ps) qs a = (a .0, a .1, along-start x ps qs (a .2))
+
+  path-start : (bs : List ℕ) (p : ℕ) (ps qs : List ℕ) → Path g (bs ++ ((p ∷ ps) ++ qs)) → Path g (bs ++ (p ∷ ps))
+  path-start [] p ps qs path = (path .0, along-start p ps qs (path .1))
+  path-start (b ∷ bs) p ps qs path = (path .0, along-start b (bs ++ (p ∷ ps)) qs (rw (append-assoc bs (p ∷ ps) qs) (path .1)))
+
+  -- The bound.
+
+  module _ (small : g .size ≤ mostWords) (m : Meter) (fits : m .services ≤ ceiling) (longest : ℕ) (most : AtMost longest) where
+    never : (calls : List Call) → meterAfter g (beginOf m) calls .count ≤ longest
+    never calls =
+        rw (follows-model g law small m calls fits .count)
+        (since-most longest most (modelAfter g blank calls .path) (path-after blank tt calls))
+
+    fed-count : (words : List ℕ) → Path g words → meterAfter g (beginOf m) (feeds words) .count ≡ wordsSince g words
+    fed-count words path = follows-model g law small m (feeds words) fits .count ∙ ap (wordsSince g) (written-path words path .0)
+
+    reached : (p : ℕ) (ps : List ℕ) → Segment g p ps → length (p ∷ ps) ≡ longest → ShownOn g m longest
+    reached p ps s e =
+        let words : List ℕ = s .before ++ (p ∷ ps) in
+        let path : Path g words = path-start (s .before) p ps (s .after) (s .path) in
+        let count : ℕ = meterAfter g (beginOf m) (feeds words) .count in
+        let most-shown : count ≤ longest = never (feeds words) in
+        let is-since : count ≡ wordsSince g words = fed-count words path in
+        let least-shown : length (p ∷ ps) ≤ wordsSince g words = ends-least p ps (s .unserved) (s .before) in
+        record { words = words; path = path; shows = omega arith }
+
+    pub bound : (p : ℕ) (ps : List ℕ) → Segment g p ps → length (p ∷ ps) ≡ longest → Bound g m longest
+    bound p ps s e =
+        record {
+          taken = λ words path. follows-model g law small m (feeds words) fits .answers ∙ written-path words path .1;
+          never = never;
+          reached = reached p ps s e;
+        }

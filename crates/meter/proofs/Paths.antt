@@ -1,0 +1,58 @@
+-- One word more at a path's end: its last word, and the words since service.
+-- Assumes nothing.
+use Prim.Native.Nat.{ℕ, _+_}
+use mathlib.Core.Bool.{Bool, true, false, cond, _||_, or-false, or-true}
+use mathlib.Core.Path.{_≡_, refl, sym, ap, _∙_}
+use mathlib.Core.Logic.{inl, inr}
+use mathlib.Core.List.{List, [], _∷_, _++_}
+use native.Mathlib.Omega.{arith}
+use lib.Dec.{eqb}
+use lib.ListN.{length, length-append}
+use borrow.Author.Tests.{eqb-true}
+use Rattle.runs.specs.Graph.{In, Graph}
+use Rattle.meter.specs.Feed.{isIn}
+use Rattle.meter.specs.Model.{lastFrom, anyServes, sinceService, wordsSince}
+
+-- the test of `In` is right
+pub is-in : (q : ℕ) (xs : List ℕ) → isIn q xs ≡ true → In q xs
+is-in q [] h = let z : _≡_ {A = ℕ} 0 1 = cc in omega arith
+is-in q (x ∷ xs) h = go (eqb x q) refl (is-in q xs) h
+  where
+    go : (t : Bool) → eqb x q ≡ t → (isIn q xs ≡ true → In q xs) → t || isIn q xs ≡ true → In q (x ∷ xs)
+    go true e later d = inl (sym (eqb-true x q e))
+    go false e later d = inr (later d)
+
+pub last-more : (p : ℕ) (ps : List ℕ) (q : ℕ) → lastFrom p (ps ++ (q ∷ [])) ≡ q
+last-more p [] q = refl
+last-more p (x ∷ ps) q = last-more x ps q
+
+or-assoc : (t u v : Bool) → t || (u || v) ≡ (t || u) || v
+or-assoc true u v = refl
+or-assoc false u v = refl
+
+module _ (g : Graph) where
+  any-more : (p : ℕ) (ps : List ℕ) (q : ℕ) → anyServes g p (ps ++ (q ∷ [])) ≡ anyServes g p ps || g .serves (lastFrom p ps) q
+  any-more p [] q = or-false (g .serves p q)
+  any-more p (x ∷ ps) q = rw (any-more x ps q) (or-assoc (g .serves p x) (anyServes g x ps) (g .serves (lastFrom x ps) q))
+
+  -- a serving step leads to q: the words since service are q alone
+  pub since-served : (p : ℕ) (ps : List ℕ) (q : ℕ) → g .serves (lastFrom p ps) q ≡ true → sinceService g p (ps ++ (q ∷ [])) ≡ q ∷ []
+  since-served p [] q e = rw e
+  since-served p (x ∷ ps) q e = rw (any-more x ps q, e, or-true, or-true) (since-served x ps q e)
+
+  -- another step adds q to them
+  pub since-more : (p : ℕ) (ps : List ℕ) (q : ℕ) → g .serves (lastFrom p ps) q ≡ false → sinceService g p (ps ++ (q ∷ [])) ≡ sinceService g p ps ++ (q ∷ [])
+  since-more p [] q e = rw e
+  since-more p (x ∷ ps) q e = rw (any-more x ps q, e, or-false) (go (g .serves p x || anyServes g x ps) (since-more x ps q e))
+    where
+      go : (t : Bool) → sinceService g x (ps ++ (q ∷ [])) ≡ sinceService g x ps ++ (q ∷ [])
+          → cond t (sinceService g x (ps ++ (q ∷ []))) (p ∷ x ∷ (ps ++ (q ∷ []))) ≡ cond t (sinceService g x ps) (p ∷ x ∷ ps) ++ (q ∷ [])
+      go true later = later
+      go false later = refl
+
+  pub words-more : (p : ℕ) (ps : List ℕ) (q : ℕ) → wordsSince g (p ∷ (ps ++ (q ∷ []))) ≡ cond (g .serves (lastFrom p ps) q) 1 (wordsSince g (p ∷ ps) + 1)
+  words-more p ps q = go (g .serves (lastFrom p ps) q) refl
+    where
+      go : (t : Bool) → g .serves (lastFrom p ps) q ≡ t → wordsSince g (p ∷ (ps ++ (q ∷ []))) ≡ cond t 1 (wordsSince g (p ∷ ps) + 1)
+      go true e = ap length (since-served p ps q e)
+      go false e = ap length (since-more p ps q e) ∙ length-append (sinceService g p ps) (q ∷ [])

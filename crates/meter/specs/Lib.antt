@@ -1,0 +1,6 @@
+-- Layer 3: the meter, the reference model, and demand 3.
+pub mod Feed
+pub mod Model
+pub mod Calls
+pub mod Bound
+pub mod Demand3

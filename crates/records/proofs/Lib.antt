@@ -1,0 +1,7 @@
+pub mod Columns
+pub mod Elements
+pub mod Lent
+pub mod Lowest
+pub mod Plan
+pub mod Turns
+pub mod Wrap

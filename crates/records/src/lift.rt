@@ -1,0 +1,169 @@
+// The record of a word: its arm's operands and effects, with what the opcode table decides.
+ghost use mathlib.Core.Path.{_≡_};
+ghost use Prim.Native.Nat.{_<_, _≤_};
+ghost use lib.ListN.{length};
+ghost use Rattle.fields.specs.Word.{opcodeOf, cOf};
+ghost use Rattle.fields.specs.Table.{opcodeTable, fallbackOf};
+ghost use Rattle.records.specs.Lift.{fallbackBy, before, companionPc, confidenceOf, liftOf};
+ghost use Rattle.records.specs.Walk.{blank, liftedOf};
+use crate::dispatch::lift_body;
+use crate::refusals::Answer;
+use crate::refusals::planned;
+use families::builders::*;
+use families::parts::event_of;
+use fields::columns::*;
+use fields::lookup::companion_in;
+use fields::lookup::fallback_in;
+use fields::lookup::table;
+use fields::opcodes::*;
+use fields::word::decode;
+use fields::word::opcode;
+use values::ir::Confidence;
+use values::ir::Fallback;
+use values::ir::ImplicitEffect;
+use values::ir::OptionalPc;
+use values::ir::SemanticInstruction;
+
+// A record by value, and the answer: an enum cannot hold the arrays of a record, so a flag says whether there is one.
+pub struct Lifted {
+    pub answer: Answer,
+    pub present: bool,
+    pub instruction: SemanticInstruction,
+}
+
+fn fallback_of(table: &[u8; 512], word: u32, c: u8) -> Fallback
+    requires { ⌜ now table ≡ opcodeTable ⌝ }
+    ensures { λ r. ⌜ r ≡ fallbackBy (fallbackOf (opcodeOf word)) c ⌝ }
+{
+    let rule = fallback_in(table, word);
+    if rule == NO_FALLBACK {
+        Fallback::NoFallback
+    } else if rule == BY_C {
+        Fallback::Event(event_of(c))
+    } else {
+        Fallback::Event(rule)
+    }
+}
+
+fn word_before(pc: usize) -> OptionalPc
+    ensures { λ r. ⌜ r ≡ before pc ⌝ }
+{
+    if pc == 0 {
+        OptionalPc::NoPc
+    } else {
+        OptionalPc::Pc(pc - 1)
+    }
+}
+
+fn companion_of(table: &[u8; 512], word: u32, pc: usize) -> OptionalPc
+    requires { ⌜ (now table ≡ opcodeTable) × (pc < 32768) ⌝ }
+    ensures { λ r. ⌜ r ≡ companionPc (opcodeOf word) pc ⌝ }
+{
+    let number = opcode(word);
+    if number == OP_NEWTABLE {
+        return OptionalPc::NoPc;
+    }
+    if number == OP_EXTRAARG {
+        return word_before(pc);
+    }
+    let wanted = companion_in(table, word);
+    if wanted == EXTRA_AFTER {
+        OptionalPc::Pc(pc + 1)
+    } else if wanted == ARITHMETIC_BEFORE {
+        word_before(pc)
+    } else {
+        OptionalPc::NoPc
+    }
+}
+
+fn confidence_of(opcode: u8) -> Confidence
+    ensures { λ r. ⌜ r ≡ confidenceOf opcode ⌝ }
+{
+    if opcode <= OP_EXTRAARG {
+        Confidence::Reviewed
+    } else {
+        Confidence::Unverified
+    }
+}
+
+pub(crate) fn lift_at<'a>(
+    words: &'a [u32],
+    tags: &'a [u8],
+    payloads: &'a [u64],
+    names: &'a [u64],
+    pc: usize,
+) -> SemanticInstruction
+    requires { ⌜ (pc < length (now words)) × (length (now words) ≤ 32768) ⌝ }
+    ensures { λ r. ⌜ r ≡ liftOf (now (words .entry)) (now (tags .entry)) (now (payloads .entry)) (now (names .entry)) pc ⌝ }
+{
+    let raw_word = words[pc];
+    let raw = decode(raw_word);
+    let number = opcode(raw_word);
+    let body = lift_body(words, tags, payloads, names, pc, raw_word, raw, number);
+    let entries = table();
+    let operands = body.operands;
+    let reads = body.reads;
+    let writes = body.writes;
+    let implicit_effect = body.implicit_effect;
+    let jump_target = body.jump_target;
+    SemanticInstruction {
+        pc,
+        raw_word,
+        opcode: number,
+        operands,
+        reads,
+        writes,
+        implicit_effect,
+        metamethod_fallback: fallback_of(&entries, raw_word, raw.c),
+        jump_target,
+        companion_pc: companion_of(&entries, raw_word, pc),
+        confidence: confidence_of(number),
+    }
+}
+
+fn no_instruction() -> SemanticInstruction
+    ensures { λ r. ⌜ r ≡ blank ⌝ }
+{
+    SemanticInstruction {
+        pc: 0,
+        raw_word: 0,
+        opcode: 0,
+        operands: operands0(),
+        reads: reads0(),
+        writes: writes0(),
+        implicit_effect: ImplicitEffect::NoEffect,
+        metamethod_fallback: Fallback::NoFallback,
+        jump_target: OptionalPc::NoPc,
+        companion_pc: OptionalPc::NoPc,
+        confidence: Confidence::Unverified,
+    }
+}
+
+// One record by value, for those who have no list to lend.
+pub fn lift_word<'a>(
+    words: &'a [u32],
+    tags: &'a [u8],
+    payloads: &'a [u64],
+    names: &'a [u64],
+    bytes: &'a [u8],
+    pc: usize,
+) -> Lifted
+    ensures { λ r. ⌜ r ≡ liftedOf (now (words .entry)) (now (tags .entry)) (now (payloads .entry)) (now (names .entry)) (length (now (bytes .entry))) pc ⌝ }
+{
+    let plan = planned(words, tags, payloads, names, bytes, words.len());
+    let answer = plan.answer;
+    let count = plan.count;
+    if pc < count {
+        Lifted {
+            answer,
+            present: true,
+            instruction: lift_at(words, tags, payloads, names, pc),
+        }
+    } else {
+        Lifted {
+            answer,
+            present: false,
+            instruction: no_instruction(),
+        }
+    }
+}

@@ -1,0 +1,14 @@
+-- `records_cases::limits::payloads_of` stays within the slice.
+-- Assumes nothing.
+use mathlib.Core.Path.{sym}
+use lib.Seq.{length-take-le}
+use borrow.Author.Needs.{needs}
+use Rattle.records_cases.proofs.limits.payloads_of.Statement.{statement}
+use Rattle.records_cases.proofs.limits.payloads_of.Tie as tie
+
+slice-aggregate-result : tie.Need-slice-aggregate-result
+slice-aggregate-result c =
+    sym (length-take-le (c .before .before .args .n) (c .before .before .args .s .now) (c .before .if1 .taken))
+
+pub payloads-of-spec : {M : Type 1} → statement M
+payloads-of-spec = tie.close (tie.spec slice-aggregate-result (λ c. search needs) (λ c. search needs))

@@ -1,0 +1,15 @@
+// The limits of what lifting takes, and the records of a fixed sample of words. What is printed is held to the stored output.
+mod limits;
+mod print;
+mod sample;
+mod sums;
+
+fn main() {
+    limits::words_and_records();
+    limits::constants();
+    limits::tags();
+    limits::strings();
+    limits::names();
+    sample::opcodes();
+    sample::corners();
+}

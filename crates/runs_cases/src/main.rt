@@ -1,0 +1,12 @@
+// Cases at the edges of the table of steps and of the longest run. What is printed is held to the stored output.
+mod long;
+mod print;
+mod short;
+mod steps;
+mod words;
+
+fn main() {
+    steps::rows();
+    short::runs_of_few();
+    long::runs_of_many();
+}

@@ -1,0 +1,6 @@
+pub mod Widths
+pub mod Overlay
+pub mod Compare
+pub mod Round
+pub mod Scanned
+pub mod Whole

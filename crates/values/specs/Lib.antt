@@ -1,0 +1,2 @@
+-- Layer 4, its ground: the value types and the lookups.
+pub mod Values

@@ -1,0 +1,11 @@
+-- Follows a star. Each turn of the loop calls twice and goes back, so the motors are served all the time.
+local mount = ...
+
+local function track(star, turns)
+  for _ = 1, turns do
+    mount.nudge("ra", star.ra_rate)
+    mount.nudge("dec", star.dec_rate)
+  end
+end
+
+return track
