@@ -1,19 +1,16 @@
 -- Demand 3, first half, of the definition that the contract of `longest_run` cites. Assumes nothing.
 use mathlib.Core.Path.{_≡_, refl, sym, ap, _∙_}
-use mathlib.Core.Logic.{_↔_, _⊎_, inl, inr, ⊎-elim}
+use mathlib.Core.Logic.{_⊎_, inl, inr, ⊎-elim}
 use mathlib.Core.Bool.{Bool, true, false, _&&_}
 use mathlib.Core.List.{List, [], _∷_}
-use Prim.Native.Nat.{ℕ, _+_, _≤_, _<_}
+use Prim.Native.Nat.{ℕ, _≤_, _<_}
 use native.Mathlib.Omega.{arith}
 use borrow.Author.Tests.{eqb-true, eq-eqb, lt-ltb, le-ltb}
-use lib.Dec.{ltb, eqb}
 use lib.ListN.{length}
-use Rattle.runs.specs.declared.longest.Run.{Run}
 use Rattle.runs.specs.declared.longest.Run.the-variants.{Accepted, Refused}
 use Rattle.runs.specs.Graph.{Graph, Reachable, weigh}
 use Rattle.runs.specs.Marks.{markOf}
 use Rattle.runs.specs.Longest.{lowest, longest, first}
-use Rattle.runs.specs.Successors.{successorsOf, isInvalid}
 use Rattle.runs.specs.Instance.{graphOf, unitWeight}
 use Rattle.runs.specs.Run.{mostWords, reachesInvalid, lowestInvalid, runOf, numberOf, longestOf, firstOf}
 use Rattle.runs.specs.Meaning.{Meaning}

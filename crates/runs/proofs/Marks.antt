@@ -1,19 +1,17 @@
 -- The computed marks are 1 at the words that are reachable and 0 at the others. Assumes nothing.
-use mathlib.Core.Path.{_≡_, refl, sym, ap, ap₂, subst, _∙_}
-use mathlib.Core.Logic.{_⊎_, inl, inr, ⊎-elim}
+use mathlib.Core.Path.{_≡_, refl, sym, subst, _∙_}
+use mathlib.Core.Logic.{inl, inr}
 use mathlib.Core.Bool.{Bool, true, false, cond}
 use mathlib.Core.List.{List, [], _∷_}
-use Prim.Native.Nat.{ℕ, zero, suc, _+_, _-_, _≤_, _<_, zero-le}
-use native.Mathlib.Nat.{not-suc-le-zero}
+use Prim.Native.Nat.{ℕ, zero, suc, _+_, _-_, _≤_, _<_}
 use native.Mathlib.Omega.{arith}
 use borrow.Author.Tests.{ltb-true, ltb-false, eqb-true, eqb-false}
 use lib.Dec.{ltb, eqb}
-use lib.ListN.{length, getD, set, replicate, length-replicate, getD-replicate}
-use lib.Seq.{getD-set-same}
+use lib.ListN.{getD, set, replicate, length-replicate, getD-replicate}
 use Rattle.runs.specs.Graph.{Graph, In, Lawful, Reachable}
 use Rattle.runs.specs.Invariants.{Closed, Marking}
 use Rattle.runs.specs.Marks.{Search, push, pushAll, turn, turns, blank, markOf}
-use Rattle.runs.proofs.Paths.{Reach, start, some-word, reach-in, reach-of, reachable-of, reachable-next}
+use Rattle.runs.proofs.Paths.{Reach, start, some-word, reach-of, reachable-of, reachable-next}
 use Rattle.runs.proofs.Order.{one-of}
 use Rattle.runs.proofs.Moves.{in-one, Pushed, marking-none, marking-take, marking-hand, marking-done, pushed-none, pushed-old, pushed-new, pushed-join, tail-le}
 

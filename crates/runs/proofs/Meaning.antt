@@ -1,14 +1,14 @@
 -- The computed marks, lengths, L and first word are what the document says. Assumes nothing.
-use mathlib.Core.Path.{_≡_, refl, sym, ap, _∙_}
+use mathlib.Core.Path.{_≡_, refl, sym, _∙_}
 use mathlib.Core.Logic.{_↔_, ⊎-elim}
 use mathlib.Core.List.{List, [], _∷_}
-use Prim.Native.Nat.{ℕ, _+_, _≤_, _<_}
+use Prim.Native.Nat.{ℕ, _≤_, _<_}
 use native.Mathlib.Omega.{arith}
-use borrow.Author.Tests.{eqb-true, eqb-false, eq-eqb}
+use borrow.Author.Tests.{eqb-true, eqb-false}
 use lib.Dec.{eqb}
 use Rattle.runs.specs.Graph.{Graph, Lawful, Reachable, Segment, weigh}
 use Rattle.runs.specs.Marks.{markOf}
-use Rattle.runs.specs.Longest.{lengthOf, most, lowest, longest, first}
+use Rattle.runs.specs.Longest.{lengthOf, lowest, longest, first}
 use Rattle.runs.specs.Meaning.{Meaning}
 use Rattle.runs.specs.Invariants.{Top}
 use Rattle.runs.proofs.Order.{split, bit}

@@ -3,12 +3,12 @@ use mathlib.Core.Path.{_≡_, refl, sym, ap, ap₂, subst, _∙_}
 use mathlib.Core.Logic.{_⊎_, inl, inr, ⊎-elim}
 use mathlib.Core.List.{List, [], _∷_}
 use Prim.Native.Nat.{ℕ, zero, suc, _+_, _≤_, _<_, zero-le}
-use native.Mathlib.Nat.{not-suc-le-zero, le-refl}
+use native.Mathlib.Nat.{not-suc-le-zero}
 use native.Mathlib.Omega.{arith}
 use lib.ListN.{length, getD, set, length-set}
 use lib.Seq.{getD-set-same, getD-set-other}
 use Rattle.runs.specs.Graph.{Graph, In, Reachable}
-use Rattle.runs.specs.Invariants.{ones, Closed, Waits, Room, Marking}
+use Rattle.runs.specs.Invariants.{ones, Closed, Room, Marking}
 use Rattle.runs.proofs.Paths.{Reach, start, next}
 use Rattle.runs.proofs.Order.{split, same-or-not}
 

@@ -1,7 +1,7 @@
 -- Paths and segments, and the forms that proofs go by: a word is reached by edges from word 0, and a segment is a walk with no
 -- serving edge from a word that is reached. Assumes nothing.
 use mathlib.Core.Path.{_≡_, refl, sym, subst}
-use mathlib.Core.Logic.{_⊎_, inl, inr}
+use mathlib.Core.Logic.{inl, inr}
 use mathlib.Core.Bool.{false}
 use mathlib.Core.List.{List, [], _∷_, _++_, append-assoc}
 use Prim.Native.Nat.{ℕ, _<_}

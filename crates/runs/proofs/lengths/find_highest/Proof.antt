@@ -1,8 +1,7 @@
-use mathlib.Core.Path.{_≡_, refl, sym, subst, subst₂}
+use mathlib.Core.Path.{_≡_, sym, subst, subst₂}
 use mathlib.Core.Logic.{⊎-elim}
-use Prim.Native.Nat.{ℕ, _+_, _-_, _<_, _≤_}
+use Prim.Native.Nat.{ℕ, _+_, _-_, _≤_}
 use native.Mathlib.Omega.{arith}
-use lib.ListN.{length}
 use Rattle.runs.specs.Invariants.{at, Top}
 use Rattle.runs.proofs.Lists.{top-none, top-more, top-same}
 use Rattle.runs.proofs.lengths.find_highest.Statement.{statement}

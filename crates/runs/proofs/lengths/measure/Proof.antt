@@ -1,15 +1,15 @@
 use mathlib.Core.Path.{_≡_, sym, ap, refl, _∙_}
 use mathlib.Core.Logic.{inl, inr}
-use mathlib.Core.Bool.{Bool, true, false, cond}
+use mathlib.Core.Bool.{true, false, cond}
 use mathlib.Core.List.{List, [], _∷_}
 use Prim.Native.Nat.{ℕ, _+_, _<_, _≤_}
 use native.Mathlib.Omega.{arith}
-use lib.ListN.{length, getD}
+use lib.ListN.{length}
 use borrow.Author.Needs.{needs}
 use Rattle.runs.specs.Graph.{Graph, In}
 use Rattle.runs.specs.Marks.{markOf}
 use Rattle.runs.specs.Longest.{best, lengthOf}
-use Rattle.runs.specs.Successors.{successorsOf, listOf, isInvalid}
+use Rattle.runs.specs.Successors.{listOf, isInvalid}
 use Rattle.runs.specs.Instance.{graphOf, unitWeight}
 use Rattle.runs.specs.Run.{reachesInvalid}
 use Rattle.runs.specs.Invariants.{at}

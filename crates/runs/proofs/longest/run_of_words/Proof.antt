@@ -1,10 +1,9 @@
-use mathlib.Core.Path.{_≡_, refl, sym, ap, subst, _∙_}
+use mathlib.Core.Path.{_≡_, ap, subst, _∙_}
 use mathlib.Core.List.{List, _++_}
-use Prim.Native.Nat.{ℕ, _+_, _<_, _≤_}
+use Prim.Native.Nat.{ℕ, _+_, _≤_}
 use native.Mathlib.Omega.{arith}
 use lib.ListN.{length, drop, replicate}
 use borrow.Author.Needs.{needs}
-use Rattle.runs.specs.Graph.{Graph}
 use Rattle.runs.specs.Marks.{markOf}
 use Rattle.runs.specs.Longest.{lengthOf, longest, first}
 use Rattle.runs.specs.Instance.{graphOf, unitWeight}

@@ -1,10 +1,9 @@
-use mathlib.Core.Path.{_≡_, refl, _∙_}
+use mathlib.Core.Path.{refl}
 use mathlib.Core.Bool.{cond}
 use mathlib.Core.Logic.{inl}
-use Prim.Native.Nat.{ℕ, _+_, _-_, _<_}
+use Prim.Native.Nat.{_+_, _-_, _<_}
 use native.Mathlib.Omega.{arith}
 use lib.ListN.{length}
-use Rattle.runs.specs.Graph.{Graph}
 use Rattle.runs.specs.Instance.{graphOf}
 use Rattle.runs.specs.Invariants.{ones}
 use Rattle.runs.proofs.Turn.{Following, head-in, following-none, in-hand, following-on, followed, fewer}

@@ -1,5 +1,5 @@
 -- `runs::successors::test` meets its contract. Assumes nothing.
-use mathlib.Core.Path.{_≡_, sym, _∙_}
+use mathlib.Core.Path.{sym, _∙_}
 use Rattle.fields.specs.Opcodes.{«OP_JMP»}
 use Rattle.runs.specs.Successors.{unless}
 use borrow.Author.Needs.{needs}
