@@ -81,9 +81,18 @@ fn flat_record(i: SemanticInstruction) -> FlatRecord
     let companion_pc = i.companion_pc;
     let metamethod_fallback = i.metamethod_fallback;
     let implicit_effect = i.implicit_effect;
+    let operand_list = i.operands;
+    let operand_slots = operand_list.slots;
+    let read_list = i.reads;
+    let read_slots = read_list.slots;
+    let write_list = i.writes;
+    let write_slots = write_list.slots;
     let target = flat_pc(jump_target);
     let companion = flat_pc(companion_pc);
     let fallback = flat_fallback(metamethod_fallback);
+    let operands = flat_operands(operand_slots);
+    let reads = flat_reads(read_slots);
+    let writes = flat_writes(write_slots);
     FlatRecord {
         pc: i.pc as u64,
         raw_word: i.raw_word as u64,
@@ -96,12 +105,12 @@ fn flat_record(i: SemanticInstruction) -> FlatRecord
         has_fallback: fallback.kind,
         fallback: fallback.value,
         effect: flat_effect(implicit_effect),
-        operand_count: i.operands.count as u64,
-        operands: flat_operands(i.operands.slots),
-        read_count: i.reads.count as u64,
-        reads: flat_reads(i.reads.slots),
-        write_count: i.writes.count as u64,
-        writes: flat_writes(i.writes.slots),
+        operand_count: operand_list.count as u64,
+        operands,
+        read_count: read_list.count as u64,
+        reads,
+        write_count: write_list.count as u64,
+        writes,
     }
 }
 
@@ -137,5 +146,6 @@ pub extern "C" fn lawendeb_record<'a>(
     ensures { λ r. ⌜ r ≡ flatRecord (liftedOf (now (words .entry)) (now (tags .entry)) (now (payloads .entry)) (now (names .entry)) (length (now (bytes .entry))) pc .instruction) ⌝ }
 {
     let lifted = lift_word(words, tags, payloads, names, bytes, pc);
-    flat_record(lifted.instruction)
+    let instruction = lifted.instruction;
+    flat_record(instruction)
 }
