@@ -3,4 +3,4 @@ use Rattle.exports.proofs.lifted.lawendeb_record.Statement.{statement}
 use Rattle.exports.proofs.lifted.lawendeb_record.Tie as tie
 
 pub lawendeb-record-spec : {M : Type 1} → statement M
-lawendeb-record-spec = tie.close (tie.spec (λ c κs. search needs) (λ c κs. search needs) (λ c. rw (c .flat-record .ensures) ?))
+lawendeb-record-spec = tie.close (tie.spec (λ c κs. search needs) (λ c κs. search needs) (λ c. rw (c .flat-record .ensures, c .before .before .lift-word .ensures)))
