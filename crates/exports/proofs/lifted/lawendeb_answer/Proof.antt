@@ -1,3 +1,5 @@
+-- `exports::lifted::lawendeb_answer` meets its contract: the answer of `planned`, as numbers.
+-- Assumes nothing.
 use borrow.Author.Needs.{needs}
 use Rattle.exports.proofs.lifted.lawendeb_answer.Statement.{statement}
 use Rattle.exports.proofs.lifted.lawendeb_answer.Tie as tie

@@ -1,3 +1,5 @@
+-- `exports::parts::flat_effect` meets its contract.
+-- Assumes nothing.
 use borrow.Author.Needs.{needs}
 use Rattle.exports.proofs.parts.flat_effect.Statement.{statement}
 use Rattle.exports.proofs.parts.flat_effect.Tie as tie

@@ -1,3 +1,5 @@
+-- `exports::parts::flat_fallback` meets its contract.
+-- Assumes nothing.
 use borrow.Author.Needs.{needs}
 use Rattle.exports.proofs.parts.flat_fallback.Statement.{statement}
 use Rattle.exports.proofs.parts.flat_fallback.Tie as tie

@@ -1,3 +1,5 @@
+-- `exports::parts::flat_name` meets its contract.
+-- Assumes nothing.
 use borrow.Author.Needs.{needs}
 use Rattle.exports.proofs.parts.flat_name.Statement.{statement}
 use Rattle.exports.proofs.parts.flat_name.Tie as tie

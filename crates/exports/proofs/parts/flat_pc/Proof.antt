@@ -1,3 +1,5 @@
+-- `exports::parts::flat_pc` meets its contract.
+-- Assumes nothing.
 use borrow.Author.Needs.{needs}
 use Rattle.exports.proofs.parts.flat_pc.Statement.{statement}
 use Rattle.exports.proofs.parts.flat_pc.Tie as tie

@@ -1,3 +1,5 @@
+-- `exports::parts::flat_role` meets its contract.
+-- Assumes nothing.
 use borrow.Author.Needs.{needs}
 use Rattle.exports.proofs.parts.flat_role.Statement.{statement}
 use Rattle.exports.proofs.parts.flat_role.Tie as tie
