@@ -164,6 +164,11 @@ fn constants(n: usize) -> Vec<u32> {
     (0..n).map(|p| 3 | ((p % 256) as u32) << 15).collect()
 }
 
+/// The proved library gives its records one by one, and checks the tables at each: that is no measure of its lift into a list.
+fn lifts_into_a_list(side: &Side) -> bool {
+    side.lift.is_some() && side.name == "C twin"
+}
+
 fn lift_rows(sides: &[Side], rounds: usize) {
     let kinds: [(&str, fn(usize) -> Vec<u32>); 2] = [("real", real::of_length), ("constants", constants)];
     for (name, make) in kinds {
@@ -210,7 +215,7 @@ fn memory_rows(sides: &[Side]) {
         (side.feed)(&input.words, &mut m, 0);
         let feed = stack::used(|| assert_eq!((side.feed)(&input.words, &mut m, 1), 0));
         println!("| feed | {} | 0 | 0 | {feed} |", side.name);
-        if let Some(lift) = side.lift {
+        if let Some(lift) = side.lift.filter(|_| lifts_into_a_list(side)) {
             let depth = stack::used(|| assert_eq!(lift(&input, &mut records).number, 0));
             println!("| lift | {} | {} | 0 | {depth} |", side.name, std::mem::size_of::<Record>());
         }
@@ -238,7 +243,7 @@ fn main() {
     head(&sides, &[]);
     run_rows(&sides, rounds);
     feed_rows(&sides, rounds);
-    let lifting: Vec<Side> = sides.into_iter().filter(|s| s.lift.is_some()).collect();
+    let lifting: Vec<Side> = sides.into_iter().filter(lifts_into_a_list).collect();
     head(&lifting, &["luad"]);
     lift_rows(&lifting, rounds);
     memory_rows(&sides::sides());

@@ -7,6 +7,10 @@ ghost use Rattle.exports.specs.Flat.{flatSuccessors, flatRun};
 use runs::Run;
 use runs::edges::Successors;
 
+pub mod lifted;
+mod numbers;
+pub mod parts;
+
 #[repr(C)]
 pub struct FlatSuccessors {
     pub kind: u64,
