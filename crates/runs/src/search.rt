@@ -23,12 +23,8 @@ fn push(marks: &mut [u8], queue: &mut [u32], tail: usize, q: usize) -> usize
     tail
 }
 
-// Where the search goes on: with a word in hand, if there is more to do, and with the queue up to its tail.
-struct Turn {
-    more: bool,
-    word: usize,
-    tail: usize,
-}
+// Where the search goes on: whether there is more to do, the word in hand if there is, and the queue's tail.
+struct Turn(bool, usize, usize);
 
 // Marks the successors of word p. One that is new goes in hand, and another to the queue's end.
 fn visit(
@@ -40,54 +36,30 @@ fn visit(
     tail: usize,
 ) -> Turn
     requires { ⌜ (now table ≡ opcodeTable) × (length (now words) ≤ 32768) × (p < length (now words)) × Room (graphOf (now words)) (now marks) (now queue) tail ⌝ }
-    ensures { λ r. ⌜ Turned (graphOf (now (words .entry))) (now (marks .entry)) (now (queue .entry)) p tail (now (marks .exit)) (now (queue .exit)) (r .more) (r .word) (r .tail) ⌝ }
+    ensures { λ r. ⌜ Turned (graphOf (now (words .entry))) (now (marks .entry)) (now (queue .entry)) p tail (now (marks .exit)) (now (queue .exit)) (r .0) (r .1) (r .2) ⌝ }
 {
     let s = successors_in(table, words, p);
     match s {
         Successors::Invalid => {
-            return Turn {
-                more: false,
-                word: 0,
-                tail,
-            };
+            return Turn(false, 0, tail);
         }
         Successors::Stop => {
-            return Turn {
-                more: false,
-                word: 0,
-                tail,
-            };
+            return Turn(false, 0, tail);
         }
         Successors::One(a) => {
             if marks[a] == 0 {
                 marks[a] = 1;
-                return Turn {
-                    more: true,
-                    word: a,
-                    tail,
-                };
+                return Turn(true, a, tail);
             }
-            return Turn {
-                more: false,
-                word: 0,
-                tail,
-            };
+            return Turn(false, 0, tail);
         }
         Successors::Two(a, b) => {
             let t = push(marks, queue, tail, b);
             if marks[a] == 0 {
                 marks[a] = 1;
-                return Turn {
-                    more: true,
-                    word: a,
-                    tail: t,
-                };
+                return Turn(true, a, t);
             }
-            return Turn {
-                more: false,
-                word: 0,
-                tail: t,
-            };
+            return Turn(false, 0, t);
         }
     }
 }
@@ -105,15 +77,11 @@ fn follow(
     requires { ⌜ (now table ≡ opcodeTable) × Visiting (graphOf (now words)) (now marks) (now queue) head tail ⌝ }
     ensures { λ r. ⌜ Visited (graphOf (now (words .entry))) (now (marks .entry)) (now (queue .entry)) head (now (marks .exit)) (now (queue .exit)) r ⌝ }
 {
-    let mut t = Turn {
-        more: true,
-        word: queue[head] as usize,
-        tail,
-    };
-    while t.more {
-        t = visit(table, words, marks, queue, t.word, t.tail);
+    let mut t = Turn(true, queue[head] as usize, tail);
+    while t.0 {
+        t = visit(table, words, marks, queue, t.1, t.2);
     }
-    t.tail
+    t.2
 }
 
 // The first n marks become 0.

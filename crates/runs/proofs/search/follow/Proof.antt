@@ -11,10 +11,10 @@ use Rattle.runs.proofs.search.follow.Statement.{statement}
 use Rattle.runs.proofs.search.follow.Tie as tie
 
 abbrev Inv-loop : tie.InvT-loop
-Inv-loop table words marks₀ queue₀ head tail t₀ marks queue t = Following (graphOf words) marks₀ queue₀ head marks queue (t .more) (t .word) (t .tail)
+Inv-loop table words marks₀ queue₀ head tail t₀ marks queue t = Following (graphOf words) marks₀ queue₀ head marks queue (t .0) (t .1) (t .2)
 
 abbrev μ-loop : tie.MeasureT-loop
-μ-loop table words marks₀ queue₀ head tail t₀ marks queue t = (length words - ones (length words) marks) + cond (t .more) 1 0
+μ-loop table words marks₀ queue₀ head tail t₀ marks queue t = (length words - ones (length words) marks) + cond (t .0) 1 0
 
 in-queue : (s : tie.Start Inv-loop μ-loop) → s .args .head < length (s .args .queue .now)
 in-queue s = head-in (graphOf (s .args .words .now)) (s .args .marks .now) (s .args .queue .now) (s .args .head) (s .args .tail) (s .pre .1)
@@ -27,7 +27,7 @@ visit-requires c κs =
     (s .pre .0, s .pre .1 .few, k .held _ (inl refl) .0, k .room)
 
 again : (c : tie.After-visit Inv-loop μ-loop) → let l = c .before .before .before .before in let s = l .before .before .before .before .before in
-    Following (graphOf (s .args .words .now)) (s .args .marks .now) (s .args .queue .now) (s .args .head) (c .visit .last .1 .1 .0) (c .visit .last .1 .1 .1 .0) (c .visit .result .more) (c .visit .result .word) (c .visit .result .tail)
+    Following (graphOf (s .args .words .now)) (s .args .marks .now) (s .args .queue .now) (s .args .head) (c .visit .last .1 .1 .0) (c .visit .last .1 .1 .1 .0) (c .visit .result .0) (c .visit .result .1) (c .visit .result .2)
 again c =
     let l = c .before .before .before .before in
     let s = l .before .before .before .before .before in
