@@ -5,14 +5,12 @@ use mathlib.Core.Bool.{Bool, true, false, cond}
 use mathlib.Core.List.{List, _∷_, _++_}
 use Prim.Native.Nat.{ℕ, zero, suc, _+_, _-_, _≤_, _<_, max}
 use native.Mathlib.Nat.{not-suc-le-zero, le-of-suc-le-suc, le-antisymm, add-zero}
+use native.Mathlib.Numerals.{add-one}
 use native.Mathlib.Omega.{arith}
-use borrow.Author.Tests.{eq-eqb, ne-eqb}
-use lib.Dec.{eqb}
 use lib.ListN.{length, getD, take, drop, replicate, take-append-drop}
 use lib.Seq.{ext-getD, getD-take, length-take-le}
 use Rattle.runs.specs.Longest.{most, lowest}
 use Rattle.runs.specs.Run.{table, over}
-use Rattle.runs.specs.Invariants.{Top}
 use Rattle.runs.proofs.Order.{split, same-or-not}
 
 -- the lowest of the numbers from i up to n, as i goes down
@@ -64,6 +62,14 @@ lowest-is t k a l e h =
     (λ d. absurd (apart t (lowest t 0 k) (f .holds (omega arith)) (h (lowest t 0 k) d)))
     (split a (lowest t 0 k))
 
+pub lowest-nowhere : (t : ℕ → Bool) (k : ℕ) → ((p : ℕ) → p < k → t p ≡ false) → k ≡ lowest t 0 k
+lowest-nowhere t k h =
+    let f = lowest-first t 0 k in
+    ⊎-elim
+    (λ d. le-antisymm d (omega (arith, f .upto)))
+    (λ d. absurd (apart t (lowest t 0 k) (f .holds (omega arith)) (h (lowest t 0 k) d)))
+    (split k (lowest t 0 k))
+
 -- the largest of the numbers f p below k
 pub most-upper : (f : ℕ → ℕ) (k p : ℕ) → p < k → f p ≤ most f k
 unfolding most
@@ -89,51 +95,20 @@ most-attained f (suc k) h = go (most-attained f k) (split (f k) (most f k))
     go rec (inl d) = let r = rec (omega arith) in (r .0, omega (arith, r .1), omega (arith, r .2))
     go rec (inr d) = (k, omega arith, omega arith)
 
--- the scan for the largest: a turn that finds a larger one, and a turn that does not
-pub top-none : (f : ℕ → ℕ) → Top f 0 0 0
-top-none f = record { upper = λ p h. absurd (not-suc-le-zero h); attained = λ h. absurd (not-suc-le-zero h); below = λ p h. absurd (not-suc-le-zero h) }
+pub most-more : (f : ℕ → ℕ) (k : ℕ) → most f (k + 1) ≡ max (most f k) (f k)
+unfolding most
+most-more f k = rw add-one
 
-below-or-last : (k p : ℕ) → p < k + 1 → (p < k) ⊎ (p ≡ k)
-below-or-last k p h = ⊎-elim (λ e. inr e) (λ n. inl (⊎-elim (λ d. absurd (n (omega arith))) (λ d. d) (split k p))) (same-or-not p k)
+-- numbers and tests that are the same below k
+pub most-same : (f h : ℕ → ℕ) (k : ℕ) → ((p : ℕ) → p < k → f p ≡ h p) → most f k ≡ most h k
+unfolding most
+most-same f h zero e = refl
+most-same f h (suc k) e = ap₂ max (most-same f h k (λ p l. e p (omega arith))) (e k (omega arith))
 
-module _ (f : ℕ → ℕ) (k v a : ℕ) (t : Top f k v a) where
-  pub top-more : v < f k → Top f (k + 1) (f k) k
-  top-more h =
-      record {
-        upper = λ p l. ⊎-elim (λ d. omega (arith, t .upper p d)) (λ e. omega (arith, ap f e)) (below-or-last k p l);
-        attained = λ z. (omega arith, refl);
-        below = λ p l. omega (arith, t .upper p l);
-      }
-
-  pub top-same : f k ≤ v → Top f (k + 1) v a
-  top-same h =
-      record {
-        upper = λ p l. ⊎-elim (λ d. t .upper p d) (λ e. omega (arith, ap f e)) (below-or-last k p l);
-        attained = λ z. let u = t .attained z in (omega (arith, u .0), u .1);
-        below = t .below;
-      }
-
-  -- what it has found at the end
-  pub top-most : v ≡ most f k
-  top-most =
-      le-antisymm
-      (⊎-elim (λ d. omega arith) (λ d. let u = t .attained d in omega (arith, u .1, most-upper f k a (u .0))) (split v 0))
-      (most-least f k v (t .upper))
-
-  pub top-lowest : 0 < v → a ≡ lowest (λ p. eqb (f p) (most f k)) 0 k
-  top-lowest z =
-      let u = t .attained z in
-      lowest-is (λ p. eqb (f p) (most f k)) k a (u .0) (eq-eqb _ _ (u .1 ∙ top-most))
-      (λ p l. ne-eqb (f p) (most f k) (λ e. omega (arith, t .below p l, e, top-most)))
-
--- numbers that are the same have the same largest
-pub top-as : (f h : ℕ → ℕ) (k v a : ℕ) → ((p : ℕ) → p < k → f p ≡ h p) → Top f k v a → Top h k v a
-top-as f h k v a e t =
-    record {
-      upper = λ p l. omega (arith, e p l, t .upper p l);
-      attained = λ z. let u = t .attained z in (u .0, sym (e a (u .0)) ∙ u .1);
-      below = λ p l. let d = t .below p l in let u = t .attained (omega arith) in omega (arith, e p (omega (arith, u .0)));
-    }
+pub lowest-same : (t u : ℕ → Bool) (i k : ℕ) → ((p : ℕ) → p < i + k → t p ≡ u p) → lowest t i k ≡ lowest u i k
+unfolding lowest
+lowest-same t u i zero e = refl
+lowest-same t u i (suc k) e = ap₂ (λ (b : Bool) (x : ℕ). cond b i x) (e i (omega arith)) (lowest-same t u (i + 1) k (λ p l. e p (omega arith)))
 
 -- lists by their first elements and the rest
 length-table : (f : ℕ → ℕ) (i k : ℕ) → length (table f i k) ≡ k

@@ -1,5 +1,5 @@
 -- The computed marks, lengths, L and first word are what the document says. Assumes nothing.
-use mathlib.Core.Path.{_≡_, refl, sym, _∙_}
+use mathlib.Core.Path.{_≡_, refl, sym, ap₂, _∙_}
 use mathlib.Core.Logic.{_↔_, ⊎-elim}
 use mathlib.Core.List.{List, [], _∷_}
 use Prim.Native.Nat.{ℕ, _≤_, _<_}
@@ -8,15 +8,14 @@ use borrow.Author.Tests.{eqb-true, eqb-false}
 use lib.Dec.{eqb}
 use Rattle.runs.specs.Graph.{Graph, Lawful, Reachable, Segment, weigh}
 use Rattle.runs.specs.Marks.{markOf}
-use Rattle.runs.specs.Longest.{lengthOf, lowest, longest, first}
+use Rattle.runs.specs.Longest.{lengthOf, most, lowest, longest, first}
 use Rattle.runs.specs.Meaning.{Meaning}
-use Rattle.runs.specs.Invariants.{Top}
 use Rattle.runs.proofs.Order.{split, bit}
 use Rattle.runs.proofs.Paths.{Reach, start, reach-in, reach-of, reachable-of, segment-of, segment-free, segment-start}
 use Rattle.runs.proofs.Heaviest.{heaviest-upper, heaviest-attained}
 use Rattle.runs.proofs.Marks.{mark-of-reach, reach-of-mark, mark-bit}
 use Rattle.runs.proofs.Backward.{length-of-reach, length-unmarked}
-use Rattle.runs.proofs.Lists.{lowest-first, most-upper, most-attained, top-as, top-most, top-lowest}
+use Rattle.runs.proofs.Lists.{lowest-first, lowest-same, most-upper, most-attained, most-same}
 
 module _ (g : Graph) (law : Lawful g) where
   marked : (p : ℕ) → p < g .size → (markOf g p ≡ 1) ↔ Reachable g p
@@ -83,12 +82,16 @@ module _ (g : Graph) (law : Lawful g) (w : ℕ → ℕ) where
     first-some : (ps : List ℕ) × Segment g (first g w) ps × (weigh w (first g w ∷ ps) ≡ longest g w)
     first-some = let a = length-some (first g w) first-reached in (a .0, a .1, a .2 ∙ first-length)
 
-    -- what a scan of the lengths finds
-    pub scanned : (f : ℕ → ℕ) (v a : ℕ) → ((p : ℕ) → p < g .size → f p ≡ lengthOf g w p) → Top f (g .size) v a → (v ≡ longest g w) × (a ≡ first g w)
-    unfolding longest first
-    scanned f v a e t =
-        let u = top-as f (lengthOf g w) (g .size) v a e t in
-        (top-most (lengthOf g w) (g .size) v a u, top-lowest (lengthOf g w) (g .size) v a u (omega (arith, root-length, u .upper 0 some)))
+-- what is found in a list f of the lengths
+module _ (g : Graph) (w : ℕ → ℕ) (f : ℕ → ℕ) (e : (p : ℕ) → p < g .size → f p ≡ lengthOf g w p) where
+  pub longest-found : {v : ℕ} → v ≡ most f (g .size) → v ≡ longest g w
+  unfolding longest
+  longest-found q = q ∙ most-same f (lengthOf g w) (g .size) e
+
+  pub first-found : {v a : ℕ} → v ≡ longest g w → a ≡ lowest (λ p. eqb (f p) v) 0 (g .size) → a ≡ first g w
+  unfolding first
+  first-found {v} q d =
+      d ∙ lowest-same (λ p. eqb (f p) v) (λ p. eqb (lengthOf g w p) (longest g w)) 0 (g .size) (λ p l. ap₂ (λ (y z : ℕ). eqb y z) (e p (omega arith)) q)
 
 pub meaning : (g : Graph) → Lawful g → (w : ℕ → ℕ) → ((p : ℕ) → 0 < w p) → Meaning g w
 meaning g law w pos =

@@ -97,9 +97,3 @@ pub record Lengths (g : Graph) (w : ℕ → ℕ) (l₀ l : List ℕ) : Type 0 wh
 
 abbrev pub at : List ℕ → ℕ → ℕ
 at l p = getD l p 0
-
--- v is the largest f p of the p below k, and a the lowest where it stands; both 0 if they are all 0
-pub record Top (f : ℕ → ℕ) (k v a : ℕ) : Type 0 where
-  pub upper : (p : ℕ) → p < k → f p ≤ v
-  pub attained : 0 < v → (a < k) × (f a ≡ v)
-  pub below : (p : ℕ) → p < a → f p < v

@@ -3,13 +3,14 @@ ghost use mathlib.Core.Path.{_≡_};
 ghost use mathlib.Core.Bool.{cond};
 ghost use mathlib.Core.List.{_++_};
 ghost use Prim.Native.Nat.{_+_, _≤_, _<_};
+ghost use lib.Dec.{eqb};
 ghost use lib.ListN.{length, getD, drop, replicate};
 ghost use Rattle.fields.specs.Table.{opcodeTable};
-ghost use Rattle.runs.specs.Longest.{lengthOf};
+ghost use Rattle.runs.specs.Longest.{lengthOf, most, lowest};
 ghost use Rattle.runs.specs.Successors.{servesOf};
 ghost use Rattle.runs.specs.Instance.{graphOf, unitWeight};
 ghost use Rattle.runs.specs.Run.{reachesInvalid, lowestInvalid};
-ghost use Rattle.runs.specs.Invariants.{Filled, Lengths, at, Top};
+ghost use Rattle.runs.specs.Invariants.{Filled, Lengths, at};
 use crate::edges::Successors;
 use crate::successors::serves;
 use crate::successors::successors_in;
@@ -114,25 +115,33 @@ pub(crate) fn clear_lengths(lengths: &mut [u32], n: usize)
     }
 }
 
-pub(crate) struct Highest {
-    pub(crate) longest: u32,
-    pub(crate) first: usize,
-}
-
-// The largest of the first n lengths, and where it stands first.
-pub(crate) fn find_highest(lengths: &[u32], n: usize) -> Highest
+// The largest of the first n lengths. Apart from where it stands, the compiler takes several at a time.
+pub(crate) fn find_longest(lengths: &[u32], n: usize) -> u32
     requires { ⌜ n ≤ length (now lengths) ⌝ }
-    ensures { λ r. ⌜ Top (at (now (lengths .entry))) n (r .longest) (r .first) ⌝ }
+    ensures { λ r. ⌜ r ≡ most (at (now (lengths .entry))) n ⌝ }
 {
     let mut longest: u32 = 0;
-    let mut first: usize = 0;
     let mut i = 0;
     while i < n {
         if longest < lengths[i] {
             longest = lengths[i];
-            first = i;
         }
         i += 1;
     }
-    Highest { longest, first }
+    longest
+}
+
+// Where a length stands first among n, or n.
+pub(crate) fn find_first(lengths: &[u32], n: usize, sought: u32) -> usize
+    requires { ⌜ n ≤ length (now lengths) ⌝ }
+    ensures { λ r. ⌜ r ≡ lowest (λ p. eqb (at (now (lengths .entry)) p) sought) 0 n ⌝ }
+{
+    let mut i = 0;
+    while i < n {
+        if lengths[i] == sought {
+            return i;
+        }
+        i += 1;
+    }
+    i
 }

@@ -5,7 +5,8 @@ ghost use Rattle.runs.specs.Run.{runOf, marksAfter, lengthsAfter};
 ghost use Rattle.runs.specs.Invariants.{Lent};
 use crate::lengths::clear_lengths;
 use crate::lengths::fill_lengths;
-use crate::lengths::find_highest;
+use crate::lengths::find_first;
+use crate::lengths::find_longest;
 use crate::search::mark_reachable;
 
 pub enum Run {
@@ -33,18 +34,16 @@ fn run_of_words(words: &[u32], marks: &mut [u8], lengths: &mut [u32]) -> Run
             place: invalid,
         };
     }
-    let h = find_highest(lengths, n);
-    if MOST_WORDS < h.longest as usize {
+    let longest = find_longest(lengths, n);
+    if MOST_WORDS < longest as usize {
         clear_lengths(lengths, n);
         return Run::Refused {
             number: 9,
             place: 0,
         };
     }
-    Run::Accepted {
-        longest: h.longest,
-        first: h.first,
-    }
+    let first = find_first(lengths, n, longest);
+    Run::Accepted { longest, first }
 }
 
 // The longest run and the lowest word at which it begins, or the first refusal that applies. The slices get, for each word, whether

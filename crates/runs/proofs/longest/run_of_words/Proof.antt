@@ -5,13 +5,12 @@ use native.Mathlib.Omega.{arith}
 use lib.ListN.{length, drop, replicate}
 use borrow.Author.Needs.{needs}
 use Rattle.runs.specs.Marks.{markOf}
-use Rattle.runs.specs.Longest.{lengthOf, longest, first}
+use Rattle.runs.specs.Longest.{lengthOf, longest}
 use Rattle.runs.specs.Instance.{graphOf, unitWeight}
 use Rattle.runs.specs.Run.{over, lowestInvalid}
 use Rattle.runs.specs.Invariants.{at}
-use Rattle.runs.proofs.Lawful.{lawful}
 use Rattle.runs.proofs.Lists.{over-is}
-use Rattle.runs.proofs.Meaning.{scanned}
+use Rattle.runs.proofs.Meaning.{longest-found, first-found}
 use Rattle.runs.proofs.Outcome.{outcome-8, outcome-9, outcome-0}
 use Rattle.runs.proofs.longest.run_of_words.Statement.{statement}
 use Rattle.runs.proofs.longest.run_of_words.Tie as tie
@@ -54,16 +53,16 @@ module _ (c : tie.After-fill-lengths) where
   cleared : {l : List ℕ} → l ≡ replicate (length (words sought)) 0 ++ drop (length (words sought)) lengths → l ≡ replicate (length (words sought)) 0 ++ drop (length (words sought)) (start sought .args .lengths .now)
   cleared e = e ∙ ap (λ (x : List ℕ). replicate (length (words sought)) 0 ++ x) rest
 
--- after the scan
-module _ (c : tie.After-find-highest) where
+-- after the largest of them is found
+module _ (c : tie.After-find-longest) where
   abbrev fill : tie.After-fill-lengths
   fill = c .before .before .before .before .before
 
   valid : length (words (sought fill)) ≤ lowestInvalid (words (sought fill))
   valid = subst (λ (x : ℕ). length (words (sought fill)) ≤ x) (fill .fill-lengths .ensures .1) (c .before .before .if1 .left)
 
-  found : let g = graphOf (words (sought fill)) in (c .find-highest .result .longest ≡ longest g unitWeight) × (c .find-highest .result .first ≡ first g unitWeight)
-  found = let ws = words (sought fill) in scanned (graphOf ws) (lawful ws) unitWeight (λ p. omega arith) (start (sought fill) .pre .some) (at (lengths fill)) _ _ (fill .fill-lengths .ensures .0 .each) (c .find-highest .ensures)
+  found : c .find-longest .result ≡ longest (graphOf (words (sought fill))) unitWeight
+  found = longest-found (graphOf (words (sought fill))) unitWeight (at (lengths fill)) (fill .fill-lengths .ensures .0 .each) (c .find-longest .ensures)
 
 fill-lengths-requires : tie.Need-fill-lengths-requires
 fill-lengths-requires c κs =
@@ -80,15 +79,16 @@ returns c =
 returns-2 : tie.Need-returns-2
 returns-2 c =
     let k = c .before .before in
-    let h = k .before .before .before .before in
+    let h = k .before .before .before in
     let d = sought (fill h) in
-    outcome-9 _ _ _ (start d .pre) (marks-are d) (valid h) (omega (arith, k .before .before .if2 .taken, found h .0)) (cleared (fill h) (k .clear-lengths2 .ensures))
+    outcome-9 _ _ _ (start d .pre) (marks-are d) (valid h) (omega (arith, k .before .before .if2 .taken, found h)) (cleared (fill h) (k .clear-lengths2 .ensures))
 
 returns-3 : tie.Need-returns-3
 returns-3 c =
-    let h = c .before .before in
+    let h = c .before .before .before in
     let d = sought (fill h) in
-    outcome-0 _ _ _ (start d .pre) (marks-are d) (valid h) (found h .0) (found h .1) (c .if2 .left) (lengths-are (fill h))
+    let first-is = first-found (graphOf (words d)) unitWeight (at (lengths (fill h))) (fill h .fill-lengths .ensures .0 .each) (found h) (c .find-first .ensures) in
+    outcome-0 _ _ _ (start d .pre) (marks-are d) (valid h) (found h) first-is (c .before .before .if2 .left) (lengths-are (fill h))
 
 pub run-of-words-spec : {M : Type 1} → statement M
 run-of-words-spec =
@@ -107,6 +107,7 @@ run-of-words-spec =
     (λ c. search needs)
     (λ c. search needs)
     returns-2
+    (λ c κs. search needs)
     (λ c. search needs)
     (λ c. search needs)
     returns-3)
