@@ -1,5 +1,10 @@
-/* Lawendeb's meter, for controllers written in C: x86-64 Linux, System V calls. Link libmeter.a, which `rt staticlib meter`
-   makes. What the two functions do is proved (crates/meter, document 01 "Meter"); what is asked of the caller stands here. */
+/* Lawendeb for C: x86-64 Linux, System V calls. What the functions do is proved; what is asked of the caller stands here.
+
+   The meter for controllers: link libmeter.a, which `rt staticlib meter` makes (crates/meter, document 01 "Meter").
+   Steps, the longest run and records: link libexports.a, which `rt staticlib exports` makes (crates/exports).
+
+   Each slice passes as a pointer and a length. The pointer is not null, even where the length is 0, and nobody writes the slice
+   meanwhile; slices that are written lie apart from all others. */
 #ifndef LAWENDEB_H
 #define LAWENDEB_H
 
@@ -30,5 +35,43 @@ void lawendeb_begin(struct lawendeb_meter *m);
 /* Feeds word number `q`, and answers 0 or a refusal, which leaves the meter as it was. `words` points to the function's `n`
    compiled words, apart from the meter and written by nobody meanwhile; it is no null pointer, even where n is 0. */
 uint32_t lawendeb_feed(const uint32_t *words, size_t n, struct lawendeb_meter *m, size_t q);
+
+/* The steps of a word. kind: 0 bad or no word, 1 none (a return), 2 one, 3 two, the lower first. */
+struct lawendeb_steps {
+    uint64_t kind, first, second;
+};
+
+struct lawendeb_steps lawendeb_successors(const uint32_t *words, size_t n, size_t p);
+
+/* Whether a step from p to q serves. */
+_Bool lawendeb_serves(const uint32_t *words, size_t n, size_t p, size_t q);
+
+/* The longest run and the lowest word at which it begins; or a refusal's number and place. */
+struct lawendeb_run {
+    uint64_t number, place, longest, first;
+};
+
+/* Both slices need n places at least. They get, for each word, 1 if it is reachable, else 0; and the most words that pass from there
+   without a service. What lies past n stays as it was. */
+struct lawendeb_run lawendeb_longest_run(const uint32_t *words, size_t n, uint8_t *marks, size_t marks_n, uint32_t *lengths,
+                                         size_t lengths_n);
+
+/* Refusals 1 to 6 of lifting, for so many places for records: number 0 is acceptance. */
+struct lawendeb_answer {
+    uint64_t number, place;
+};
+
+struct lawendeb_answer lawendeb_answer(const uint32_t *words, size_t n, const uint8_t *tags, size_t tags_n,
+                                       const uint64_t *payloads, size_t payloads_n, const uint64_t *names, size_t names_n,
+                                       const uint8_t *bytes, size_t bytes_n, size_t records);
+
+/* The record of word pc as 53 numbers, which compare/FLAT.md lists; all 0 on a refusal and past the words. */
+struct lawendeb_record {
+    uint64_t numbers[53];
+};
+
+struct lawendeb_record lawendeb_record(const uint32_t *words, size_t n, const uint8_t *tags, size_t tags_n,
+                                       const uint64_t *payloads, size_t payloads_n, const uint64_t *names, size_t names_n,
+                                       const uint8_t *bytes, size_t bytes_n, size_t pc);
 
 #endif
