@@ -1,5 +1,6 @@
 // The limits of what lifting takes, and the records of a fixed sample of words. What is printed is held to the stored output.
 mod limits;
+mod list;
 mod print;
 mod sample;
 mod sums;
