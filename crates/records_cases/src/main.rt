@@ -4,6 +4,7 @@ mod list;
 mod print;
 mod sample;
 mod sums;
+mod tables;
 
 fn main() {
     limits::words_and_records();
@@ -13,4 +14,6 @@ fn main() {
     limits::names();
     sample::opcodes();
     sample::corners();
+    list::fewer_words();
+    list::as_many_words();
 }
