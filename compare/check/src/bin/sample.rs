@@ -91,7 +91,7 @@ fn lists() -> [(&'static str, Input); 4] {
 }
 
 /// The record that stands in every place of a list before: one that no word has.
-fn blank() -> [u64; NUMBERS] {
+fn unwritten() -> [u64; NUMBERS] {
     let mut n = vec![999, 4_294_967_295, 127, 1, 1, 999, 1, 999, 1, 25, 4, 255, 0, 0];
     n.push(4);
     (0..4).for_each(|_| n.extend([9, 999, 0, 0]));
@@ -112,7 +112,7 @@ fn list(label: &str, input: &Input) {
     let written = if answer.number == 0 { oracle::records(input) } else { vec![] };
     println!("{label} {} {}", answer.number, answer.place);
     for i in 0..FEW {
-        let n = written.get(i).map_or(blank(), Record::numbers);
+        let n = written.get(i).map_or(unwritten(), Record::numbers);
         println!("place {i} {} {} {}", n[0], n[1], sum(n));
     }
 }
