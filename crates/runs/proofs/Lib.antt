@@ -1,7 +1,5 @@
 pub mod Backward
-pub mod Below
 pub mod Bounds
-pub mod Bytes
 pub mod Columns
 pub mod Demand
 pub mod Heaviest

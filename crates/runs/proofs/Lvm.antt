@@ -16,6 +16,7 @@ use Rattle.fields.specs.declared.word.RawInstruction54.{RawInstruction54}
 use Rattle.fields.specs.Word.{opcodeOf, kOf, bxOf, sjOf}
 use Rattle.fields.specs.Lopcodes.{«GET_OPCODE», «GETARG_Bx», «GETARG_sJ», «TESTARG_k»}
 use Rattle.fields.specs.Table.{pick, StepClass, following, returning, branching, skipping, skippingIfK, jumping, looping, preparing, entering, invalid, classNumber, classOf}
+use Rattle.fields.proofs.Below.{all, all-at}
 use Rattle.fields.proofs.Lopcodes.{agreement}
 use Rattle.runs.specs.declared.edges.Successors.{Successors}
 use Rattle.runs.specs.declared.edges.Successors.the-variants.{One, Two}
@@ -23,7 +24,6 @@ use Rattle.runs.specs.Columns.{classFrom}
 use Rattle.runs.specs.Successors.{unless, one, ordered, two, opcodeAt, nextOf, companionPresent, successorsOf, isInvalid, listOf}
 use Rattle.runs.specs.Lvm.{Body, still, skip, arith as arithmetic, jmp, condjump, testset, call, leave, loop, forprep, tforprep, tforcall, setlist, assert0, absent, waysOf, switch, vmdispatch, placesOf, goesOn, Among, integers, Agreement}
 use Rattle.runs.proofs.Columns.{class-back}
-use Rattle.runs.proofs.Below.{all, all-at}
 
 -- The two classifications.
 

@@ -228,7 +228,7 @@ pub fn successors(words: &[u32], p: usize) -> Successors
     if words.len() <= p {
         return Successors::Invalid;
     }
-    let both = crate::packed::both(words[p]);
+    let both = fields::packed::both(words[p]);
     if both == 0 {
         return one_of(words.len(), p + 1);
     }
