@@ -40,11 +40,12 @@ module _ (ws : List ℕ) (marks lengths : ℕ) (accepted : numberOf (runOf ws ma
   bounded-by-run : (m : Meter) → m .services ≤ ceiling → Bound (graphOf ws) m (longestOf (runOf ws marks lengths))
   bounded-by-run m fits =
       let e = enough in
-      let d : Demand ws marks lengths = demand ws marks lengths (e .0) (e .1 .0) (e .1 .1) in
-      let s : Passes ws (firstOf (runOf ws marks lengths)) (longestOf (runOf ws marks lengths)) = d .reached accepted in
-      bound (graphOf ws) (lawful ws) (e .0) m fits (longestOf (runOf ws marks lengths))
+      let r : Run = runOf ws marks lengths in
+      let d : Demand ws r = demand ws marks lengths (e .0) (e .1 .0) (e .1 .1) in
+      let s : Passes ws (firstOf r) (longestOf r) = d .reached accepted in
+      bound (graphOf ws) (lawful ws) (e .0) m fits (longestOf r)
       (λ p ps t. d .bounded accepted p (length (p ∷ ps)) (record { rest = ps; segment = t; count = refl }))
-      (firstOf (runOf ws marks lengths)) (s .rest) (s .segment) (s .count)
+      (firstOf r) (s .rest) (s .segment) (s .count)
 
 pub demand3 : (ws : List ℕ) → length ws ≤ mostWords → Demand3 ws
 demand3 ws few =

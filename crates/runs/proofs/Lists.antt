@@ -50,7 +50,8 @@ lowest-first t i (suc k) = go (lowest-first t (i + 1) k) (t i) refl
         above : (p : ℕ) → i ≤ p → (p ≡ i → ⊥) → i + 1 ≤ p
         above p h n = ⊎-elim (λ d. absurd (n (omega arith))) (λ d. omega arith) (split p i)
 
-apart : (t : ℕ → Bool) (a : ℕ) → t a ≡ true → t a ≡ false → ⊥
+-- a test holds or does not
+pub apart : (t : ℕ → Bool) (a : ℕ) → t a ≡ true → t a ≡ false → ⊥
 apart t a y n = let z : _≡_ {A = ℕ} 0 1 = cc in omega arith
 
 -- so it is that number, whatever way it was found
