@@ -2,6 +2,7 @@ pub mod Backward
 pub mod Below
 pub mod Bounds
 pub mod Bytes
+pub mod Clearing
 pub mod Columns
 pub mod Demand
 pub mod Heaviest
