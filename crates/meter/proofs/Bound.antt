@@ -1,15 +1,16 @@
 -- A meter and the longest run, over any lawful graph: what the model holds is a path, and the words since service are its last segment.
 -- Assumes nothing.
 use Prim.Native.Nat.{ℕ, _+_, _<_, _≤_}
-use mathlib.Core.Bool.{Bool, true, false, cond, _||_, or-true}
+use mathlib.Core.Bool.{Bool, true, false, cond, _||_, or-true, true≢false}
 use mathlib.Core.Path.{_≡_, refl, sym, ap, subst, _∙_}
 use mathlib.Core.Logic.{inl, inr}
-use mathlib.Core.List.{List, [], _∷_, _++_, append-assoc}
+use mathlib.Core.List.{List, [], _∷_, _++_, append-assoc, append-nil}
 use native.Mathlib.Omega.{arith}
 use lib.ListN.{length, replicate, length-append}
 use borrow.Author.Tests.{eq-eqb, lt-ltb}
 use Rattle.runs.specs.Graph.{In, Graph, Lawful, Along, Path, Unserved, Segment}
 use Rattle.runs.specs.Run.{mostWords}
+use Rattle.runs.proofs.Paths.{along-in}
 use Rattle.meter.specs.declared.step.Meter.{Meter}
 use Rattle.meter.specs.Feed.{isIn, follows, ceiling, beginOf}
 use Rattle.meter.specs.Model.{Call, begin, feed, Model, blank, lastFrom, writes, servesTo, fed, called, answerTo, modelAfter, modelAnswers, anyServes, sinceService, wordsSince}
@@ -55,7 +56,7 @@ module _ (g : Graph) (law : Lawful g) where
   none-serves p (q ∷ qs) h = go (g .serves p q) refl (none-serves q qs) h
     where
       go : (t : Bool) → g .serves p q ≡ t → (anyServes g q qs ≡ false → Unserved g q qs) → t || anyServes g q qs ≡ false → Unserved g p (q ∷ qs)
-      go true e later d = let z : _≡_ {A = ℕ} 0 1 = cc in absurd (omega arith)
+      go true e later d = absurd (true≢false d)
       go false e later d = (e, later d)
 
   -- the path as the words before, and those since service
@@ -75,13 +76,9 @@ module _ (g : Graph) (law : Lawful g) where
       go true e s = record { before = p ∷ s .before; first = s .first; rest = s .rest; whole = rw (s .whole); since = rw e (s .since); unserved = s .unserved }
       go false e s = record { before = []; first = p; rest = q ∷ qs; whole = refl; since = rw e; unserved = none-serves p (q ∷ qs) e }
 
-  append-none : (l : List ℕ) → l ++ [] ≡ l
-  append-none [] = refl
-  append-none (x ∷ l) = rw (append-none l)
-
   since-segment : (p : ℕ) (ps : List ℕ) → Path g (p ∷ ps) → (s : Split p ps) → Segment g (s .first) (s .rest)
   since-segment p ps path s =
-      record { before = s .before; after = []; path = rw (append-none (s .rest)) (subst (λ (l : List ℕ). Path g l) (s .whole) path); unserved = s .unserved }
+      record { before = s .before; after = []; path = rw (append-nil (s .rest)) (subst (λ (l : List ℕ). Path g l) (s .whole) path); unserved = s .unserved }
 
   abbrev AtMost : ℕ → Type 0
   AtMost longest = (p : ℕ) (ps : List ℕ) → Segment g p ps → length (p ∷ ps) ≤ longest
@@ -104,7 +101,7 @@ module _ (g : Graph) (law : Lawful g) where
   after-word b q h = (rw h, rw h)
 
   written : (x : ℕ) (xs : List ℕ) (k : ℕ) (qs : List ℕ) → Along g (lastFrom x xs) qs → Written x xs k qs
-  written x xs k [] a = (ap (λ (l : List ℕ). x ∷ l) (sym (append-none xs)), refl)
+  written x xs k [] a = (ap (λ (l : List ℕ). x ∷ l) (sym (append-nil xs)), refl)
   written x xs k (q ∷ qs) a =
       let now : (fed g (record { path = x ∷ xs; tally = k }) q ≡ record { path = x ∷ (xs ++ (q ∷ [])); tally = cond (g .serves (lastFrom x xs) q) (k + 1) k })
       × (answerTo g (record { path = x ∷ xs; tally = k }) q ≡ 0) =
@@ -115,16 +112,12 @@ module _ (g : Graph) (law : Lawful g) where
         rw (now .1, now .0) (ap (λ (l : List ℕ). 0 ∷ l) (rest .1)),
       )
 
-  starts-inside : (p : ℕ) (ps : List ℕ) → Along g p ps → p < g .size
-  starts-inside p [] a = a
-  starts-inside p (q ∷ qs) a = a .0
-
   written-path : (words : List ℕ) → Path g words
       → (modelAfter g blank (feeds words) .path ≡ words) × (modelAnswers g blank (feeds words) ≡ replicate (length words) 0)
   written-path [] path = absurd path
   written-path (p ∷ ps) path =
       let rest : Written p [] 0 ps = written p [] 0 ps (path .1) in
-      let first : writes g [] p ≡ true = rw (eq-eqb p 0 (path .0), lt-ltb 0 (g .size) (omega (arith, starts-inside p ps (path .1)))) in
+      let first : writes g [] p ≡ true = rw (eq-eqb p 0 (path .0), lt-ltb 0 (g .size) (omega (arith, along-in g p ps (path .1)))) in
       let now : (fed g blank p ≡ record { path = p ∷ []; tally = 0 }) × (answerTo g blank p ≡ 0) = after-word blank p first in (
         ap (λ (b : Model). modelAfter g b (feeds ps) .path) (now .0) ∙ rest .0,
         rw (now .1, now .0) (ap (λ (l : List ℕ). 0 ∷ l) (rest .1)),
@@ -157,7 +150,7 @@ module _ (g : Graph) (law : Lawful g) where
     ends-least (b ∷ bs) = since-least b bs
 
   along-start : (p : ℕ) (ps qs : List ℕ) → Along g p (ps ++ qs) → Along g p ps
-  along-start p [] qs a = starts-inside p qs a
+  along-start p [] qs a = along-in g p qs a
   along-start p (x ∷ ps) qs a = (a .0, a .1, along-start x ps qs (a .2))
 
   path-start : (bs : List ℕ) (p : ℕ) (ps qs : List ℕ) → Path g (bs ++ ((p ∷ ps) ++ qs)) → Path g (bs ++ (p ∷ ps))

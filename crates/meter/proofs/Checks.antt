@@ -13,12 +13,9 @@ use Rattle.runs.specs.Successors.{listOf, successorsOf, hasSuccessor, isSuccess
 use Rattle.runs.specs.Graph.{Graph}
 use Rattle.runs.specs.Instance.{graphOf}
 use Rattle.runs.specs.Run.{mostWords}
+use Rattle.runs.proofs.Tests.{neither}
 use Rattle.meter.specs.declared.step.Meter.{Meter}
 use Rattle.meter.specs.Feed.{isIn, isBegun, follows, isForeign, isStray}
-
-pub neither : (t u : Bool) → t || u ≡ false → (t ≡ false) × (u ≡ false)
-neither true u h = (h, cc)
-neither false u h = (refl, h)
 
 small : (n last count : ℕ) (t : Bool) → cond t (leb n last || (eqb count 0 || ltb (last + 1) count)) (not (eqb last 0) || not (eqb count 0)) ≡ false → n ≤ mostWords → count ≤ mostWords
 small n last count true h k =

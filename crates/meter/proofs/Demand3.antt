@@ -14,11 +14,11 @@ use Rattle.runs.specs.Instance.{graphOf}
 use Rattle.runs.specs.Run.{mostWords, refuse, runOf, numberOf, longestOf, firstOf}
 use Rattle.runs.proofs.Demand.{demand}
 use Rattle.runs.proofs.Lawful.{lawful}
+use Rattle.runs.proofs.Tests.{neither}
 use Rattle.meter.specs.declared.step.Meter.{Meter}
 use Rattle.meter.specs.Feed.{ceiling}
 use Rattle.meter.specs.Bound.{Bound}
 use Rattle.meter.specs.Demand3.{Demand3}
-use Rattle.meter.proofs.Checks.{neither}
 use Rattle.meter.proofs.Trust.{follows-model}
 use Rattle.meter.proofs.Bound.{bound}
 

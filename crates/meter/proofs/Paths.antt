@@ -1,7 +1,7 @@
 -- One word more at a path's end: its last word, and the words since service.
 -- Assumes nothing.
 use Prim.Native.Nat.{ℕ, _+_}
-use mathlib.Core.Bool.{Bool, true, false, cond, _||_, or-false, or-true}
+use mathlib.Core.Bool.{Bool, true, false, cond, _||_, or-assoc, or-false, or-true, false≢true}
 use mathlib.Core.Path.{_≡_, refl, sym, ap, _∙_}
 use mathlib.Core.Logic.{inl, inr}
 use mathlib.Core.List.{List, [], _∷_, _++_}
@@ -15,7 +15,7 @@ use Rattle.meter.specs.Model.{lastFrom, anyServes, sinceService, wordsSi
 
 -- the test of `In` is right
 pub is-in : (q : ℕ) (xs : List ℕ) → isIn q xs ≡ true → In q xs
-is-in q [] h = let z : _≡_ {A = ℕ} 0 1 = cc in omega arith
+is-in q [] h = absurd (false≢true h)
 is-in q (x ∷ xs) h = go (eqb x q) refl (is-in q xs) h
   where
     go : (t : Bool) → eqb x q ≡ t → (isIn q xs ≡ true → In q xs) → t || isIn q xs ≡ true → In q (x ∷ xs)
@@ -26,14 +26,10 @@ pub last-more : (p : ℕ) (ps : List ℕ) (q : ℕ) → lastFrom p (ps ++ (q ∷
 last-more p [] q = refl
 last-more p (x ∷ ps) q = last-more x ps q
 
-or-assoc : (t u v : Bool) → t || (u || v) ≡ (t || u) || v
-or-assoc true u v = refl
-or-assoc false u v = refl
-
 module _ (g : Graph) where
   any-more : (p : ℕ) (ps : List ℕ) (q : ℕ) → anyServes g p (ps ++ (q ∷ [])) ≡ anyServes g p ps || g .serves (lastFrom p ps) q
   any-more p [] q = or-false (g .serves p q)
-  any-more p (x ∷ ps) q = rw (any-more x ps q) (or-assoc (g .serves p x) (anyServes g x ps) (g .serves (lastFrom x ps) q))
+  any-more p (x ∷ ps) q = rw (any-more x ps q) (sym (or-assoc (g .serves p x) (anyServes g x ps) (g .serves (lastFrom x ps) q)))
 
   -- a serving step leads to q: the words since service are q alone
   pub since-served : (p : ℕ) (ps : List ℕ) (q : ℕ) → g .serves (lastFrom p ps) q ≡ true → sinceService g p (ps ++ (q ∷ [])) ≡ q ∷ []

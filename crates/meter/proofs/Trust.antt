@@ -1,7 +1,7 @@
 -- Demand 3, its second half: a meter just begun shows what the reference model holds, whatever calls follow.
 -- Assumes nothing.
 use Prim.Native.Nat.{ℕ, _+_, _<_, _≤_, min}
-use mathlib.Core.Bool.{Bool, true, false, cond, not, _&&_, or-true}
+use mathlib.Core.Bool.{Bool, true, false, cond, not, or-true}
 use mathlib.Core.Path.{_≡_, refl, ap}
 use mathlib.Core.List.{List, [], _∷_, _++_}
 use native.Mathlib.Omega.{arith}
@@ -9,6 +9,7 @@ use lib.Dec.{ltb, eqb}
 use borrow.Author.Tests.{ltb-true, ltb-false, eqb-true, le-ltb, lt-leb, le-leb, ne-eqb}
 use Rattle.runs.specs.Graph.{Graph, Lawful}
 use Rattle.runs.specs.Run.{mostWords}
+use Rattle.runs.proofs.Tests.{both}
 use Rattle.meter.specs.declared.step.Meter.{Meter}
 use Rattle.meter.specs.declared.step.Fed.{Fed}
 use Rattle.meter.specs.Feed.{follows, ceiling, oneService, movedTo, isForeign, isStray, beginOf, feedOf}
@@ -47,10 +48,6 @@ module _ (g : Graph) (law : Lawful g) where
   fits-next : (p q k : ℕ) (t : Bool) → g .serves p q ≡ t → follows g p q ≡ true → k ≤ p + 1 → Fits q (cond t 1 (k + 1))
   fits-next p q k true e h l = (step-inside p q h, (omega arith, omega arith))
   fits-next p q k false e h l = (step-inside p q h, (omega arith, omega (arith, law .forward p q (is-in q (g .successors p) h) e)))
-
-  both : (t u : Bool) → t && u ≡ true → (t ≡ true) × (u ≡ true)
-  both true u h = (refl, h)
-  both false u h = (cc, cc)
 
   pub first-word : (q : ℕ) → writes g [] q ≡ true → (q ≡ 0) × (0 < g .size)
   first-word q h =

@@ -2,7 +2,7 @@
 -- Assumes nothing.
 use Prim.Native.Nat.{ℕ, _+_, _<_}
 use mathlib.Core.Path.{_≡_, refl}
-use mathlib.Core.Bool.{Bool, true, false, _||_, true≢false}
+use mathlib.Core.Bool.{Bool, true, false, _||_}
 use mathlib.Core.List.{List}
 use lib.Dec.{ltb, leb, eqb}
 use lib.IntN.{ℤ, pos, negsuc}
@@ -15,6 +15,7 @@ use Rattle.runs.specs.declared.edges.Successors.{Successors}
 use Rattle.runs.specs.declared.edges.Successors.the-variants.{One, Two}
 use Rattle.runs.specs.Successors.{unless, one, ordered, two, opcodeAt, nextOf, companionPresent, successorsOf, servesOf}
 use Rattle.runs.specs.Laws.{Below, Laws}
+use Rattle.runs.proofs.Tests.{neither}
 
 -- a test, and what it says where it holds
 by-test : (n : ℕ) (t : Bool) (s : Successors) → (t ≡ true → Below n s) → Below n (unless t s)
@@ -58,14 +59,9 @@ below ws p =
     by-test (length ws) (ltb p (length ws)) _ λ e. by-test (length ws) (companionPresent ws p) _ λ d.
     next-below (classOf (opcodeAt ws p)) (length ws) (getD ws p 0) p
 
-last-test : (a b c : Bool) → (a || b || c) ≡ false → c ≡ false
-last-test false false c e = e
-last-test false true c e = absurd (true≢false e)
-last-test true b c e = absurd (true≢false e)
-
 pub forward : (ws : List ℕ) (p q : ℕ) → servesOf ws p q ≡ false → p < q
 unfolding servesOf
-forward ws p q e = leb-false q p (last-test (eqb (opcodeAt ws p) «OP_CALL») (eqb (opcodeAt ws p) «OP_TFORCALL») (leb q p) e)
+forward ws p q e = leb-false q p (neither (eqb (opcodeAt ws p) «OP_CALL» || eqb (opcodeAt ws p) «OP_TFORCALL») (leb q p) e .1)
 
 pub laws : Laws
 laws = record { below = below; forward = forward }

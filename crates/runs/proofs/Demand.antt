@@ -1,9 +1,10 @@
 -- Demand 3, first half, of the definition that the contract of `longest_run` cites. Assumes nothing.
 use mathlib.Core.Path.{_≡_, refl, sym, subst, _∙_}
 use mathlib.Core.Logic.{_↔_, _⊎_, inl, inr, ⊎-elim}
-use mathlib.Core.Bool.{Bool, true, false, _&&_}
+use mathlib.Core.Bool.{true}
 use mathlib.Core.List.{List, [], _∷_}
 use Prim.Native.Nat.{ℕ, _≤_, _<_}
+use native.Mathlib.Nat.{pos-of-ne-zero}
 use native.Mathlib.Omega.{arith}
 use borrow.Author.Tests.{eqb-true, eq-eqb, lt-ltb, le-ltb}
 use lib.ListN.{length}
@@ -17,6 +18,7 @@ use Rattle.runs.specs.Run.{mostWords, reachesInvalid, lowestInvalid, run
 use Rattle.runs.specs.Meaning.{Meaning}
 use Rattle.runs.specs.Demand.{MeetsInvalidAt, MeetsInvalid, Passes, RunsTooLong, Demand}
 use Rattle.runs.proofs.Order.{split, same-or-not}
+use Rattle.runs.proofs.Tests.{both}
 use Rattle.runs.proofs.Paths.{reach-in, reach-of, segment-start}
 use Rattle.runs.proofs.Lists.{lowest-first, apart}
 use Rattle.runs.proofs.Meaning.{meaning}
@@ -26,13 +28,6 @@ use Rattle.runs.proofs.Lawful.{lawful}
 weigh-counts : (ps : List ℕ) → weigh unitWeight ps ≡ length ps
 weigh-counts [] = refl
 weigh-counts (p ∷ ps) = let h = weigh-counts ps in omega arith
-
-both : (a b : Bool) → (a && b) ≡ true → (a ≡ true) × (b ≡ true)
-both true b e = (refl, e)
-both false b e = absurd (let z : _≡_ {A = ℕ} 0 1 = cc in omega arith)
-
-above : {n : ℕ} → (n ≡ 0 → ⊥) → 0 < n
-above {n} z = omega arith
 
 module _ (ws : List ℕ) where
   abbrev graph : Graph
@@ -152,7 +147,7 @@ module _ (ws : List ℕ) where
     demand =
         ⊎-elim
         (λ z. of-run (none z) (run-7 ws a b few h k z))
-        (λ n. let some = above n in let r = run-words ws a b few h k some in
+        (λ n. let some = pos-of-ne-zero n in let r = run-words ws a b few h k some in
         ⊎-elim
         (λ valid. ⊎-elim
         (λ l. of-run (accepted some valid l) (r ∙ simp (le-ltb (lowestInvalid ws) (length ws) valid, le-ltb mostWords (longest graph unitWeight) l)))

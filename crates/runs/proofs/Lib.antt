@@ -16,4 +16,5 @@ pub mod Moves
 pub mod Order
 pub mod Outcome
 pub mod Paths
+pub mod Tests
 pub mod Turn

@@ -1,7 +1,7 @@
 -- The lowest number at which a test holds, the largest of some numbers, and lists by their elements. Assumes nothing.
 use mathlib.Core.Path.{_≡_, refl, sym, ap, ap₂, subst, _∙_}
 use mathlib.Core.Logic.{_⊎_, inl, inr, ⊎-elim}
-use mathlib.Core.Bool.{Bool, true, false, cond}
+use mathlib.Core.Bool.{Bool, true, false, cond, true≢false}
 use mathlib.Core.List.{List, _∷_, _++_}
 use Prim.Native.Nat.{ℕ, zero, suc, _+_, _-_, _≤_, _<_, max}
 use native.Mathlib.Nat.{not-suc-le-zero, le-of-suc-le-suc, le-antisymm, add-zero}
@@ -11,7 +11,7 @@ use lib.ListN.{length, getD, take, drop, replicate, take-append-drop}
 use lib.Seq.{ext-getD, getD-take, length-take-le}
 use Rattle.runs.specs.Longest.{most, lowest}
 use Rattle.runs.specs.Run.{table, over}
-use Rattle.runs.proofs.Order.{split, same-or-not}
+use Rattle.runs.proofs.Order.{split, same-or-not, past}
 
 -- the lowest of the numbers from i up to n, as i goes down
 pub lowest-none : (t : ℕ → Bool) (n : ℕ) → n ≡ lowest t n (n - n)
@@ -44,15 +44,12 @@ lowest-first t i (suc k) = go (lowest-first t (i + 1) k) (t i) refl
           from = omega (arith, f .from);
           upto = omega (arith, f .upto);
           holds = λ h. f .holds (omega arith);
-          not-before = λ p h l. ⊎-elim (λ d. subst (λ (x : ℕ). t x ≡ false) (sym d) e) (λ n. f .not-before p (above p h n) l) (same-or-not p i);
+          not-before = λ p h l. ⊎-elim (λ d. subst (λ (x : ℕ). t x ≡ false) (sym d) e) (λ n. f .not-before p (omega (arith, past h n)) l) (same-or-not p i);
         }
-      where
-        above : (p : ℕ) → i ≤ p → (p ≡ i → ⊥) → i + 1 ≤ p
-        above p h n = ⊎-elim (λ d. absurd (n (omega arith))) (λ d. omega arith) (split p i)
 
 -- a test holds or does not
 pub apart : (t : ℕ → Bool) (a : ℕ) → t a ≡ true → t a ≡ false → ⊥
-apart t a y n = let z : _≡_ {A = ℕ} 0 1 = cc in omega arith
+apart t a y n = true≢false (sym y ∙ n)
 
 -- so it is that number, whatever way it was found
 pub lowest-is : (t : ℕ → Bool) (k a : ℕ) → a < k → t a ≡ true → ((p : ℕ) → p < a → t p ≡ false) → a ≡ lowest t 0 k
@@ -77,10 +74,7 @@ unfolding most
 most-upper f zero p h = absurd (not-suc-le-zero h)
 most-upper f (suc k) p h =
     let r = most-upper f k p in
-    ⊎-elim (λ e. omega (arith, ap f e)) (λ n. omega (arith, r (omega (arith, below n)))) (same-or-not p k)
-  where
-    below : (p ≡ k → ⊥) → p < k
-    below n = omega arith
+    ⊎-elim (λ e. omega (arith, ap f e)) (λ n. omega (arith, r (past (omega arith) (λ e. n (sym e))))) (same-or-not p k)
 
 pub most-least : (f : ℕ → ℕ) (k v : ℕ) → ((p : ℕ) → p < k → f p ≤ v) → most f k ≤ v
 unfolding most

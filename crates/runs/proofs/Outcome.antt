@@ -1,6 +1,6 @@
 -- Which check answers where, and what the slices then hold. Assumes nothing.
 use mathlib.Core.Path.{_≡_, refl, sym, ap, _∙_}
-use mathlib.Core.Bool.{Bool, true, false, _||_}
+use mathlib.Core.Bool.{true, or-true}
 use mathlib.Core.List.{List, _++_}
 use Prim.Native.Nat.{ℕ, _≤_, _<_}
 use native.Mathlib.Omega.{arith}
@@ -16,10 +16,6 @@ use Rattle.runs.specs.Run.{mostWords, lowestInvalid, refuse, runOf, unto
 use Rattle.runs.specs.Invariants.{Lent}
 use Rattle.runs.proofs.Lists.{zeros-table}
 
-or-right : (b : Bool) → (b || true) ≡ true
-or-right true = refl
-or-right false = refl
-
 -- the checks before any word is read
 module _ (ws : List ℕ) (a b : ℕ) where
   pub run-1 : mostWords < length ws → runOf ws a b ≡ Refused 1 0
@@ -33,7 +29,7 @@ module _ (ws : List ℕ) (a b : ℕ) where
 
     pub run-6-lengths : b < length ws → runOf ws a b ≡ Refused 6 0
     unfolding runOf
-    run-6-lengths h = simp (le-ltb mostWords (length ws) few, lt-ltb b (length ws) h, or-right (ltb a (length ws)))
+    run-6-lengths h = simp (le-ltb mostWords (length ws) few, lt-ltb b (length ws) h, or-true (ltb a (length ws)))
 
     pub run-7 : length ws ≤ a → length ws ≤ b → length ws ≡ 0 → runOf ws a b ≡ Refused 7 0
     unfolding runOf
