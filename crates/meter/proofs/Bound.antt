@@ -12,24 +12,18 @@ use Rattle.runs.specs.Graph.{In, Graph, Lawful, Along, Path, Unserved, Segment}
 use Rattle.runs.specs.Run.{mostWords}
 use Rattle.runs.proofs.Paths.{along-in}
 use Rattle.meter.specs.declared.step.Meter.{Meter}
-use Rattle.meter.specs.Feed.{isIn, follows, ceiling, beginOf}
-use Rattle.meter.specs.Model.{Call, begin, feed, Model, blank, lastFrom, writes, servesTo, fed, called, answerTo, modelAfter, modelAnswers, anyServes, sinceService, wordsSince}
+use Rattle.meter.specs.Feed.{follows, ceiling, beginOf}
+use Rattle.meter.specs.Model.{Call, begin, feed, Model, emptyModel, lastFrom, writes, servesTo, fed, called, answerTo, modelAfter, modelAnswers, anyServes, sinceService, wordsSince}
 use Rattle.meter.specs.Calls.{meterAfter}
 use Rattle.meter.specs.Bound.{feeds, ShownOn, Bound}
-use Rattle.meter.proofs.Paths.{is-in, last-more}
+use Rattle.meter.proofs.Paths.{in-of-member, member-of-in, last-more}
 use Rattle.meter.proofs.Trust.{first-word, follows-model}
-
--- the test of `In`, the other way round
-in-is : (q : ℕ) (xs : List ℕ) → In q xs → isIn q xs ≡ true
-in-is q [] i = absurd i
-in-is q (x ∷ xs) (inl e) = rw (eq-eqb x q (sym e))
-in-is q (x ∷ xs) (inr i) = rw (in-is q xs i, or-true)
 
 module _ (g : Graph) (law : Lawful g) where
   -- What the model writes down is a path, or nothing.
 
   along-more : (p : ℕ) (ps : List ℕ) (q : ℕ) → Along g p ps → follows g (lastFrom p ps) q ≡ true → Along g p (ps ++ (q ∷ []))
-  along-more p [] q a h = let i : In q (g .successors p) = is-in q (g .successors p) h in (a, i, law .inside p q i)
+  along-more p [] q a h = let i : In q (g .successors p) = in-of-member q (g .successors p) h in (a, i, law .inside p q i)
   along-more p (x ∷ ps) q a h = (a .0, a .1, along-more x ps q (a .2) h)
 
   abbrev PathOrNone : List ℕ → Type 0
@@ -105,7 +99,7 @@ module _ (g : Graph) (law : Lawful g) where
   written x xs k (q ∷ qs) a =
       let now : (fed g (record { path = x ∷ xs; tally = k }) q ≡ record { path = x ∷ (xs ++ (q ∷ [])); tally = cond (g .serves (lastFrom x xs) q) (k + 1) k })
       × (answerTo g (record { path = x ∷ xs; tally = k }) q ≡ 0) =
-      after-word (record { path = x ∷ xs; tally = k }) q (in-is q (g .successors (lastFrom x xs)) (a .1)) in
+      after-word (record { path = x ∷ xs; tally = k }) q (member-of-in q (g .successors (lastFrom x xs)) (a .1)) in
       let rest : Written x (xs ++ (q ∷ [])) (cond (g .serves (lastFrom x xs) q) (k + 1) k) qs =
       written x (xs ++ (q ∷ [])) (cond (g .serves (lastFrom x xs) q) (k + 1) k) qs (rw (last-more x xs q) (a .2)) in (
         ap (λ (b : Model). modelAfter g b (feeds qs) .path) (now .0) ∙ rest .0 ∙ ap (λ (l : List ℕ). x ∷ l) (append-assoc xs (q ∷ []) qs),
@@ -113,12 +107,12 @@ module _ (g : Graph) (law : Lawful g) where
       )
 
   written-path : (words : List ℕ) → Path g words
-      → (modelAfter g blank (feeds words) .path ≡ words) × (modelAnswers g blank (feeds words) ≡ replicate (length words) 0)
+      → (modelAfter g emptyModel (feeds words) .path ≡ words) × (modelAnswers g emptyModel (feeds words) ≡ replicate (length words) 0)
   written-path [] path = absurd path
   written-path (p ∷ ps) path =
       let rest : Written p [] 0 ps = written p [] 0 ps (path .1) in
       let first : writes g [] p ≡ true = rw (eq-eqb p 0 (path .0), lt-ltb 0 (g .size) (omega (arith, along-in g p ps (path .1)))) in
-      let now : (fed g blank p ≡ record { path = p ∷ []; tally = 0 }) × (answerTo g blank p ≡ 0) = after-word blank p first in (
+      let now : (fed g emptyModel p ≡ record { path = p ∷ []; tally = 0 }) × (answerTo g emptyModel p ≡ 0) = after-word emptyModel p first in (
         ap (λ (b : Model). modelAfter g b (feeds ps) .path) (now .0) ∙ rest .0,
         rw (now .1, now .0) (ap (λ (l : List ℕ). 0 ∷ l) (rest .1)),
       )
@@ -163,7 +157,7 @@ module _ (g : Graph) (law : Lawful g) where
     never : (calls : List Call) → meterAfter g (beginOf m) calls .count ≤ longest
     never calls =
         rw (follows-model g law small m calls fits .count)
-        (since-most longest most (modelAfter g blank calls .path) (path-after blank tt calls))
+        (since-most longest most (modelAfter g emptyModel calls .path) (path-after emptyModel tt calls))
 
     fed-count : (words : List ℕ) → Path g words → meterAfter g (beginOf m) (feeds words) .count ≡ wordsSince g words
     fed-count words path = follows-model g law small m (feeds words) fits .count ∙ ap (wordsSince g) (written-path words path .0)

@@ -11,7 +11,7 @@ use borrow.Author.Tests.{ltb-false}
 use Rattle.runs.specs.declared.longest.Run.{Run}
 use Rattle.runs.specs.Demand.{Demand, Passes}
 use Rattle.runs.specs.Instance.{graphOf}
-use Rattle.runs.specs.Run.{mostWords, refuse, runOf, numberOf, longestOf, firstOf}
+use Rattle.runs.specs.Run.{mostWords, refuseRun, runOf, numberOf, longestOf, firstOf}
 use Rattle.runs.proofs.Demand.{demand}
 use Rattle.runs.proofs.Lawful.{lawful}
 use Rattle.runs.proofs.Tests.{neither}
@@ -23,7 +23,7 @@ use Rattle.meter.proofs.Trust.{follows-model}
 use Rattle.meter.proofs.Bound.{bound}
 
 -- a check that refused nothing: its test did not hold, and the later checks decided
-passed : (t : Bool) (number place : ℕ) (later : Run) → (number ≡ 0 → ⊥) → numberOf (refuse t number place later) ≡ 0 → (t ≡ false) × (numberOf later ≡ 0)
+passed : (t : Bool) (number place : ℕ) (later : Run) → (number ≡ 0 → ⊥) → numberOf (refuseRun t number place later) ≡ 0 → (t ≡ false) × (numberOf later ≡ 0)
 passed true number place later n h = absurd (n h)
 passed false number place later n h = (refl, h)
 

@@ -8,19 +8,24 @@ use mathlib.Core.List.{List, [], _∷_, _++_}
 use native.Mathlib.Omega.{arith}
 use lib.Dec.{eqb}
 use lib.ListN.{length, length-append}
-use borrow.Author.Tests.{eqb-true}
+use borrow.Author.Tests.{eqb-true, eq-eqb}
 use Rattle.runs.specs.Graph.{In, Graph}
-use Rattle.meter.specs.Feed.{isIn}
+use Rattle.meter.specs.Feed.{member}
 use Rattle.meter.specs.Model.{lastFrom, anyServes, sinceService, wordsSince}
 
--- the test of `In` is right
-pub is-in : (q : ℕ) (xs : List ℕ) → isIn q xs ≡ true → In q xs
-is-in q [] h = absurd (false≢true h)
-is-in q (x ∷ xs) h = go (eqb x q) refl (is-in q xs) h
+-- the test of `In` is right, both ways
+pub in-of-member : (q : ℕ) (xs : List ℕ) → member q xs ≡ true → In q xs
+in-of-member q [] h = absurd (false≢true h)
+in-of-member q (x ∷ xs) h = go (eqb x q) refl (in-of-member q xs) h
   where
-    go : (t : Bool) → eqb x q ≡ t → (isIn q xs ≡ true → In q xs) → t || isIn q xs ≡ true → In q (x ∷ xs)
+    go : (t : Bool) → eqb x q ≡ t → (member q xs ≡ true → In q xs) → t || member q xs ≡ true → In q (x ∷ xs)
     go true e later d = inl (sym (eqb-true x q e))
     go false e later d = inr (later d)
+
+pub member-of-in : (q : ℕ) (xs : List ℕ) → In q xs → member q xs ≡ true
+member-of-in q [] i = absurd i
+member-of-in q (x ∷ xs) (inl e) = rw (eq-eqb x q (sym e))
+member-of-in q (x ∷ xs) (inr i) = rw (member-of-in q xs i, or-true)
 
 pub last-more : (p : ℕ) (ps : List ℕ) (q : ℕ) → lastFrom p (ps ++ (q ∷ [])) ≡ q
 last-more p [] q = refl

@@ -12,7 +12,7 @@ use Rattle.runs.specs.declared.longest.Run.{Run}
 use Rattle.runs.specs.declared.longest.Run.the-variants.{Accepted, Refused}
 use Rattle.runs.specs.Graph.{Graph, Reachable, weigh}
 use Rattle.runs.specs.Marks.{markOf}
-use Rattle.runs.specs.Longest.{lowest, longest, first}
+use Rattle.runs.specs.Longest.{lowestFrom, longest, first}
 use Rattle.runs.specs.Instance.{graphOf, unitWeight}
 use Rattle.runs.specs.Run.{mostWords, reachesInvalid, lowestInvalid, runOf}
 use Rattle.runs.specs.Meaning.{Meaning}
@@ -44,7 +44,7 @@ module _ (ws : List ℕ) where
   unfolding lowestInvalid
   met h =
       let e = both _ _ (lowest-first (reachesInvalid ws) 0 (length ws) .holds (omega arith)) in
-      record { reachable = means .mark-one (lowest (reachesInvalid ws) 0 (length ws)) h .0 (eqb-true _ _ (e .0)); invalid = e .1 }
+      record { reachable = means .mark-one (lowestFrom (reachesInvalid ws) 0 (length ws)) h .0 (eqb-true _ _ (e .0)); invalid = e .1 }
 
   least-met : (p : ℕ) → MeetsInvalidAt ws p → lowestInvalid ws ≤ p
   unfolding lowestInvalid
@@ -52,7 +52,7 @@ module _ (ws : List ℕ) where
       let y : reachesInvalid ws p ≡ true = simp (eq-eqb (markOf graph p) 1 (means .mark-one p (inside (m .reachable)) .1 (m .reachable)), m .invalid) in
       ⊎-elim (λ d. d)
       (λ d. absurd (apart (reachesInvalid ws) p y (lowest-first (reachesInvalid ws) 0 (length ws) .not-before p (omega arith) d)))
-      (split (lowest (reachesInvalid ws) 0 (length ws)) p)
+      (split (lowestFrom (reachesInvalid ws) 0 (length ws)) p)
 
   unmet : length ws ≤ lowestInvalid ws → MeetsInvalid ws → ⊥
   unmet h m = omega (arith, least-met (m .word) (m .met), inside (m .met .reachable))
@@ -82,11 +82,11 @@ module _ (ws : List ℕ) where
         eight = (λ e. absurd (other e), λ m. absurd (valid m));
         nine = (λ e. (valid, nine .0 e), λ t. nine .1 (t .1));
         place = λ e. absurd (other e);
-        lowest-place = λ e. absurd (other e);
+        place-lowest = λ e. absurd (other e);
         no-place = λ n. refl;
         bounded = λ z. absurd (omega arith);
         reached = λ z. absurd (omega arith);
-        lowest = λ z. absurd (omega arith);
+        first-lowest = λ z. absurd (omega arith);
       }
 
   none : length ws ≡ 0 → Demand ws (Refused 7 0)
@@ -103,11 +103,11 @@ module _ (ws : List ℕ) where
         eight = (λ e. m, λ e. refl);
         nine = (λ e. absurd (omega arith), λ t. absurd (t .0 m));
         place = λ e. met h;
-        lowest-place = λ e. least-met;
+        place-lowest = λ e. least-met;
         no-place = λ n. absurd (n refl);
         bounded = λ z. absurd (omega arith);
         reached = λ z. absurd (omega arith);
-        lowest = λ z. absurd (omega arith);
+        first-lowest = λ z. absurd (omega arith);
       }
 
   module _ (some : 0 < length ws) (valid : length ws ≤ lowestInvalid ws) where
@@ -124,11 +124,11 @@ module _ (ws : List ℕ) where
           eight = (λ e. absurd (omega arith), λ m. absurd (unmet valid m));
           nine = (λ e. absurd (omega arith), λ t. absurd (short (t .1)));
           place = λ e. absurd (omega arith);
-          lowest-place = λ e. absurd (omega arith);
+          place-lowest = λ e. absurd (omega arith);
           no-place = λ n. refl;
           bounded = λ z p k s. passes-most s;
           reached = λ z. passes-first some;
-          lowest = λ z p s. means .first-lowest p (s .rest) (s .segment) (weigh-counts (p ∷ s .rest) ∙ s .count);
+          first-lowest = λ z p s. means .first-lowest p (s .rest) (s .segment) (weigh-counts (p ∷ s .rest) ∙ s .count);
         }
       where
         short : RunsTooLong ws → ⊥

@@ -48,7 +48,7 @@ pub record Demand (ws : List ℕ) (r : Run) : Type 0 where
   pub nine : (numberOf r ≡ 9) ↔ ((MeetsInvalid ws → ⊥) × RunsTooLong ws)
   -- number 8's "place: the lowest"
   pub place : numberOf r ≡ 8 → MeetsInvalidAt ws (placeOf r)
-  pub lowest-place : numberOf r ≡ 8 → (p : ℕ) → MeetsInvalidAt ws p → placeOf r ≤ p
+  pub place-lowest : numberOf r ≡ 8 → (p : ℕ) → MeetsInvalidAt ws p → placeOf r ≤ p
   -- "a place, 0 unless named"
   pub no-place : (numberOf r ≡ 8 → ⊥) → placeOf r ≡ 0
   -- "If accepted, no course passes more than L words without a service between them"
@@ -56,4 +56,4 @@ pub record Demand (ws : List ℕ) (r : Run) : Type 0 where
   -- "and some course passes exactly L"
   pub reached : numberOf r ≡ 0 → Passes ws (firstOf r) (longestOf r)
   -- "and the lowest word at which an L-word stretch begins"
-  pub lowest : numberOf r ≡ 0 → (p : ℕ) → Passes ws p (longestOf r) → firstOf r ≤ p
+  pub first-lowest : numberOf r ≡ 0 → (p : ℕ) → Passes ws p (longestOf r) → firstOf r ≤ p

@@ -182,17 +182,17 @@ vmdispatch [] o = absent
 vmdispatch (vmcase opcode body ∷ cases) o = pick (eqb o opcode) body (vmdispatch cases o)
 
 -- the word that is executed next
-abbrev pub placeOf : Way → ℤ
-placeOf (fetch pc) = pc
-placeOf (along pc) = pc
+abbrev pub targetOf : Way → ℤ
+targetOf (fetch pc) = pc
+targetOf (along pc) = pc
 
-abbrev pub placesOf : List Way → List ℤ
-placesOf [] = []
-placesOf (way ∷ ways) = placeOf way ∷ placesOf ways
+abbrev pub targetsOf : List Way → List ℤ
+targetsOf [] = []
+targetsOf (way ∷ ways) = targetOf way ∷ targetsOf ways
 
 -- the words at which luaV_execute can go on after word p, `i = *(pc++)`
 unfoldable pub goesOn : List ℕ → ℕ → List ℤ
-goesOn ws p = placesOf (waysOf (vmdispatch switch («GET_OPCODE» (getD ws p 0))) (pos (p + 1)) (getD ws p 0))
+goesOn ws p = targetsOf (waysOf (vmdispatch switch («GET_OPCODE» (getD ws p 0))) (pos (p + 1)) (getD ws p 0))
 
 abbrev pub Among : ℤ → List ℤ → Type 0
 Among z [] = ⊥

@@ -36,8 +36,8 @@ unfoldable pub opcodeAt : List ℕ → ℕ → ℕ
 opcodeAt ws i = opcodeOf (getD ws i 0)
 
 -- whether an opcode is one of those from the first to the last
-unfoldable pub isIn : ℕ → ℕ → ℕ → Bool
-isIn first last opcode = leb first opcode && leb opcode last
+unfoldable pub isBetween : ℕ → ℕ → ℕ → Bool
+isBetween first last opcode = leb first opcode && leb opcode last
 
 -- "Next word", a clause for each kind of the table of steps: the steps of word p, w, of n words whose companion is there
 abbrev pub nextOf : StepClass → ℕ → ℕ → ℕ → Successors
@@ -65,9 +65,9 @@ nextOf following n w p = one n (pos (p + 1))
 -- "Bad unless", a clause for each kind of the table of steps: the companion of word p stands where it is wanted
 abbrev pub standsAt : Companion → List ℕ → ℕ → Bool
 -- word p+1 is 46 to 48
-standsAt metamethodAfter ws p = isIn «OP_MMBIN» «OP_MMBINK» (opcodeAt ws (p + 1))
+standsAt metamethodAfter ws p = isBetween «OP_MMBIN» «OP_MMBINK» (opcodeAt ws (p + 1))
 -- p > 0 and word p-1 is 21 to 45
-standsAt arithmeticBefore ws p = ltb 0 p && isIn «OP_ADDI» «OP_SHR» (opcodeAt ws (p - 1))
+standsAt arithmeticBefore ws p = ltb 0 p && isBetween «OP_ADDI» «OP_SHR» (opcodeAt ws (p - 1))
 -- word p+1 is JMP
 standsAt jumpAfter ws p = eqb (opcodeAt ws (p + 1)) «OP_JMP»
 -- word p+1 is EXTRAARG

@@ -16,14 +16,14 @@ unfolding unless
 returns-2 c =
     let a = c .before .before in
     let e = a .before .before in
-    rw (lt-ltb 0 _ (pos-of-ne-zero (e .if1 .left)), ← a .before .opcode-at .ensures, ← a .is-in .ensures, c .before .if2 .taken) (c .one-of .ensures)
+    rw (lt-ltb 0 _ (pos-of-ne-zero (e .if1 .left)), ← a .before .opcode-at .ensures, ← a .is-between .ensures, c .before .if2 .taken) (c .one-of .ensures)
 
 returns-3 : tie.Need-returns-3
 unfolding unless
 returns-3 c =
     let a = c .before in
     let e = a .before .before in
-    rw (lt-ltb 0 _ (pos-of-ne-zero (e .if1 .left)), ← a .before .opcode-at .ensures, ← a .is-in .ensures, c .if2 .left)
+    rw (lt-ltb 0 _ (pos-of-ne-zero (e .if1 .left)), ← a .before .opcode-at .ensures, ← a .is-between .ensures, c .if2 .left)
 
 pub metamethod-spec : {M : Type 1} → statement M
 metamethod-spec =
