@@ -2,7 +2,7 @@
 -- Assumes nothing.
 use Prim.Native.Nat.{ℕ, _+_, _<_}
 use mathlib.Core.Path.{_≡_, refl}
-use mathlib.Core.Bool.{Bool, true, false, _||_}
+use mathlib.Core.Bool.{Bool, true, false, cond, _||_}
 use mathlib.Core.List.{List}
 use lib.Dec.{ltb, leb, eqb}
 use lib.IntN.{ℤ, pos, negsuc}
@@ -10,7 +10,7 @@ use lib.ListN.{length, getD}
 use borrow.Author.Tests.{ltb-true, leb-false}
 use Rattle.fields.specs.Opcodes.{«OP_CALL», «OP_TFORCALL»}
 use Rattle.fields.specs.Word.{kOf}
-use Rattle.fields.specs.Table.{pick, StepClass, following, returning, branching, skipping, skippingIfK, jumping, looping, preparing, entering, invalid, classOf}
+use Rattle.fields.specs.Table.{StepClass, following, returning, branching, skipping, skippingIfK, jumping, looping, preparing, entering, invalid, classOf}
 use Rattle.runs.specs.declared.edges.Successors.{Successors}
 use Rattle.runs.specs.declared.edges.Successors.the-variants.{One, Two}
 use Rattle.runs.specs.Successors.{unless, one, ordered, two, opcodeAt, nextOf, companionPresent, successorsOf, servesOf}
@@ -23,7 +23,7 @@ unfolding unless
 by-test n true s f = f refl
 by-test n false s f = tt
 
-picked : (n : ℕ) (t : Bool) (a b : Successors) → (t ≡ true → Below n a) → Below n b → Below n (pick t a b)
+picked : (n : ℕ) (t : Bool) (a b : Successors) → (t ≡ true → Below n a) → Below n b → Below n (cond t a b)
 picked n true a b f g = f refl
 picked n false a b f g = g
 

@@ -2,10 +2,10 @@
 -- Assumes nothing.
 use Prim.Native.Nat.{ℕ, _/_, _%_, _*_, _^_, _≤_, _<_}
 use mathlib.Core.Path.{_≡_, ap, sym, _∙_}
-use mathlib.Core.Bool.{Bool, true}
+use mathlib.Core.Bool.{Bool, true, cond}
 use lib.Dec.{T, leb, eqb, eqb→eq}
 use borrow.Author.Tests.{le-leb}
-use Rattle.fields.specs.Table.{pick, classOf, companionOf}
+use Rattle.fields.specs.Table.{classOf, companionOf}
 use Rattle.runs.specs.Columns.{bothOf, eightOf}
 use Rattle.runs.proofs.Below.{all, all-at}
 
@@ -21,7 +21,7 @@ unfolding byte-right
 byte-of o h = eqb→eq _ _ (all-at byte-right 128 bytes-right o h)
 
 unknown-right : ℕ → Bool
-unknown-right block = pick (leb 11 block) (eqb 0x0909090909090909 (eightOf block)) true
+unknown-right block = cond (leb 11 block) (eqb 0x0909090909090909 (eightOf block)) true
 
 unknowns-right : T (all unknown-right 16)
 unfolding unknown-right eightOf classOf companionOf

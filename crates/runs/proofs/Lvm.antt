@@ -4,7 +4,7 @@
 use Prim.Native.Nat.{ℕ, _+_, _*_, _<_, _^_}
 use mathlib.Core.Path.{_≡_, refl, ap, sym, _∙_}
 use mathlib.Core.Logic.{inl, inr, _↔_}
-use mathlib.Core.Bool.{Bool, true, false, true≢false}
+use mathlib.Core.Bool.{Bool, true, false, cond, true≢false}
 use mathlib.Core.List.{List, [], _∷_}
 use native.Mathlib.Omega.{arith}
 use lib.Dec.{T, ltb, eqb, eqb→eq}
@@ -15,7 +15,7 @@ use borrow.Author.Tests.{ltb-false, eqb-true, eqb-false, eq-eqb, ne-eqb}
 use Rattle.fields.specs.declared.word.RawInstruction54.{RawInstruction54}
 use Rattle.fields.specs.Word.{opcodeOf, kOf, bxOf, sjOf}
 use Rattle.fields.specs.Lopcodes.{«GET_OPCODE», «GETARG_Bx», «GETARG_sJ», «TESTARG_k»}
-use Rattle.fields.specs.Table.{pick, StepClass, following, returning, branching, skipping, skippingIfK, jumping, looping, preparing, entering, invalid, classNumber, classOf}
+use Rattle.fields.specs.Table.{StepClass, following, returning, branching, skipping, skippingIfK, jumping, looping, preparing, entering, invalid, classNumber, classOf}
 use Rattle.fields.proofs.Lopcodes.{agreement}
 use Rattle.runs.specs.declared.edges.Successors.{Successors}
 use Rattle.runs.specs.declared.edges.Successors.the-variants.{One, Two}
@@ -96,7 +96,7 @@ ordered-same : (q r : ℕ) → Same (pos q ∷ pos r ∷ []) (integers (listOf (
 unfolding ordered
 ordered-same q r = go (ltb q r) (ltb r q) refl refl
   where
-    go : (a b : Bool) → ltb q r ≡ a → ltb r q ≡ b → Same (pos q ∷ pos r ∷ []) (integers (listOf (pick a (Two q r) (pick b (Two r q) (One q)))))
+    go : (a b : Bool) → ltb q r ≡ a → ltb r q ≡ b → Same (pos q ∷ pos r ∷ []) (integers (listOf (cond a (Two q r) (cond b (Two r q) (One q)))))
     go true b d e z = (λ m. m, λ m. m)
     go false true d e z = (swapped, swapped)
     go false false d e z =
@@ -147,8 +147,8 @@ module _ (n : ℕ) where
 
 module _ (n w p : ℕ) (fits : w < 2 ^ 32) where
   list-same : (t : Bool) → eqb (kOf w) 1 ≡ t
-      → isInvalid (pick t (one n (pos (p + 2))) (one n (pos (p + 1)))) ≡ false
-      → Same (targetsOf (waysOf setlist (pos (p + 1)) w)) (integers (listOf (pick t (one n (pos (p + 2))) (one n (pos (p + 1))))))
+      → isInvalid (cond t (one n (pos (p + 2))) (one n (pos (p + 1)))) ≡ false
+      → Same (targetsOf (waysOf setlist (pos (p + 1)) w)) (integers (listOf (cond t (one n (pos (p + 2))) (one n (pos (p + 1))))))
   list-same true d e = rw (k-set w (eqb-true _ _ d)) (one-by n _ (pos (p + 2)) (ap pos (omega arith)) e)
   list-same false d e = rw (k-clear w (eqb-false _ _ d)) (one-by n _ (pos (p + 1)) refl e)
 

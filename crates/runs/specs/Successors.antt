@@ -1,20 +1,20 @@
 -- Document 01, "Steps": the successors of word p of the words ws, and which of the steps serve.
 -- Assumes nothing.
 use Prim.Native.Nat.{ℕ, _+_, _-_}
-use mathlib.Core.Bool.{Bool, true, false, _&&_, _||_}
+use mathlib.Core.Bool.{Bool, true, false, cond, _&&_, _||_}
 use mathlib.Core.List.{List, [], _∷_}
 use lib.Dec.{ltb, leb, eqb}
 use lib.IntN.{ℤ, pos, negsuc, _+ℤ_, _-ℤ_}
 use lib.ListN.{length, getD}
 use Rattle.fields.specs.Opcodes.{«OP_ADDI», «OP_SHR», «OP_MMBIN», «OP_MMBINK», «OP_JMP», «OP_CALL», «OP_TFORCALL», «OP_TFORLOOP», «OP_EXTRAARG»}
 use Rattle.fields.specs.Word.{opcodeOf, kOf, bxOf, sjOf}
-use Rattle.fields.specs.Table.{pick, StepClass, following, returning, branching, skipping, skippingIfK, jumping, looping, preparing, entering, invalid, classOf, Companion, alone, metamethodAfter, arithmeticBefore, jumpAfter, extraAfter, extraAfterIfK, callAtTarget, loopAfter, companionOf}
+use Rattle.fields.specs.Table.{StepClass, following, returning, branching, skipping, skippingIfK, jumping, looping, preparing, entering, invalid, classOf, Companion, alone, metamethodAfter, arithmeticBefore, jumpAfter, extraAfter, extraAfterIfK, callAtTarget, loopAfter, companionOf}
 use Rattle.runs.specs.declared.edges.Successors.{Successors}
 use Rattle.runs.specs.declared.edges.Successors.the-variants.{Invalid, Stop, One, Two}
 
 -- "bad unless"
 unfoldable pub unless : Bool → Successors → Successors
-unless t s = pick t s Invalid
+unless t s = cond t s Invalid
 
 -- one next word: "a word is also bad if a next word is below 0, or n or more"
 unfoldable pub one : ℕ → ℤ → Successors
@@ -23,7 +23,7 @@ one n (negsuc q) = Invalid
 
 -- "two equal steps are one; steps are given lower first"
 unfoldable pub ordered : ℕ → ℕ → Successors
-ordered q r = pick (ltb q r) (Two q r) (pick (ltb r q) (Two r q) (One q))
+ordered q r = cond (ltb q r) (Two q r) (cond (ltb r q) (Two r q) (One q))
 
 -- two next words, each below 0 or n or more making the word bad
 unfoldable pub two : ℕ → ℤ → ℤ → Successors
@@ -48,7 +48,7 @@ nextOf branching n w p = two n (pos (p + 1)) (pos (p + 2))
 -- p+2
 nextOf skipping n w p = one n (pos (p + 2))
 -- "SETLIST 78 if its k is 1": p+2; else as all others p+1
-nextOf skippingIfK n w p = pick (eqb (kOf w) 1) (one n (pos (p + 2))) (one n (pos (p + 1)))
+nextOf skippingIfK n w p = cond (eqb (kOf w) 1) (one n (pos (p + 2))) (one n (pos (p + 1)))
 -- p+1+sJ
 nextOf jumping n w p = one n (pos (p + 1) +ℤ sjOf w)
 -- p+1-Bx, p+1
@@ -73,7 +73,7 @@ standsAt jumpAfter ws p = eqb (opcodeAt ws (p + 1)) «OP_JMP»
 -- word p+1 is EXTRAARG
 standsAt extraAfter ws p = eqb (opcodeAt ws (p + 1)) «OP_EXTRAARG»
 -- the same for "SETLIST 78 if its k is 1"
-standsAt extraAfterIfK ws p = pick (eqb (kOf (getD ws p 0)) 1) (eqb (opcodeAt ws (p + 1)) «OP_EXTRAARG») true
+standsAt extraAfterIfK ws p = cond (eqb (kOf (getD ws p 0)) 1) (eqb (opcodeAt ws (p + 1)) «OP_EXTRAARG») true
 -- p+1+Bx: that word is TFORCALL
 standsAt callAtTarget ws p = eqb (opcodeAt ws (p + 1 + bxOf (getD ws p 0))) «OP_TFORCALL»
 -- p+1: that word is TFORLOOP
