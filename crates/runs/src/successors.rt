@@ -11,8 +11,7 @@ use crate::edges::Successors;
 use fields::columns::*;
 use fields::opcodes::*;
 
-// JMP's distance is Ax less this.
-const OFFSET_SJ: usize = 16777215;
+const OFFSET_SJ: usize = fields::word::OFFSET_SJ as usize;
 
 fn one_of(n: usize, q: usize) -> Successors
     ensures { λ r. ⌜ r ≡ one n (pos q) ⌝ }
