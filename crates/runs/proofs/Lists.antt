@@ -76,11 +76,6 @@ most-upper f (suc k) p h =
     let r = most-upper f k p in
     ⊎-elim (λ e. omega (arith, ap f e)) (λ n. omega (arith, r (past (omega arith) (λ e. n (sym e))))) (same-or-not p k)
 
-pub most-least : (f : ℕ → ℕ) (k v : ℕ) → ((p : ℕ) → p < k → f p ≤ v) → most f k ≤ v
-unfolding most
-most-least f zero v h = omega arith
-most-least f (suc k) v h = let r = most-least f k v (λ p l. h p (omega arith)) in omega (arith, h k (omega arith))
-
 pub most-attained : (f : ℕ → ℕ) (k : ℕ) → 0 < most f k → (p : ℕ) × (p < k) × (f p ≡ most f k)
 unfolding most
 most-attained f zero h = absurd (not-suc-le-zero h)

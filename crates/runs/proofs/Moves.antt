@@ -48,11 +48,6 @@ unfolding ones
 ones-le zero m b = zero-le
 ones-le (suc k) m b = let h = ones-le k m (λ p d. b p (omega arith)) in omega (arith, b k (omega arith))
 
-ones-none : (k : ℕ) (m : List ℕ) → ((p : ℕ) → p < k → getD m p 0 ≡ 0) → ones k m ≡ 0
-unfolding ones
-ones-none zero m b = refl
-ones-none (suc k) m b = let h = ones-none k m (λ p d. b p (omega arith)) in omega (arith, b k (omega arith))
-
 pub in-one : {x q : ℕ} → In x (q ∷ []) → x ≡ q
 in-one {x} {q} i = ⊎-elim (λ e. e) (λ n. absurd n) i
 
