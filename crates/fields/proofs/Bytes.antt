@@ -3,12 +3,12 @@
 -- Assumes nothing.
 use Prim.Native.Nat.{ℕ, _/_, _%_, _<_}
 use mathlib.Core.Path.{_≡_, refl, ap, sym, _∙_}
-use mathlib.Core.Bool.{Bool, true, false}
+use mathlib.Core.Bool.{Bool, true, false, cond}
 use mathlib.Core.List.{List, [], _∷_}
 use native.Mathlib.Omega.{arith}
 use lib.Dec.{T, eqb, eqb→eq}
 use borrow.Author.Tests.{ne-eqb}
-use Rattle.fields.specs.Table.{pick, StepClass, following, returning, branching, skipping, skippingIfK, jumping, looping, preparing, entering, invalid, classNumber, classOf, companionNumber, companionOf, fallbackOf}
+use Rattle.fields.specs.Table.{StepClass, following, returning, branching, skipping, skippingIfK, jumping, looping, preparing, entering, invalid, classNumber, classOf, companionNumber, companionOf, fallbackOf}
 use Rattle.fields.specs.Packed.{bothOf, ruleOf, eightOf, byteOf}
 use Rattle.fields.proofs.Below.{all, all-at}
 
@@ -19,7 +19,7 @@ NoneOf (k ∷ ks) block = NoneOf ks block × (block ≡ k → ⊥)
 
 abbrev pub isOneOf : List ℕ → ℕ → Bool
 isOneOf [] block = false
-isOneOf (k ∷ ks) block = pick (eqb block k) true (isOneOf ks block)
+isOneOf (k ∷ ks) block = cond (eqb block k) true (isOneOf ks block)
 
 none-of : (ks : List ℕ) (block : ℕ) → NoneOf ks block → isOneOf ks block ≡ false
 none-of [] block none = refl
@@ -38,7 +38,7 @@ module _ (column : ℕ → ℕ) where
 
   -- those of the last arm are alike
   abbrev pub otherRight : List ℕ → ℕ → ℕ → Bool
-  otherRight ks number block = pick (isOneOf ks block) true (eqb number (eightOf column block))
+  otherRight ks number block = cond (isOneOf ks block) true (eqb number (eightOf column block))
 
   pub at-others :
       (ks : List ℕ) (number : ℕ) → T (all (otherRight ks number) 16) → (block : ℕ) → block < 16 → NoneOf ks block → number ≡ eightOf column block

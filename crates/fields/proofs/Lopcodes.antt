@@ -1,6 +1,6 @@
 -- lopcodes.h's fields are document 01's: a mask of k ones is the remainder by 2 ^ k.
 -- Assumes nothing.
-use Prim.Native.Nat.{ℕ, _/_, _^_}
+use Prim.Native.Nat.{_/_, _^_}
 use lib.Bits.{and-mask}
 use Rattle.fields.specs.Lopcodes.{Agreement}
 

@@ -15,6 +15,7 @@ use borrow.Author.Tests.{lt-ltb, le-ltb}
 use Rattle.runs.specs.declared.edges.Successors.{Successors}
 use Rattle.runs.specs.declared.edges.Successors.the-variants.{Invalid, One, Two}
 use Rattle.runs.specs.Successors.{unless, one, ordered, two, opcodeAt, nextOf, standsAt, companionPresent, successorsOf}
+pub use Rattle.runs.proofs.Order.{past}
 
 pub one-in : {n q : ℕ} → q < n → One q ≡ one n (pos q)
 unfolding one unless
@@ -77,10 +78,6 @@ module _ (n x b : ℕ) where
   pub back-none : b ≡ 0 → one n (pos x) ≡ two n (pos x -ℤ pos b) (pos x)
   back-none e =
       two-equal n x ∙ ap (λ (z : ℤ). two n z (pos x)) (ap pos (omega arith) ∙ sym (difference-in x b (omega arith)))
-
--- for the last arm of a `match` on the numbers from 0: a number that is none of them is past them
-pub past : {k m : ℕ} → m ≤ k → (k ≡ m → ⊥) → suc m ≤ k
-past {k} {m} h differs = omega arith
 
 -- a test that holds
 let-through : (t : Bool) (s : Successors) → t ≡ true → s ≡ unless t s

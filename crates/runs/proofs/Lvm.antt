@@ -4,7 +4,7 @@
 use Prim.Native.Nat.{ℕ, _+_, _*_, _<_, _^_}
 use mathlib.Core.Path.{_≡_, refl, ap, sym, _∙_}
 use mathlib.Core.Logic.{inl, inr, _↔_}
-use mathlib.Core.Bool.{Bool, true, false, true≢false}
+use mathlib.Core.Bool.{Bool, true, false, cond, true≢false}
 use mathlib.Core.List.{List, [], _∷_}
 use native.Mathlib.Omega.{arith}
 use lib.Dec.{T, ltb, eqb, eqb→eq}
@@ -15,14 +15,14 @@ use borrow.Author.Tests.{ltb-false, eqb-true, eqb-false, eq-eqb, ne-eqb}
 use Rattle.fields.specs.declared.word.RawInstruction54.{RawInstruction54}
 use Rattle.fields.specs.Word.{opcodeOf, kOf, bxOf, sjOf}
 use Rattle.fields.specs.Lopcodes.{«GET_OPCODE», «GETARG_Bx», «GETARG_sJ», «TESTARG_k»}
-use Rattle.fields.specs.Table.{pick, StepClass, following, returning, branching, skipping, skippingIfK, jumping, looping, preparing, entering, invalid, classNumber, classOf}
+use Rattle.fields.specs.Table.{StepClass, following, returning, branching, skipping, skippingIfK, jumping, looping, preparing, entering, invalid, classNumber, classOf}
 use Rattle.fields.proofs.Below.{all, all-at}
 use Rattle.fields.proofs.Lopcodes.{agreement}
 use Rattle.runs.specs.declared.edges.Successors.{Successors}
 use Rattle.runs.specs.declared.edges.Successors.the-variants.{One, Two}
 use Rattle.runs.specs.Columns.{classFrom}
 use Rattle.runs.specs.Successors.{unless, one, ordered, two, opcodeAt, nextOf, companionPresent, successorsOf, isInvalid, listOf}
-use Rattle.runs.specs.Lvm.{Body, still, skip, arith as arithmetic, jmp, condjump, testset, call, leave, loop, forprep, tforprep, tforcall, setlist, assert0, absent, waysOf, switch, vmdispatch, placesOf, goesOn, Among, integers, Agreement}
+use Rattle.runs.specs.Lvm.{Body, still, skip, arith as arithmetic, jmp, condjump, testset, call, leave, loop, forprep, tforprep, tforcall, setlist, assert0, absent, waysOf, switch, vmdispatch, targetsOf, goesOn, Among, integers, Agreement}
 use Rattle.runs.proofs.Columns.{class-back}
 
 -- The two classifications.
@@ -96,7 +96,7 @@ ordered-same : (q r : ℕ) → Same (pos q ∷ pos r ∷ []) (integers (listOf (
 unfolding ordered
 ordered-same q r = go (ltb q r) (ltb r q) refl refl
   where
-    go : (a b : Bool) → ltb q r ≡ a → ltb r q ≡ b → Same (pos q ∷ pos r ∷ []) (integers (listOf (pick a (Two q r) (pick b (Two r q) (One q)))))
+    go : (a b : Bool) → ltb q r ≡ a → ltb r q ≡ b → Same (pos q ∷ pos r ∷ []) (integers (listOf (cond a (Two q r) (cond b (Two r q) (One q)))))
     go true b d e z = (λ m. m, λ m. m)
     go false true d e z = (swapped, swapped)
     go false false d e z =
@@ -147,13 +147,13 @@ module _ (n : ℕ) where
 
 module _ (n w p : ℕ) (fits : w < 2 ^ 32) where
   list-same : (t : Bool) → eqb (kOf w) 1 ≡ t
-      → isInvalid (pick t (one n (pos (p + 2))) (one n (pos (p + 1)))) ≡ false
-      → Same (placesOf (waysOf setlist (pos (p + 1)) w)) (integers (listOf (pick t (one n (pos (p + 2))) (one n (pos (p + 1))))))
+      → isInvalid (cond t (one n (pos (p + 2))) (one n (pos (p + 1)))) ≡ false
+      → Same (targetsOf (waysOf setlist (pos (p + 1)) w)) (integers (listOf (cond t (one n (pos (p + 2))) (one n (pos (p + 1))))))
   list-same true d e = rw (k-set w (eqb-true _ _ d)) (one-by n _ (pos (p + 2)) (ap pos (omega arith)) e)
   list-same false d e = rw (k-clear w (eqb-false _ _ d)) (one-by n _ (pos (p + 1)) refl e)
 
   body-same : (b : Body) → isInvalid (nextOf (classBy b) n w p) ≡ false
-      → Same (placesOf (waysOf b (pos (p + 1)) w)) (integers (listOf (nextOf (classBy b) n w p)))
+      → Same (targetsOf (waysOf b (pos (p + 1)) w)) (integers (listOf (nextOf (classBy b) n w p)))
   body-same still e = one-by n _ (pos (p + 1)) refl e
   body-same skip e = one-by n _ (pos (p + 2)) (ap pos (omega arith)) e
   body-same arithmetic e = two-back n (pos (p + 1)) _ (pos (p + 1)) (pos (p + 2)) refl (ap pos (omega arith)) e
@@ -172,9 +172,9 @@ module _ (n w p : ℕ) (fits : w < 2 ^ 32) where
   body-same assert0 e = absurd (true≢false e)
   body-same absent e = absurd (true≢false e)
 
-  found-same : (b : Body) (s : Successors) (places : List ℤ) → places ≡ placesOf (waysOf b (pos (p + 1)) w)
-      → s ≡ nextOf (classBy b) n w p → isInvalid s ≡ false → Same places (integers (listOf s))
-  found-same b s places d c e = rw (d, c) (body-same b (sym (ap isInvalid c) ∙ e))
+  found-same : (b : Body) (s : Successors) (targets : List ℤ) → targets ≡ targetsOf (waysOf b (pos (p + 1)) w)
+      → s ≡ nextOf (classBy b) n w p → isInvalid s ≡ false → Same targets (integers (listOf s))
+  found-same b s targets d c e = rw (d, c) (body-same b (sym (ap isInvalid c) ∙ e))
 
 -- the steps of a word that is not bad are those of its class
 steps-by : (ws : List ℕ) (p : ℕ) → isInvalid (successorsOf ws p) ≡ false
@@ -190,7 +190,7 @@ same : (ws : List ℕ) (p : ℕ) → getD ws p 0 < 2 ^ 32 → isInvalid (success
 unfolding goesOn opcodeAt
 same ws p fits e =
     found-same (length ws) (getD ws p 0) p fits (vmdispatch switch (opcodeOf (getD ws p 0))) (successorsOf ws p) (goesOn ws p)
-    (ap (λ (o : ℕ). placesOf (waysOf (vmdispatch switch o) (pos (p + 1)) (getD ws p 0))) (opcode-is (getD ws p 0) fits))
+    (ap (λ (o : ℕ). targetsOf (waysOf (vmdispatch switch o) (pos (p + 1)) (getD ws p 0))) (opcode-is (getD ws p 0) fits))
     (steps-by ws p e
     ∙ ap (λ (x : StepClass). nextOf x (length ws) (getD ws p 0) p) (class-by (opcodeOf (getD ws p 0)) (omega arith)))
     e

@@ -6,14 +6,13 @@
 use Prim.Native.Nat.{ℕ, _+_, _<_, _^_}
 use mathlib.Core.Path.{_≡_}
 use mathlib.Core.Logic.{_⊎_, _↔_}
-use mathlib.Core.Bool.{false}
+use mathlib.Core.Bool.{false, cond}
 use mathlib.Core.List.{List, [], _∷_}
 use lib.Dec.{eqb}
 use lib.IntN.{ℤ, pos, _+ℤ_, _-ℤ_}
 use lib.ListN.{getD}
 use Rattle.fields.specs.Opcodes.{«OP_MOVE», «OP_LOADI», «OP_LOADF», «OP_LOADK», «OP_LOADKX», «OP_LOADFALSE», «OP_LFALSESKIP», «OP_LOADTRUE», «OP_LOADNIL», «OP_GETUPVAL», «OP_SETUPVAL», «OP_GETTABUP», «OP_GETTABLE», «OP_GETI», «OP_GETFIELD», «OP_SETTABUP», «OP_SETTABLE», «OP_SETI», «OP_SETFIELD», «OP_NEWTABLE», «OP_SELF», «OP_ADDI», «OP_ADDK», «OP_SUBK», «OP_MULK», «OP_MODK», «OP_POWK», «OP_DIVK», «OP_IDIVK», «OP_BANDK», «OP_BORK», «OP_BXORK», «OP_SHRI», «OP_SHLI», «OP_ADD», «OP_SUB», «OP_MUL», «OP_MOD», «OP_POW», «OP_DIV», «OP_IDIV», «OP_BAND», «OP_BOR», «OP_BXOR», «OP_SHR», «OP_SHL», «OP_MMBIN», «OP_MMBINI», «OP_MMBINK», «OP_UNM», «OP_BNOT», «OP_NOT», «OP_LEN», «OP_CONCAT», «OP_CLOSE», «OP_TBC», «OP_JMP», «OP_EQ», «OP_LT», «OP_LE», «OP_EQK», «OP_EQI», «OP_LTI», «OP_LEI», «OP_GTI», «OP_GEI», «OP_TEST», «OP_TESTSET», «OP_CALL», «OP_TAILCALL», «OP_RETURN», «OP_RETURN0», «OP_RETURN1», «OP_FORLOOP», «OP_FORPREP», «OP_TFORPREP», «OP_TFORCALL», «OP_TFORLOOP», «OP_SETLIST», «OP_CLOSURE», «OP_VARARG», «OP_VARARGPREP», «OP_EXTRAARG»}
 use Rattle.fields.specs.Lopcodes.{«GET_OPCODE», «GETARG_Bx», «GETARG_sJ», «TESTARG_k»}
-use Rattle.fields.specs.Table.{pick}
 use Rattle.runs.specs.Successors.{successorsOf, isInvalid, listOf}
 
 -- how a case goes on
@@ -82,7 +81,7 @@ waysOf loop pc i = fetch (pc -ℤ pos («GETARG_Bx» i)) ∷ fetch pc ∷ []
 waysOf forprep pc i = fetch (pc +ℤ (pos («GETARG_Bx» i) +ℤ pos 1)) ∷ fetch pc ∷ []
 waysOf tforprep pc i = along (pc +ℤ pos («GETARG_Bx» i)) ∷ []
 waysOf tforcall pc i = along pc ∷ []
-waysOf setlist pc i = pick (eqb («TESTARG_k» i) 0) (fetch pc ∷ []) (fetch (pc +ℤ pos 1) ∷ [])
+waysOf setlist pc i = cond (eqb («TESTARG_k» i) 0) (fetch pc ∷ []) (fetch (pc +ℤ pos 1) ∷ [])
 waysOf assert0 pc i = fetch pc ∷ []
 waysOf absent pc i = fetch pc ∷ []
 
@@ -179,20 +178,20 @@ switch =
 
 abbrev pub vmdispatch : List Case → ℕ → Body
 vmdispatch [] o = absent
-vmdispatch (vmcase opcode body ∷ cases) o = pick (eqb o opcode) body (vmdispatch cases o)
+vmdispatch (vmcase opcode body ∷ cases) o = cond (eqb o opcode) body (vmdispatch cases o)
 
 -- the word that is executed next
-abbrev pub placeOf : Way → ℤ
-placeOf (fetch pc) = pc
-placeOf (along pc) = pc
+abbrev pub targetOf : Way → ℤ
+targetOf (fetch pc) = pc
+targetOf (along pc) = pc
 
-abbrev pub placesOf : List Way → List ℤ
-placesOf [] = []
-placesOf (way ∷ ways) = placeOf way ∷ placesOf ways
+abbrev pub targetsOf : List Way → List ℤ
+targetsOf [] = []
+targetsOf (way ∷ ways) = targetOf way ∷ targetsOf ways
 
 -- the words at which luaV_execute can go on after word p, `i = *(pc++)`
 unfoldable pub goesOn : List ℕ → ℕ → List ℤ
-goesOn ws p = placesOf (waysOf (vmdispatch switch («GET_OPCODE» (getD ws p 0))) (pos (p + 1)) (getD ws p 0))
+goesOn ws p = targetsOf (waysOf (vmdispatch switch («GET_OPCODE» (getD ws p 0))) (pos (p + 1)) (getD ws p 0))
 
 abbrev pub Among : ℤ → List ℤ → Type 0
 Among z [] = ⊥
