@@ -56,22 +56,18 @@ struct lawendeb_run {
 struct lawendeb_run lawendeb_longest_run(const uint32_t *words, size_t n, uint8_t *marks, size_t marks_n, uint32_t *lengths,
                                          size_t lengths_n);
 
-/* Refusals 1 to 6 of lifting, for so many places for records: number 0 is acceptance. */
+/* What lifting answers: refusals 1 to 6 and their place; number 0 is acceptance. */
 struct lawendeb_answer {
     uint64_t number, place;
 };
 
-struct lawendeb_answer lawendeb_answer(const uint32_t *words, size_t n, const uint8_t *tags, size_t tags_n,
-                                       const uint64_t *payloads, size_t payloads_n, const uint64_t *names, size_t names_n,
-                                       const uint8_t *bytes, size_t bytes_n, size_t records);
+/* Numbers in a record: compare/FLAT.md lists them. */
+#define LAWENDEB_RECORD_NUMBERS 53
 
-/* The record of word pc as 53 numbers, which compare/FLAT.md lists; all 0 on a refusal and past the words. */
-struct lawendeb_record {
-    uint64_t numbers[53];
-};
-
-struct lawendeb_record lawendeb_record(const uint32_t *words, size_t n, const uint8_t *tags, size_t tags_n,
-                                       const uint64_t *payloads, size_t payloads_n, const uint64_t *names, size_t names_n,
-                                       const uint8_t *bytes, size_t bytes_n, size_t pc);
+/* Lifts a function: a record for each word, 53 numbers each, one after another in `numbers`. There is room for numbers_n / 53 records, and
+   number 6 says that this is less than n. What lies past the last record stays as it was, and all of it on a refusal. */
+struct lawendeb_answer lawendeb_lift(const uint32_t *words, size_t n, const uint8_t *tags, size_t tags_n, const uint64_t *payloads,
+                                     size_t payloads_n, const uint64_t *names, size_t names_n, const uint8_t *bytes,
+                                     size_t bytes_n, uint64_t *numbers, size_t numbers_n);
 
 #endif

@@ -41,7 +41,7 @@ fn main() {
     }
     // Records join in once the library exports them.
     let symbols = Command::new("nm").arg(Path::new(&folder).join("libexports.a")).output().expect("nm");
-    if String::from_utf8_lossy(&symbols.stdout).contains(" T lawendeb_record") {
+    if String::from_utf8_lossy(&symbols.stdout).contains(" T lawendeb_lift") {
         println!("cargo:rustc-cfg=rattle_records");
     }
 }

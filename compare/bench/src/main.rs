@@ -93,22 +93,42 @@ fn best(rounds: usize, calls: &mut [Box<dyn FnMut() + '_>]) -> Vec<f64> {
     best
 }
 
-/// One row: the time of each, and of the later ones the ratio to the first. Answers the times a word or feed.
-fn row(what: &str, code: &str, n: usize, times: &[f64], each: f64) -> Vec<f64> {
-    let times: Vec<f64> = times.iter().map(|t| t / each).collect();
-    let mut cells: Vec<String> = times.iter().map(|t| format!("{t:.2}")).collect();
-    cells.extend(times[1..].iter().map(|t| format!("{:.2}", t / times[0])));
-    println!("| {what} | {code} | {n} | {} |", cells.join(" | "));
-    times
+/// The columns of a table: a time for each name, then quotients of two of them.
+struct Columns<'a> {
+    names: Vec<&'a str>,
+    quotients: Vec<(usize, usize)>,
 }
 
-/// How the time a word at the largest size compares with that at the middle one.
-fn flat_row(rows: &[Vec<f64>]) {
-    let cells: Vec<String> = rows[2].iter().zip(&rows[1]).map(|(l, m)| format!("{:.2}", l / m)).collect();
-    println!("| | | {} / {} | {} |{}", SIZES[2], SIZES[1], cells.join(" | "), " |".repeat(cells.len() - 1));
+impl<'a> Columns<'a> {
+    /// With the quotient of each later time and the first.
+    fn over_first(names: Vec<&'a str>) -> Columns<'a> {
+        let quotients = (1..names.len()).map(|i| (i, 0)).collect();
+        Columns { names, quotients }
+    }
+
+    fn head(&self) {
+        let quotients = self.quotients.iter().map(|&(i, j)| format!("{} / {}", self.names[i], self.names[j]));
+        let cells: Vec<String> = self.names.iter().map(|n| n.to_string()).chain(quotients).collect();
+        println!("\n| nanoseconds | code | words | {} |\n|---|---|---|{}", cells.join(" | "), "---|".repeat(cells.len()));
+    }
+
+    /// Answers the times a word or feed.
+    fn row(&self, what: &str, code: &str, n: usize, times: &[f64], each: f64) -> Vec<f64> {
+        let times: Vec<f64> = times.iter().map(|t| t / each).collect();
+        let quotients = self.quotients.iter().map(|&(i, j)| times[i] / times[j]);
+        let cells: Vec<String> = times.iter().copied().chain(quotients).map(|t| format!("{t:.2}")).collect();
+        println!("| {what} | {code} | {n} | {} |", cells.join(" | "));
+        times
+    }
+
+    /// How the time a word at the largest size compares with that at the middle one.
+    fn flat_row(&self, rows: &[Vec<f64>]) {
+        let cells: Vec<String> = rows[2].iter().zip(&rows[1]).map(|(l, m)| format!("{:.2}", l / m)).collect();
+        println!("| | | {} / {} | {} |{}", SIZES[2], SIZES[1], cells.join(" | "), " |".repeat(self.quotients.len()));
+    }
 }
 
-fn run_rows(sides: &[Side], rounds: usize) {
+fn run_rows(columns: &Columns, sides: &[Side], rounds: usize) {
     let kinds: [(&str, fn(usize) -> Vec<u32>); 3] = [("real", real::of_length), ("straight", straight), ("scattered", scattered)];
     for (name, make) in kinds {
         let mut rows = vec![];
@@ -127,13 +147,13 @@ fn run_rows(sides: &[Side], rounds: usize) {
                 }));
             }
             let times = best(rounds, &mut calls);
-            rows.push(row("longest run", name, n, &times, (repeat * n) as f64));
+            rows.push(columns.row("longest run", name, n, &times, (repeat * n) as f64));
         }
-        flat_row(&rows);
+        columns.flat_row(&rows);
     }
 }
 
-fn feed_rows(sides: &[Side], rounds: usize) {
+fn feed_rows(columns: &Columns, sides: &[Side], rounds: usize) {
     let kinds: [(&str, fn(usize) -> Vec<u32>); 3] = [("real", real::of_length), ("straight", straight), ("scattered", scattered)];
     for (name, make) in kinds {
         let mut rows = vec![];
@@ -153,9 +173,9 @@ fn feed_rows(sides: &[Side], rounds: usize) {
                 }));
             }
             let times = best(rounds, &mut calls);
-            rows.push(row("feed", name, n, &times, many as f64));
+            rows.push(columns.row("feed", name, n, &times, many as f64));
         }
-        flat_row(&rows);
+        columns.flat_row(&rows);
     }
 }
 
@@ -164,24 +184,23 @@ fn constants(n: usize) -> Vec<u32> {
     (0..n).map(|p| 3 | ((p % 256) as u32) << 15).collect()
 }
 
-/// The proved library gives its records one by one, and checks the tables at each: that is no measure of its lift into a list.
-fn lifts_into_a_list(side: &Side) -> bool {
-    side.lift.is_some() && side.name == "C twin"
-}
-
-fn lift_rows(sides: &[Side], rounds: usize) {
+/// Each side's records are held against luad's before a call is timed: a fast wrong lift has no time.
+fn lift_rows(columns: &Columns, sides: &[Side], rounds: usize) {
     let kinds: [(&str, fn(usize) -> Vec<u32>); 2] = [("real", real::of_length), ("constants", constants)];
     for (name, make) in kinds {
         let mut rows = vec![];
         for n in SIZES {
             let input = tables(make(n));
             let proto = oracle::prototype(&input);
+            let wanted = oracle::records(&input);
             let repeat = 32_768 / n;
             let lent = sides.iter().map(|_| vec![Record::default(); n]);
             let mut calls: Vec<Box<dyn FnMut()>> = vec![];
             for (side, mut records) in sides.iter().zip(lent) {
                 let input = &input;
                 let lift = side.lift.unwrap();
+                assert_eq!(lift(input, &mut records).number, 0);
+                assert!(records == wanted, "{}: {n} words, {name}: luad's records", side.name);
                 calls.push(Box::new(move || {
                     for _ in 0..repeat {
                         let answer = lift(black_box(input), &mut records);
@@ -196,9 +215,9 @@ fn lift_rows(sides: &[Side], rounds: usize) {
                 }
             }));
             let times = best(rounds, &mut calls);
-            rows.push(row("lift", name, n, &times, (repeat * n) as f64));
+            rows.push(columns.row("lift", name, n, &times, (repeat * n) as f64));
         }
-        flat_row(&rows);
+        columns.flat_row(&rows);
     }
 }
 
@@ -215,7 +234,7 @@ fn memory_rows(sides: &[Side]) {
         (side.feed)(&input.words, &mut m, 0);
         let feed = stack::used(|| assert_eq!((side.feed)(&input.words, &mut m, 1), 0));
         println!("| feed | {} | 0 | 0 | {feed} |", side.name);
-        if let Some(lift) = side.lift.filter(|_| lifts_into_a_list(side)) {
+        if let Some(lift) = side.lift {
             let depth = stack::used(|| assert_eq!(lift(&input, &mut records).number, 0));
             println!("| lift | {} | {} | 0 | {depth} |", side.name, std::mem::size_of::<Record>());
         }
@@ -229,22 +248,17 @@ fn memory_rows(sides: &[Side]) {
     println!("\nPeak resident memory of this whole program: {}.", high.trim_start_matches("VmHWM:").trim());
 }
 
-/// The head of a table with a column for each side and for each of `extra`, and the ratios to the first.
-fn head(sides: &[Side], extra: &[&str]) {
-    let names: Vec<&str> = sides.iter().map(|s| s.name).chain(extra.iter().copied()).collect();
-    let ratios = names[1..].iter().map(|n| format!("{n} / {}", names[0]));
-    let cells: Vec<String> = names.iter().map(|n| n.to_string()).chain(ratios).collect();
-    println!("\n| nanoseconds | code | words | {} |\n|---|---|---|{}", cells.join(" | "), "---|".repeat(cells.len()));
-}
-
 fn main() {
     let rounds = std::env::args().nth(1).map_or(25, |a| a.parse().expect("a number of rounds"));
     let sides = sides::sides();
-    head(&sides, &[]);
-    run_rows(&sides, rounds);
-    feed_rows(&sides, rounds);
-    let lifting: Vec<Side> = sides.into_iter().filter(lifts_into_a_list).collect();
-    head(&lifting, &["luad"]);
-    lift_rows(&lifting, rounds);
+    let columns = Columns::over_first(sides.iter().map(|s| s.name).collect());
+    columns.head();
+    run_rows(&columns, &sides, rounds);
+    feed_rows(&columns, &sides, rounds);
+    let lifting: Vec<Side> = sides.into_iter().filter(|s| s.lift.is_some()).collect();
+    let mut columns = Columns::over_first(lifting.iter().map(|s| s.name).chain(["luad"]).collect());
+    columns.quotients.extend((1..lifting.len()).map(|i| (lifting.len(), i)));
+    columns.head();
+    lift_rows(&columns, &lifting, rounds);
     memory_rows(&sides::sides());
 }

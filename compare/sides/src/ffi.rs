@@ -154,9 +154,10 @@ pub mod rattle {
     #[cfg(rattle_records)]
     mod records {
         use super::*;
+        use model::flat::NUMBERS;
 
         extern "C" {
-            fn lawendeb_answer(
+            fn lawendeb_lift(
                 words: *const u32,
                 n: usize,
                 tags: *const u8,
@@ -167,27 +168,16 @@ pub mod rattle {
                 names_n: usize,
                 bytes: *const u8,
                 bytes_n: usize,
-                records: usize,
+                numbers: *mut u64,
+                numbers_n: usize,
             ) -> Answer;
-            fn lawendeb_record(
-                words: *const u32,
-                n: usize,
-                tags: *const u8,
-                tags_n: usize,
-                payloads: *const u64,
-                payloads_n: usize,
-                names: *const u64,
-                names_n: usize,
-                bytes: *const u8,
-                bytes_n: usize,
-                pc: usize,
-            ) -> Record;
         }
 
         pub fn lift(i: &Input, records: &mut [Record]) -> Answer {
             assert!(i.records <= records.len());
-            let answer = unsafe {
-                lawendeb_answer(
+            // A record is 53 numbers and nothing else, so its list is one of numbers.
+            unsafe {
+                lawendeb_lift(
                     i.words.as_ptr(),
                     i.words.len(),
                     i.tags.as_ptr(),
@@ -198,29 +188,10 @@ pub mod rattle {
                     i.names.len(),
                     i.bytes.as_ptr(),
                     i.bytes.len(),
-                    i.records,
+                    records.as_mut_ptr().cast(),
+                    i.records * NUMBERS,
                 )
-            };
-            if answer.number == 0 {
-                for (pc, record) in records[..i.words.len()].iter_mut().enumerate() {
-                    *record = unsafe {
-                        lawendeb_record(
-                            i.words.as_ptr(),
-                            i.words.len(),
-                            i.tags.as_ptr(),
-                            i.tags.len(),
-                            i.payloads.as_ptr(),
-                            i.payloads.len(),
-                            i.names.as_ptr(),
-                            i.names.len(),
-                            i.bytes.as_ptr(),
-                            i.bytes.len(),
-                            pc,
-                        )
-                    };
-                }
             }
-            answer
         }
     }
 }

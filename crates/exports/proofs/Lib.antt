@@ -1,2 +1,3 @@
+pub mod Counted
+pub mod Overlay
 pub mod Signed
-pub mod Slots

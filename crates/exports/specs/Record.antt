@@ -1,9 +1,10 @@
--- A record as 53 numbers, part by part: compare/FLAT.md has the tables. A kind is the place of the case in ir.rs or model.rs, an
--- absent value is 0, and so is every number that a kind does not use.
+-- A record as 53 numbers, part by part, and the records of a whole function one after another: compare/FLAT.md has the tables. A kind is
+-- the place of the case in ir.rs or model.rs, an absent value is 0, and so is every number that a kind does not use.
 -- Assumes nothing.
-use Prim.Native.Nat.{ℕ, _+_, _*_, _^_}
+use Prim.Native.Nat.{ℕ, zero, suc, _+_, _*_, _/_, _^_}
 use mathlib.Core.Bool.{Bool, true, false}
-use mathlib.Core.List.{List, [], _∷_, map}
+use mathlib.Core.List.{List, [], _∷_, _++_}
+use lib.ListN.{length, getD, take, drop}
 use lib.Ieee.{Float, binary64, eq, toBits}
 use mir.Syntax.{w64}
 use mir.Val.{ofZ}
@@ -29,11 +30,15 @@ use Rattle.values.specs.declared.ir.Confidence.{Confidence}
 use Rattle.values.specs.declared.ir.Confidence.the-variants.{Reviewed, Unverified}
 use Rattle.values.specs.declared.ir.OperandSlot.{OperandSlot}
 use Rattle.values.specs.declared.ir.TargetSlot.{TargetSlot}
+use Rattle.values.specs.declared.ir.Operands.{Operands}
+use Rattle.values.specs.declared.ir.Reads.{Reads}
+use Rattle.values.specs.declared.ir.Writes.{Writes}
 use Rattle.values.specs.declared.ir.SemanticInstruction.{SemanticInstruction}
 use Rattle.records.specs.declared.refusals.Answer.{Answer}
+use Rattle.records.specs.Lift.{liftOf}
+use Rattle.records.specs.Refusals.{planOf}
 use Rattle.exports.specs.declared.parts.FlatSlot.{FlatSlot}
 use Rattle.exports.specs.declared.parts.FlatPair.{FlatPair}
-use Rattle.exports.specs.declared.lifted.FlatRecord.{FlatRecord}
 use Rattle.exports.specs.declared.lifted.FlatAnswer.{FlatAnswer}
 
 abbrev pub flagNumber : Bool → ℕ
@@ -49,7 +54,7 @@ unfoldable pub floatBits : Float → ℕ
 floatBits x = choose (eq x x) (toBits binary64 x) 0
 
 abbrev pub slot : ℕ → ℕ → ℕ → ℕ → FlatSlot
-slot kind a b c = record { kind = kind; numbers = a ∷ b ∷ c ∷ [] }
+slot kind a b c = record { kind = kind; first = a; second = b; third = c }
 
 abbrev pub pair : ℕ → ℕ → FlatPair
 pair kind value = record { kind = kind; value = value }
@@ -116,35 +121,72 @@ abbrev pub flatConfidence : Confidence → ℕ
 flatConfidence Unverified = 0
 flatConfidence Reviewed = 1
 
-abbrev pub flatOperands : List OperandSlot → List FlatSlot
-flatOperands [] = []
-flatOperands (s ∷ ss) = flatOperand (s .operand) ∷ flatOperands ss
+-- A record's numbers, in FLAT.md's order
 
-abbrev pub flatTargets : List TargetSlot → List FlatSlot
-flatTargets [] = []
-flatTargets (s ∷ ss) = flatTarget (s .target) ∷ flatTargets ss
+abbrev pub slotNumbers : FlatSlot → List ℕ
+slotNumbers s = s .kind ∷ s .first ∷ s .second ∷ s .third ∷ []
 
-abbrev pub flatRecord : SemanticInstruction → FlatRecord
-flatRecord i =
-    record {
-      pc = i .pc;
-      «raw_word» = i .«raw_word»;
-      opcode = i .opcode;
-      confidence = flatConfidence (i .confidence);
-      «has_target» = flatPc (i .«jump_target») .kind;
-      target = flatPc (i .«jump_target») .value;
-      «has_companion» = flatPc (i .«companion_pc») .kind;
-      companion = flatPc (i .«companion_pc») .value;
-      «has_fallback» = flatFallback (i .«metamethod_fallback») .kind;
-      fallback = flatFallback (i .«metamethod_fallback») .value;
-      effect = flatEffect (i .«implicit_effect»);
-      «operand_count» = i .operands .count;
-      operands = flatOperands (i .operands .slots);
-      «read_count» = i .reads .count;
-      reads = flatTargets (i .reads .slots);
-      «write_count» = i .writes .count;
-      writes = flatTargets (i .writes .slots);
-    }
+abbrev pub pairNumbers : FlatPair → List ℕ
+pairNumbers p = p .kind ∷ p .value ∷ []
+
+-- place k of a record's list, which has 4, 3 or 2 of them; past its end there would be register 0
+
+abbrev pub operandNumbers : List OperandSlot → ℕ → List ℕ
+operandNumbers slots k = slotNumbers (flatOperand (getD slots k (record { operand = operand.Register 0 }) .operand))
+
+abbrev pub targetNumbers : List TargetSlot → ℕ → List ℕ
+targetNumbers slots k = slotNumbers (flatTarget (getD slots k (record { target = target.Register 0 }) .target))
+
+-- 0 to 13
+unfoldable pub headNumbers : SemanticInstruction → List ℕ
+headNumbers i =
+    (i .pc ∷ i .«raw_word» ∷ i .opcode ∷ flatConfidence (i .confidence) ∷ [])
+    ++ pairNumbers (flatPc (i .«jump_target»))
+    ++ pairNumbers (flatPc (i .«companion_pc»))
+    ++ pairNumbers (flatFallback (i .«metamethod_fallback»))
+    ++ slotNumbers (flatEffect (i .«implicit_effect»))
+
+-- 14 to 30
+unfoldable pub operandsNumbers : Operands → List ℕ
+operandsNumbers l =
+    (l .count ∷ [])
+    ++ operandNumbers (l .slots) 0
+    ++ operandNumbers (l .slots) 1
+    ++ operandNumbers (l .slots) 2
+    ++ operandNumbers (l .slots) 3
+
+-- 31 to 43
+unfoldable pub readsNumbers : Reads → List ℕ
+readsNumbers l = (l .count ∷ []) ++ targetNumbers (l .slots) 0 ++ targetNumbers (l .slots) 1 ++ targetNumbers (l .slots) 2
+
+-- 44 to 52
+unfoldable pub writesNumbers : Writes → List ℕ
+writesNumbers l = (l .count ∷ []) ++ targetNumbers (l .slots) 0 ++ targetNumbers (l .slots) 1
+
+unfoldable pub numbersOf : SemanticInstruction → List ℕ
+numbersOf i = headNumbers i ++ operandsNumbers (i .operands) ++ readsNumbers (i .reads) ++ writesNumbers (i .writes)
+
+-- the records of the first n words, one after another
+unfoldable pub recordsNumbers : List ℕ → List ℕ → List ℕ → List ℕ → ℕ → List ℕ
+recordsNumbers words tags payloads names zero = []
+recordsNumbers words tags payloads names (suc pc) =
+    recordsNumbers words tags payloads names pc ++ numbersOf (liftOf words tags payloads names pc)
+
+-- The caller's list of numbers
+
+-- for so many records there is room in it
+abbrev pub roomIn : List ℕ → ℕ
+roomIn numbers = length numbers / 53
+
+-- "Records, too, go into the caller's own list of records": the records of as many words as the plan says, all or none, then what was there
+abbrev pub numbersAfter : List ℕ → List ℕ → List ℕ → List ℕ → ℕ → List ℕ → List ℕ
+numbersAfter words tags payloads names bytes numbers =
+    let n = planOf (length words) tags payloads names bytes (roomIn numbers) .count in
+    recordsNumbers words tags payloads names n ++ drop (53 * n) numbers
+
+-- numbers over those of l from index i on: how the functions that write a record's parts say what they leave
+unfoldable pub put : List ℕ → ℕ → List ℕ → List ℕ
+put l i numbers = take i l ++ (numbers ++ drop (i + length numbers) l)
 
 -- document 01's number and place
 abbrev pub flatAnswer : Answer → FlatAnswer

@@ -1,13 +1,19 @@
-// A record as 53 numbers, and what lifting answers.
+// The records of a whole function as numbers, record after record, in the caller's list.
 ghost use mathlib.Core.Path.{_≡_};
+ghost use mathlib.Core.List.{[], _∷_};
+ghost use Prim.Native.Nat.{ℕ, _+_, _*_, _<_, _≤_};
 ghost use lib.ListN.{length};
+ghost use Rattle.records.specs.Lift.{liftOf};
 ghost use Rattle.records.specs.Refusals.{planOf};
-ghost use Rattle.records.specs.Walk.{liftedOf};
-ghost use Rattle.exports.specs.Record.{flatOperand, flatTarget, flatOperands, flatTargets, flatRecord, flatAnswer};
+ghost use Rattle.records.specs.Walk.{recordAt};
+ghost use Rattle.exports.specs.Record.{slotNumbers, pairNumbers, headNumbers, operandsNumbers, readsNumbers, writesNumbers, numbersOf, recordsNumbers, roomIn, numbersAfter, put, flatOperand, flatTarget, flatAnswer};
 use crate::parts::*;
-use records::lift::lift_word;
+use records::lift::record_at;
 use records::refusals::planned;
 use values::ir::*;
+
+// Numbers in a record.
+const NUMBERS: usize = 53;
 
 #[repr(C)]
 pub struct FlatAnswer {
@@ -15,137 +21,164 @@ pub struct FlatAnswer {
     pub place: u64,
 }
 
-#[repr(C)]
-pub struct FlatRecord {
-    pub pc: u64,
-    pub raw_word: u64,
-    pub opcode: u64,
-    pub confidence: u64,
-    pub has_target: u64,
-    pub target: u64,
-    pub has_companion: u64,
-    pub companion: u64,
-    pub has_fallback: u64,
-    pub fallback: u64,
-    pub effect: FlatSlot,
-    pub operand_count: u64,
-    pub operands: [FlatSlot; 4],
-    pub read_count: u64,
-    pub reads: [FlatSlot; 3],
-    pub write_count: u64,
-    pub writes: [FlatSlot; 2],
+fn put_one(numbers: &mut [u64], at: usize, a: u64)
+    requires { ⌜ at + 1 ≤ length (now numbers) ⌝ }
+    ensures { λ _. ⌜ now (numbers .exit) ≡ put (now (numbers .entry)) at (a ∷ []) ⌝ }
+{
+    numbers[at] = a;
 }
 
-fn operand_in(s: OperandSlot) -> FlatSlot
-    ensures { λ r. ⌜ r ≡ flatOperand (s .operand) ⌝ }
+fn put_four(numbers: &mut [u64], at: usize, a: u64, b: u64, c: u64, d: u64)
+    requires { ⌜ at + 4 ≤ length (now numbers) ⌝ }
+    ensures { λ _. ⌜ now (numbers .exit) ≡ put (now (numbers .entry)) at (a ∷ b ∷ c ∷ d ∷ []) ⌝ }
+{
+    numbers[at] = a;
+    numbers[at + 1] = b;
+    numbers[at + 2] = c;
+    numbers[at + 3] = d;
+}
+
+fn put_slot(numbers: &mut [u64], at: usize, slot: FlatSlot)
+    requires { ⌜ at + 4 ≤ length (now numbers) ⌝ }
+    ensures { λ _. ⌜ now (numbers .exit) ≡ put (now (numbers .entry)) at (slotNumbers slot) ⌝ }
+{
+    put_four(numbers, at, slot.kind, slot.first, slot.second, slot.third);
+}
+
+fn put_pair(numbers: &mut [u64], at: usize, pair: FlatPair)
+    requires { ⌜ at + 2 ≤ length (now numbers) ⌝ }
+    ensures { λ _. ⌜ now (numbers .exit) ≡ put (now (numbers .entry)) at (pairNumbers pair) ⌝ }
+{
+    numbers[at] = pair.kind;
+    numbers[at + 1] = pair.value;
+}
+
+fn put_operand(numbers: &mut [u64], at: usize, s: OperandSlot)
+    requires { ⌜ at + 4 ≤ length (now numbers) ⌝ }
+    ensures { λ _. ⌜ now (numbers .exit) ≡ put (now (numbers .entry)) at (slotNumbers (flatOperand (s .operand))) ⌝ }
 {
     let operand = s.operand;
-    flat_operand(operand)
+    put_slot(numbers, at, flat_operand(operand));
 }
 
-fn target_in(s: TargetSlot) -> FlatSlot
-    ensures { λ r. ⌜ r ≡ flatTarget (s .target) ⌝ }
+fn put_target(numbers: &mut [u64], at: usize, s: TargetSlot)
+    requires { ⌜ at + 4 ≤ length (now numbers) ⌝ }
+    ensures { λ _. ⌜ now (numbers .exit) ≡ put (now (numbers .entry)) at (slotNumbers (flatTarget (s .target))) ⌝ }
 {
     let target = s.target;
-    flat_target(target)
+    put_slot(numbers, at, flat_target(target));
 }
 
-fn flat_operands(s: [OperandSlot; 4]) -> [FlatSlot; 4]
-    ensures { λ r. ⌜ r ≡ flatOperands s ⌝ }
-{
-    [
-        operand_in(s[0]),
-        operand_in(s[1]),
-        operand_in(s[2]),
-        operand_in(s[3]),
-    ]
-}
-
-fn flat_reads(s: [TargetSlot; 3]) -> [FlatSlot; 3]
-    ensures { λ r. ⌜ r ≡ flatTargets s ⌝ }
-{
-    [target_in(s[0]), target_in(s[1]), target_in(s[2])]
-}
-
-fn flat_writes(s: [TargetSlot; 2]) -> [FlatSlot; 2]
-    ensures { λ r. ⌜ r ≡ flatTargets s ⌝ }
-{
-    [target_in(s[0]), target_in(s[1])]
-}
-
-fn flat_record(i: SemanticInstruction) -> FlatRecord
-    ensures { λ r. ⌜ r ≡ flatRecord i ⌝ }
+fn put_head(numbers: &mut [u64], at: usize, i: SemanticInstruction)
+    requires { ⌜ at + 14 ≤ length (now numbers) ⌝ }
+    ensures { λ _. ⌜ now (numbers .exit) ≡ put (now (numbers .entry)) at (headNumbers i) ⌝ }
 {
     let confidence = i.confidence;
     let jump_target = i.jump_target;
     let companion_pc = i.companion_pc;
     let metamethod_fallback = i.metamethod_fallback;
     let implicit_effect = i.implicit_effect;
-    let operand_list = i.operands;
-    let operand_slots = operand_list.slots;
-    let read_list = i.reads;
-    let read_slots = read_list.slots;
-    let write_list = i.writes;
-    let write_slots = write_list.slots;
-    let target = flat_pc(jump_target);
-    let companion = flat_pc(companion_pc);
-    let fallback = flat_fallback(metamethod_fallback);
-    let operands = flat_operands(operand_slots);
-    let reads = flat_reads(read_slots);
-    let writes = flat_writes(write_slots);
-    FlatRecord {
-        pc: i.pc as u64,
-        raw_word: i.raw_word as u64,
-        opcode: i.opcode as u64,
-        confidence: flat_confidence(confidence),
-        has_target: target.kind,
-        target: target.value,
-        has_companion: companion.kind,
-        companion: companion.value,
-        has_fallback: fallback.kind,
-        fallback: fallback.value,
-        effect: flat_effect(implicit_effect),
-        operand_count: operand_list.count as u64,
-        operands,
-        read_count: read_list.count as u64,
-        reads,
-        write_count: write_list.count as u64,
-        writes,
+    put_four(
+        numbers,
+        at,
+        i.pc as u64,
+        i.raw_word as u64,
+        i.opcode as u64,
+        flat_confidence(confidence),
+    );
+    put_pair(numbers, at + 4, flat_pc(jump_target));
+    put_pair(numbers, at + 6, flat_pc(companion_pc));
+    put_pair(numbers, at + 8, flat_fallback(metamethod_fallback));
+    put_slot(numbers, at + 10, flat_effect(implicit_effect));
+}
+
+fn put_operands(numbers: &mut [u64], at: usize, operands: Operands)
+    requires { ⌜ at + 17 ≤ length (now numbers) ⌝ }
+    ensures { λ _. ⌜ now (numbers .exit) ≡ put (now (numbers .entry)) at (operandsNumbers operands) ⌝ }
+{
+    let slots = operands.slots;
+    put_one(numbers, at, operands.count as u64);
+    put_operand(numbers, at + 1, slots[0]);
+    put_operand(numbers, at + 5, slots[1]);
+    put_operand(numbers, at + 9, slots[2]);
+    put_operand(numbers, at + 13, slots[3]);
+}
+
+fn put_reads(numbers: &mut [u64], at: usize, reads: Reads)
+    requires { ⌜ at + 13 ≤ length (now numbers) ⌝ }
+    ensures { λ _. ⌜ now (numbers .exit) ≡ put (now (numbers .entry)) at (readsNumbers reads) ⌝ }
+{
+    let slots = reads.slots;
+    put_one(numbers, at, reads.count as u64);
+    put_target(numbers, at + 1, slots[0]);
+    put_target(numbers, at + 5, slots[1]);
+    put_target(numbers, at + 9, slots[2]);
+}
+
+fn put_writes(numbers: &mut [u64], at: usize, writes: Writes)
+    requires { ⌜ at + 9 ≤ length (now numbers) ⌝ }
+    ensures { λ _. ⌜ now (numbers .exit) ≡ put (now (numbers .entry)) at (writesNumbers writes) ⌝ }
+{
+    let slots = writes.slots;
+    put_one(numbers, at, writes.count as u64);
+    put_target(numbers, at + 1, slots[0]);
+    put_target(numbers, at + 5, slots[1]);
+}
+
+fn put_record(numbers: &mut [u64], at: usize, i: SemanticInstruction)
+    requires { ⌜ at + 53 ≤ length (now numbers) ⌝ }
+    ensures { λ _. ⌜ now (numbers .exit) ≡ put (now (numbers .entry)) at (numbersOf i) ⌝ }
+{
+    let operands = i.operands;
+    let reads = i.reads;
+    let writes = i.writes;
+    put_head(numbers, at, i);
+    put_operands(numbers, at + 14, operands);
+    put_reads(numbers, at + 31, reads);
+    put_writes(numbers, at + 44, writes);
+}
+
+// The records of the first n words.
+fn put_records<'a, 'b>(
+    words: &'a [u32],
+    tags: &'a [u8],
+    payloads: &'a [u64],
+    names: &'a [u64],
+    n: usize,
+    numbers: &'b mut [u64],
+)
+    requires { ⌜ (53 * n ≤ length (now numbers)) × ((i : ℕ) → i < n → recordAt (now words) (now tags) (now payloads) (now names) i ≡ liftOf (now words) (now tags) (now payloads) (now names) i) ⌝ }
+    ensures { λ _. ⌜ now (numbers .exit) ≡ put (now (numbers .entry)) 0 (recordsNumbers (now (words .entry)) (now (tags .entry)) (now (payloads .entry)) (now (names .entry)) n) ⌝ }
+{
+    let mut i: usize = 0;
+    while i < n {
+        put_record(
+            numbers,
+            NUMBERS * i,
+            record_at(words, tags, payloads, names, i),
+        );
+        i += 1;
     }
 }
 
-// Lifting's answer with room for so many records.
+// Lifts a whole function. All decisions are the plan's: a refusal is a loop of no turns, so that nothing is written.
 #[no_mangle]
-pub extern "C" fn lawendeb_answer<'a>(
+pub extern "C" fn lawendeb_lift<'a, 'b>(
     words: &'a [u32],
     tags: &'a [u8],
     payloads: &'a [u64],
     names: &'a [u64],
     bytes: &'a [u8],
-    records: usize,
+    numbers: &'b mut [u64],
 ) -> FlatAnswer
-    ensures { λ r. ⌜ r ≡ flatAnswer (planOf (length (now (words .entry))) (now (tags .entry)) (now (payloads .entry)) (now (names .entry)) (length (now (bytes .entry))) records .answer) ⌝ }
+    ensures { λ r. ⌜ r ≡ flatAnswer (planOf (length (now (words .entry))) (now (tags .entry)) (now (payloads .entry)) (now (names .entry)) (length (now (bytes .entry))) (roomIn (now (numbers .entry))) .answer) ⌝ }
+    ensures { λ _. ⌜ now (numbers .exit) ≡ numbersAfter (now (words .entry)) (now (tags .entry)) (now (payloads .entry)) (now (names .entry)) (length (now (bytes .entry))) (now (numbers .entry)) ⌝ }
 {
-    let plan = planned(words, tags, payloads, names, bytes, records);
+    let plan = planned(words, tags, payloads, names, bytes, numbers.len() / NUMBERS);
+    let count = plan.count;
+    put_records(words, tags, payloads, names, count, numbers);
     FlatAnswer {
         number: plan.answer.number as u64,
         place: plan.answer.place as u64,
     }
-}
-
-// The record of word pc: all 0 where there is none, on a refusal too.
-#[no_mangle]
-pub extern "C" fn lawendeb_record<'a>(
-    words: &'a [u32],
-    tags: &'a [u8],
-    payloads: &'a [u64],
-    names: &'a [u64],
-    bytes: &'a [u8],
-    pc: usize,
-) -> FlatRecord
-    ensures { λ r. ⌜ r ≡ flatRecord (liftedOf (now (words .entry)) (now (tags .entry)) (now (payloads .entry)) (now (names .entry)) (length (now (bytes .entry))) pc .instruction) ⌝ }
-{
-    let lifted = lift_word(words, tags, payloads, names, bytes, pc);
-    let instruction = lifted.instruction;
-    flat_record(instruction)
 }

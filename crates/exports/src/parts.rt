@@ -7,10 +7,11 @@ use values::model::ConstantValue;
 use values::model::Name;
 
 // A kind and the numbers that it has.
-#[repr(C)]
 pub struct FlatSlot {
     pub kind: u64,
-    pub numbers: [u64; 3],
+    pub first: u64,
+    pub second: u64,
+    pub third: u64,
 }
 
 // A kind, or whether there is a value, and the value.
@@ -24,7 +25,9 @@ pub(crate) fn new_slot(kind: u64, a: u64, b: u64, c: u64) -> FlatSlot
 {
     FlatSlot {
         kind,
-        numbers: [a, b, c],
+        first: a,
+        second: b,
+        third: c,
     }
 }
 

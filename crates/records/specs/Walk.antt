@@ -78,3 +78,9 @@ liftedBy plan pc instruction =
 abbrev pub liftedOf : List ℕ → List ℕ → List ℕ → List ℕ → ℕ → ℕ → Lifted
 liftedOf words tags payloads names bytes pc =
     liftedBy (planOf (length words) tags payloads names bytes (length words)) pc (liftOf words tags payloads names pc)
+
+-- The record of one word, by value, with no answer: for a caller that has made the plan once for all words, and then asks for the words
+-- below its count. Past 32,768 words, or past the words, there is none.
+unfoldable pub recordAt : List ℕ → List ℕ → List ℕ → List ℕ → ℕ → SemanticInstruction
+recordAt words tags payloads names pc =
+    choose (ltb 32768 (length words)) blank (choose (ltb pc (length words)) (liftOf words tags payloads names pc) blank)

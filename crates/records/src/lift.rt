@@ -5,9 +5,10 @@ ghost use lib.ListN.{length};
 ghost use Rattle.fields.specs.Word.{opcodeOf, cOf};
 ghost use Rattle.fields.specs.Table.{fallbackOf};
 ghost use Rattle.records.specs.Lift.{fallbackBy, before, companionPc, confidenceOf, liftOf};
-ghost use Rattle.records.specs.Walk.{blank, liftedOf};
+ghost use Rattle.records.specs.Walk.{blank, liftedOf, recordAt};
 use crate::dispatch::lift_body;
 use crate::refusals::Answer;
+use crate::refusals::MOST_WORDS;
 use crate::refusals::planned;
 use families::builders::*;
 use families::parts::event_of;
@@ -162,5 +163,25 @@ pub fn lift_word<'a>(
             present: false,
             instruction: no_instruction(),
         }
+    }
+}
+
+// One record by value, for a caller that has made the plan once for all words: the tables need no check to be read.
+pub fn record_at<'a>(
+    words: &'a [u32],
+    tags: &'a [u8],
+    payloads: &'a [u64],
+    names: &'a [u64],
+    pc: usize,
+) -> SemanticInstruction
+    ensures { λ r. ⌜ r ≡ recordAt (now (words .entry)) (now (tags .entry)) (now (payloads .entry)) (now (names .entry)) pc ⌝ }
+{
+    if MOST_WORDS < words.len() {
+        return no_instruction();
+    }
+    if pc < words.len() {
+        lift_at(words, tags, payloads, names, pc)
+    } else {
+        no_instruction()
     }
 }

@@ -23,7 +23,7 @@ pub enum Place {
     At(usize),
 }
 
-const MOST_WORDS: usize = 32768;
+pub(crate) const MOST_WORDS: usize = 32768;
 
 const MOST_CONSTANTS: usize = 65536;
 
