@@ -6,6 +6,7 @@ ghost use Rattle.fields.specs.Word.{opcodeOf};
 ghost use Rattle.fields.specs.Packed.{bothOf, ruleOf, eightOf, byteOf};
 
 // Eight opcodes from 8 * block on, a byte each, the first lowest: 16 times the companion wanted, plus the step class.
+// The unknown blocks stand one by one too: the feed then loads one byte, with no test of the block before it.
 fn eight_steps(block: u32) -> u64
     requires { ⌜ block < 16 ⌝ }
     ensures { λ r. ⌜ r ≡ eightOf bothOf block ⌝ }
@@ -34,6 +35,10 @@ fn eight_steps(block: u32) -> u64
         // OP_VARARG to 87
         10 => 0x0909090909090000,
         // unknown
+        11 => 0x0909090909090909,
+        12 => 0x0909090909090909,
+        13 => 0x0909090909090909,
+        14 => 0x0909090909090909,
         _ => 0x0909090909090909,
     }
 }

@@ -96,8 +96,3 @@ module _ (ws : List ℕ) (p : ℕ) where
     pub by-columns : unless (standsAt (companionFrom companion) ws p) (nextOf (classFrom class) (length ws) (getD ws p 0) p) ≡ successorsOf ws p
     unfolding successorsOf companionPresent
     by-columns = rw (d, e) (let-through (ltb p (length ws)) _ (lt-ltb p (length ws) inside))
-
-  -- the most frequent words: p+1, and nothing is asked
-  pub plainly : p < length ws → companionFrom 0 ≡ companionOf (opcodeAt ws p) → classFrom 0 ≡ classOf (opcodeAt ws p) → one (length ws) (pos (p + 1)) ≡ successorsOf ws p
-  unfolding unless companionFrom classFrom
-  plainly inside d e = by-columns 0 0 inside d e

@@ -220,7 +220,7 @@ pub(crate) fn successors_in(table: &[u8; 512], words: &[u32], p: usize) -> Succe
     successors_by(companion, class, words, p)
 }
 
-// The successors of word p.
+// The successors of word p, by both columns in a byte. A word that wants nothing and a test come first, as in `successors_in`.
 pub fn successors(words: &[u32], p: usize) -> Successors
     ensures { λ r. ⌜ r ≡ successorsOf (now (words .entry)) p ⌝ }
 {
@@ -231,7 +231,14 @@ pub fn successors(words: &[u32], p: usize) -> Successors
     if both == 0 {
         return one_of(words.len(), p + 1);
     }
-    successors_by(both / 16, both % 16, words, p)
+    let companion = both / 16;
+    let class = both % 16;
+    if companion == JUMP_AFTER {
+        if class == BRANCHING {
+            return test(words, p);
+        }
+    }
+    successors_by(companion, class, words, p)
 }
 
 fn has_successor(s: Successors, q: usize) -> bool
