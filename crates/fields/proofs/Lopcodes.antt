@@ -5,7 +5,7 @@ use lib.Bits.{and-mask}
 use Rattle.fields.specs.Lopcodes.{Agreement}
 
 pub agreement : Agreement
-agreement word fits =
+agreement word =
     rw (
       and-mask (word / 2 ^ 0) 7,
       and-mask (word / 2 ^ 7) 8,
