@@ -2,7 +2,7 @@
 ghost use mathlib.Core.Path.{_≡_};
 ghost use Prim.Native.Nat.{_<_, _≤_};
 ghost use lib.ListN.{length};
-ghost use Rattle.fields.specs.Word.{opcodeOf, cOf};
+ghost use Rattle.fields.specs.Word.{opcodeOf};
 ghost use Rattle.fields.specs.Table.{fallbackOf};
 ghost use Rattle.records.specs.Lift.{fallbackBy, before, companionPc, confidenceOf, liftOf};
 ghost use Rattle.records.specs.Walk.{blank, liftedOf, recordAt};

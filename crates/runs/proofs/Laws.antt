@@ -15,7 +15,6 @@ use borrow.Author.Tests.{lt-ltb, le-ltb}
 use Rattle.runs.specs.declared.edges.Successors.{Successors}
 use Rattle.runs.specs.declared.edges.Successors.the-variants.{Invalid, One, Two}
 use Rattle.runs.specs.Successors.{unless, one, ordered, two, opcodeAt, nextOf, standsAt, companionPresent, successorsOf}
-pub use Rattle.runs.proofs.Order.{past}
 
 pub one-in : {n q : ℕ} → q < n → One q ≡ one n (pos q)
 unfolding one unless
