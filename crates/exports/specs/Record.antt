@@ -148,20 +148,20 @@ headNumbers i =
 
 -- 14 to 30
 unfoldable pub operandsNumbers : Operands → List ℕ
-operandsNumbers l =
-    (l .count ∷ [])
-    ++ operandNumbers (l .slots) 0
-    ++ operandNumbers (l .slots) 1
-    ++ operandNumbers (l .slots) 2
-    ++ operandNumbers (l .slots) 3
+operandsNumbers operands =
+    (operands .count ∷ [])
+    ++ operandNumbers (operands .slots) 0
+    ++ operandNumbers (operands .slots) 1
+    ++ operandNumbers (operands .slots) 2
+    ++ operandNumbers (operands .slots) 3
 
 -- 31 to 43
 unfoldable pub readsNumbers : Reads → List ℕ
-readsNumbers l = (l .count ∷ []) ++ targetNumbers (l .slots) 0 ++ targetNumbers (l .slots) 1 ++ targetNumbers (l .slots) 2
+readsNumbers reads = (reads .count ∷ []) ++ targetNumbers (reads .slots) 0 ++ targetNumbers (reads .slots) 1 ++ targetNumbers (reads .slots) 2
 
 -- 44 to 52
 unfoldable pub writesNumbers : Writes → List ℕ
-writesNumbers l = (l .count ∷ []) ++ targetNumbers (l .slots) 0 ++ targetNumbers (l .slots) 1
+writesNumbers writes = (writes .count ∷ []) ++ targetNumbers (writes .slots) 0 ++ targetNumbers (writes .slots) 1
 
 unfoldable pub numbersOf : SemanticInstruction → List ℕ
 numbersOf i = headNumbers i ++ operandsNumbers (i .operands) ++ readsNumbers (i .reads) ++ writesNumbers (i .writes)
