@@ -1,3 +1,4 @@
 pub mod Counted
 pub mod Overlay
 pub mod Signed
+pub mod Whole

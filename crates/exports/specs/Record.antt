@@ -1,9 +1,11 @@
 -- A record as 53 numbers, part by part, and the records of a whole function one after another: compare/FLAT.md has the tables. A kind is
 -- the place of the case in ir.rs or model.rs, an absent value is 0, and so is every number that a kind does not use.
 -- Assumes nothing.
-use Prim.Native.Nat.{ℕ, zero, suc, _+_, _*_, _/_, _^_}
+use Prim.Native.Nat.{ℕ, zero, suc, _+_, _*_, _/_, _^_, _<_}
+use mathlib.Core.Path.{_≡_}
 use mathlib.Core.Bool.{Bool, true, false}
 use mathlib.Core.List.{List, [], _∷_, _++_}
+use lib.Dec.{eqb}
 use lib.ListN.{length, getD, take, drop}
 use lib.Ieee.{Float, binary64, eq, toBits}
 use mir.Syntax.{w64}
@@ -36,7 +38,7 @@ use Rattle.values.specs.declared.ir.Writes.{Writes}
 use Rattle.values.specs.declared.ir.SemanticInstruction.{SemanticInstruction}
 use Rattle.records.specs.declared.refusals.Answer.{Answer}
 use Rattle.records.specs.Lift.{liftOf}
-use Rattle.records.specs.Refusals.{planOf}
+use Rattle.records.specs.Refusals.{answerOf, planOf}
 use Rattle.exports.specs.declared.parts.FlatSlot.{FlatSlot}
 use Rattle.exports.specs.declared.parts.FlatPair.{FlatPair}
 use Rattle.exports.specs.declared.lifted.FlatAnswer.{FlatAnswer}
@@ -148,20 +150,20 @@ headNumbers i =
 
 -- 14 to 30
 unfoldable pub operandsNumbers : Operands → List ℕ
-operandsNumbers l =
-    (l .count ∷ [])
-    ++ operandNumbers (l .slots) 0
-    ++ operandNumbers (l .slots) 1
-    ++ operandNumbers (l .slots) 2
-    ++ operandNumbers (l .slots) 3
+operandsNumbers operands =
+    (operands .count ∷ [])
+    ++ operandNumbers (operands .slots) 0
+    ++ operandNumbers (operands .slots) 1
+    ++ operandNumbers (operands .slots) 2
+    ++ operandNumbers (operands .slots) 3
 
 -- 31 to 43
 unfoldable pub readsNumbers : Reads → List ℕ
-readsNumbers l = (l .count ∷ []) ++ targetNumbers (l .slots) 0 ++ targetNumbers (l .slots) 1 ++ targetNumbers (l .slots) 2
+readsNumbers reads = (reads .count ∷ []) ++ targetNumbers (reads .slots) 0 ++ targetNumbers (reads .slots) 1 ++ targetNumbers (reads .slots) 2
 
 -- 44 to 52
 unfoldable pub writesNumbers : Writes → List ℕ
-writesNumbers l = (l .count ∷ []) ++ targetNumbers (l .slots) 0 ++ targetNumbers (l .slots) 1
+writesNumbers writes = (writes .count ∷ []) ++ targetNumbers (writes .slots) 0 ++ targetNumbers (writes .slots) 1
 
 unfoldable pub numbersOf : SemanticInstruction → List ℕ
 numbersOf i = headNumbers i ++ operandsNumbers (i .operands) ++ readsNumbers (i .reads) ++ writesNumbers (i .writes)
@@ -183,6 +185,24 @@ abbrev pub numbersAfter : List ℕ → List ℕ → List ℕ → List ℕ → �
 numbersAfter words tags payloads names bytes numbers =
     let n = planOf (length words) tags payloads names bytes (roomIn numbers) .count in
     recordsNumbers words tags payloads names n ++ drop (53 * n) numbers
+
+-- What that list is, record by record.
+pub record RecordWise (words tags payloads names : List ℕ) (bytes : ℕ) (numbers : List ℕ) : Type 0 where
+  -- no number is added or lost
+  pub same-length : length (numbersAfter words tags payloads names bytes numbers) ≡ length numbers
+  -- accepted: the 53 numbers from 53 · i on are those of the record of word i, for i below n
+  pub lifted :
+      answerOf (length words) tags payloads names bytes (roomIn numbers) .number ≡ 0
+      → (i : ℕ)
+      → i < length words
+      → take 53 (drop (53 * i) (numbersAfter words tags payloads names bytes numbers)) ≡ numbersOf (liftOf words tags payloads names i)
+  -- accepted or not: "Elements past n are untouched, records too"
+  pub untouched :
+      drop (53 * length words) (numbersAfter words tags payloads names bytes numbers) ≡ drop (53 * length words) numbers
+  -- refused: "Nothing lent is altered"
+  pub refused :
+      eqb (answerOf (length words) tags payloads names bytes (roomIn numbers) .number) 0 ≡ false
+      → numbersAfter words tags payloads names bytes numbers ≡ numbers
 
 -- numbers over those of l from index i on: how the functions that write a record's parts say what they leave
 unfoldable pub put : List ℕ → ℕ → List ℕ → List ℕ

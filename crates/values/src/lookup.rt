@@ -2,6 +2,7 @@
 ghost use mathlib.Core.Path.{_≡_};
 ghost use lib.Ieee.{binary64, nanBits};
 ghost use Rattle.values.specs.Values.{spanOf, signed64, floatOf, valueOf, constantOf, nameOf};
+ghost use Rattle.values.specs.declared.model.ConstantValue.the-variants.{ShortString, LongString};
 use crate::model::ConstantValue;
 use crate::model::Name;
 use crate::model::Span;
@@ -66,6 +67,27 @@ fn float(bits: u64) -> ConstantValue
     }
 }
 
+// A span is written into its constant number by number: copied in as a whole, it lies across the place of an integer, and compiled code
+// then waits for the store whenever it reads that place.
+
+fn short_string(payload: u64) -> ConstantValue
+    ensures { λ r. ⌜ r ≡ ShortString (spanOf payload) ⌝ }
+{
+    ConstantValue::ShortString(Span {
+        start: (payload % 4294967296) as u32,
+        len: (payload / 4294967296) as u32,
+    })
+}
+
+fn long_string(payload: u64) -> ConstantValue
+    ensures { λ r. ⌜ r ≡ LongString (spanOf payload) ⌝ }
+{
+    ConstantValue::LongString(Span {
+        start: (payload % 4294967296) as u32,
+        len: (payload / 4294967296) as u32,
+    })
+}
+
 fn value(tag: u8, payload: u64) -> ConstantValue
     ensures { λ r. ⌜ r ≡ valueOf tag payload ⌝ }
 {
@@ -74,8 +96,8 @@ fn value(tag: u8, payload: u64) -> ConstantValue
         TAG_TRUE => ConstantValue::Boolean(true),
         TAG_INTEGER => ConstantValue::Integer(signed(payload)),
         TAG_FLOAT => float(payload),
-        TAG_SHORT_STRING => ConstantValue::ShortString(span_at(payload)),
-        TAG_LONG_STRING => ConstantValue::LongString(span_at(payload)),
+        TAG_SHORT_STRING => short_string(payload),
+        TAG_LONG_STRING => long_string(payload),
         _ => ConstantValue::Nil,
     }
 }

@@ -2,7 +2,7 @@ use borrow.Author.Needs.{needs}
 use borrow.Author.Tests.{ne-eqb}
 use mathlib.Core.Path.{ap}
 use Rattle.values.specs.Values.{valueOf, choose}
-use Rattle.values.specs.declared.model.ConstantValue.the-variants.{Integer, ShortString, LongString}
+use Rattle.values.specs.declared.model.ConstantValue.the-variants.{Integer}
 use Rattle.values.proofs.Laws.{kept}
 use mir.Syntax.{w64}
 use Rattle.values.proofs.lookup.value.Statement.{statement}
@@ -26,11 +26,11 @@ returns-4 c = rw (c .before .match .keys4) (c .float .ensures)
 
 returns-5 : tie.Need-returns-5
 unfolding valueOf choose
-returns-5 c = rw (c .before .match .keys5) (ap ShortString (c .span-at .ensures))
+returns-5 c = rw (c .before .match .keys5) (c .short-string .ensures)
 
 returns-6 : tie.Need-returns-6
 unfolding valueOf choose
-returns-6 c = rw (c .before .match .keys6) (ap LongString (c .span-at2 .ensures))
+returns-6 c = rw (c .before .match .keys6) (c .long-string .ensures)
 
 returns-7 : tie.Need-returns-7
 unfolding valueOf choose
