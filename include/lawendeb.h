@@ -37,11 +37,11 @@ void lawendeb_begin(struct lawendeb_meter *m);
 uint32_t lawendeb_feed(const uint32_t *words, size_t n, struct lawendeb_meter *m, size_t q);
 
 /* The steps of a word. kind: 0 bad or no word, 1 none (a return), 2 one, 3 two, the lower first. */
-struct lawendeb_steps {
+struct lawendeb_successors {
     uint64_t kind, first, second;
 };
 
-struct lawendeb_steps lawendeb_successors(const uint32_t *words, size_t n, size_t p);
+struct lawendeb_successors lawendeb_successors(const uint32_t *words, size_t n, size_t p);
 
 /* Whether a step from p to q serves. */
 _Bool lawendeb_serves(const uint32_t *words, size_t n, size_t p, size_t q);

@@ -14,7 +14,7 @@ use Rattle.runs.specs.declared.longest.Run.the-variants.{Accepted, Refused}
 use Rattle.runs.specs.Run.{runOf}
 use Rattle.sheet.specs.declared.reading.Sheet.{Sheet}
 use Rattle.sheet.specs.declared.reading.Sheet.the-variants.{Words, Malformed, TooLong}
-use Rattle.sheet.specs.Format.{mostWords, sheetOf, wordsOf, roomOf, tableAfter, numberOf, placeOf}
+use Rattle.sheet.specs.Format.{mostLines, sheetOf, wordsOf, roomOf, tableAfter, numberOf, placeOf}
 use Rattle.sheet.specs.Rows.{put, lastLineOf, refusalLineOf}
 use Rattle.sheet.proofs.Widths.{length-both, length-row, length-pair}
 use Rattle.sheet.proofs.Overlay.{length-put, and-then}
@@ -48,9 +48,9 @@ length-run : (words : List ℕ) → length (runText words) ≤ 31 * length words
 unfolding runText
 length-run words = length-tell words (runOf words (length words) (length words))
 
-length-reply : (text : List ℕ) (s : Sheet) → sheetOf mostWords text ≡ s → length (reply text s) ≤ 126989
+length-reply : (text : List ℕ) (s : Sheet) → sheetOf mostLines text ≡ s → length (reply text s) ≤ 126989
 length-reply text (Words n) e =
-    let f : Filling mostWords text n = filling mostWords text n e in
+    let f : Filling mostLines text n = filling mostLines text n e in
     omega (arith, length-run (wordsOf text n), length-words text n, f .fits)
 length-reply text (Malformed line) e = omega (arith, length-pair 12 line)
 length-reply text TooLong e = omega (arith, length-pair 13 0)
@@ -58,7 +58,7 @@ length-reply text TooLong e = omega (arith, length-pair 13 0)
 -- the answer fits the page
 pub length-answer : (text : List ℕ) → length (answerOf text) ≤ 126989
 unfolding answerOf
-length-answer text = length-reply text (sheetOf mostWords text) refl
+length-answer text = length-reply text (sheetOf mostLines text) refl
 
 -- ---- the lines put one after another
 
@@ -100,11 +100,11 @@ module _ (words : List ℕ) where
   refused-text page out r number place e k o =
       rw (told (Refused number place) e) (k ∙ sym (length-pair number place), o)
 
-replied : (text : List ℕ) (s : Sheet) → sheetOf mostWords text ≡ s → answerOf text ≡ reply text s
+replied : (text : List ℕ) (s : Sheet) → sheetOf mostLines text ≡ s → answerOf text ≡ reply text s
 unfolding answerOf
 replied text s e = rw e
 
-pub words-text : (text page out part : List ℕ) (r n : ℕ) → sheetOf mostWords text ≡ Words n → part ≡ wordsOf text n
+pub words-text : (text page out part : List ℕ) (r n : ℕ) → sheetOf mostLines text ≡ Words n → part ≡ wordsOf text n
     → r ≡ length (runText part) → out ≡ put page 0 (runText part)
     → (r ≡ length (answerOf text)) × (out ≡ put page 0 (answerOf text))
 words-text text page out part r n e p k o = rw (replied text (Words n) e, ← p) (k, o)
@@ -120,7 +120,7 @@ rejected-reply text (Words n) h = absurd h
 rejected-reply text (Malformed line) h = refl
 rejected-reply text TooLong h = refl
 
-pub rejected-text : (text page out : List ℕ) (r number place : ℕ) (s : Sheet) → sheetOf mostWords text ≡ s → Rejected s
+pub rejected-text : (text page out : List ℕ) (r number place : ℕ) (s : Sheet) → sheetOf mostLines text ≡ s → Rejected s
     → number ≡ numberOf s → place ≡ placeOf s → r ≡ 13 → out ≡ put page 0 (refusalLineOf number place)
     → (r ≡ length (answerOf text)) × (out ≡ put page 0 (answerOf text))
 rejected-text text page out r number place s e h a b k o =

@@ -14,7 +14,7 @@ use Rattle.runs.specs.declared.longest.Run.the-variants.{Accepted, Refused}
 use Rattle.runs.specs.Run.{runOf, lengthsAfter}
 use Rattle.sheet.specs.declared.reading.Sheet.{Sheet}
 use Rattle.sheet.specs.declared.reading.Sheet.the-variants.{Words, Malformed, TooLong}
-use Rattle.sheet.specs.Format.{mostWords, sheetOf, wordsOf, numberOf, placeOf}
+use Rattle.sheet.specs.Format.{mostLines, sheetOf, wordsOf, numberOf, placeOf}
 use Rattle.sheet.specs.declared.writing.Cell.{Cell}
 use Rattle.sheet.specs.declared.writing.Cell.the-variants.{Number, Dash}
 use Rattle.sheet.specs.Rows.{rowOf, lastLineOf, refusalLineOf}
@@ -68,7 +68,7 @@ reply text TooLong = refusalLineOf (numberOf TooLong) (placeOf TooLong)
 
 -- what is written for a text. The word table has 4,096 places
 unfoldable pub answerOf : List ℕ → List ℕ
-answerOf text = reply text (sheetOf mostWords text)
+answerOf text = reply text (sheetOf mostLines text)
 
 -- the longest answer: 4,096 lines of 31 bytes, and the last one of 13
 abbrev pub pageLength : ℕ

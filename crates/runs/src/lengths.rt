@@ -115,7 +115,7 @@ pub(crate) fn clear_lengths(lengths: &mut [u32], n: usize)
     }
 }
 
-// The largest of the first n lengths. Apart from where it stands, the compiler takes several at a time.
+// The largest of the first n lengths. Where it stands is found by itself, so that the compiler takes several at a time here.
 pub(crate) fn find_longest(lengths: &[u32], n: usize) -> u32
     requires { ⌜ n ≤ length (now lengths) ⌝ }
     ensures { λ r. ⌜ r ≡ most (at (now (lengths .entry))) n ⌝ }

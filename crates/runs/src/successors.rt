@@ -94,14 +94,14 @@ fn is_between(first: u8, last: u8, opcode: u8) -> bool
     }
 }
 
-// The opcode of word i, 0 past the end.
+// The opcode of word i; past the end MOVE, which is no companion.
 fn opcode_at(words: &[u32], i: usize) -> u8
     ensures { λ r. ⌜ r ≡ opcodeAt (now (words .entry)) i ⌝ }
 {
     if i < words.len() {
         fields::word::opcode(words[i])
     } else {
-        0
+        OP_MOVE
     }
 }
 

@@ -10,8 +10,8 @@ use Rattle.sheet.specs.declared.reading.Sheet.the-variants.{Words, Malfo
 use Rattle.sheet.specs.Line.{valueOf, isLine}
 
 -- "It holds at most 4,096 words"
-abbrev pub mostWords : ℕ
-mostWords = 4096
+abbrev pub mostLines : ℕ
+mostLines = 4096
 
 -- what is read of the text that is left, where k lines are read and there is room for so many more. "Of 12 and 13 the
 -- first met in reading order counts", and the text of a line for which there is no room "is not examined"
@@ -43,7 +43,7 @@ stored TooLong text table = table
 
 -- the room that a table has: its places, at most 4,096. The program's has 4,096
 abbrev pub roomOf : List ℕ → ℕ
-roomOf table = min mostWords (length table)
+roomOf table = min mostLines (length table)
 
 unfoldable pub tableAfter : List ℕ → List ℕ → List ℕ
 tableAfter text table = stored (sheetOf (roomOf table) text) text table

@@ -3,13 +3,13 @@ ghost use mathlib.Core.Path.{_≡_};
 ghost use mathlib.Core.List.{_++_};
 ghost use Prim.Native.Nat.{ℕ, _*_, _≤_, _<_, min};
 ghost use lib.ListN.{length, drop};
-ghost use Rattle.sheet.specs.Format.{mostWords, roomOf, sheetOf, wordAt, wordsOf, tableAfter, numberOf, placeOf};
+ghost use Rattle.sheet.specs.Format.{mostLines, roomOf, sheetOf, wordAt, wordsOf, tableAfter, numberOf, placeOf};
 use crate::lines::LINE;
 use crate::lines::is_line;
 use crate::lines::value;
 
 // The program's table has so many places, and document 01 refuses one line more.
-const MOST_WORDS: usize = 4096;
+const MOST_LINES: usize = 4096;
 
 // What a sheet holds.
 pub enum Sheet {
@@ -45,9 +45,9 @@ pub fn place(s: Sheet) -> usize
 
 // How many words a table of n places takes.
 fn room(n: usize) -> usize
-    ensures { λ r. ⌜ r ≡ min mostWords n ⌝ }
+    ensures { λ r. ⌜ r ≡ min mostLines n ⌝ }
 {
-    if MOST_WORDS < n { MOST_WORDS } else { n }
+    if MOST_LINES < n { MOST_LINES } else { n }
 }
 
 // What the text holds, where there is room for so many words.

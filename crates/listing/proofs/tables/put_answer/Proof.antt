@@ -6,7 +6,7 @@ use native.Mathlib.Omega.{arith}
 use lib.ListN.{replicate, length, take}
 use borrow.Author.Needs.{needs}
 use Rattle.sheet.specs.declared.reading.Sheet.the-variants.{Words, Malformed, TooLong}
-use Rattle.sheet.specs.Format.{mostWords, sheetOf, wordsOf}
+use Rattle.sheet.specs.Format.{mostLines, sheetOf, wordsOf}
 use Rattle.sheet.proofs.Scanned.{length-words}
 use Rattle.sheet.proofs.Whole.{Filling, filling}
 use Rattle.listing.proofs.Lines.{read-part, words-text, rejected-text}
@@ -19,7 +19,7 @@ start c = c .before .before .before .before
 abbrev text-at : tie.After-read → List ℕ
 text-at c = start c .args .text .now
 
-sheet-is : (c : tie.After-read) → c .read .result ≡ sheetOf mostWords (text-at c)
+sheet-is : (c : tie.After-read) → c .read .result ≡ sheetOf mostLines (text-at c)
 sheet-is c = c .read .ensures .0
 
 part-is : (c : tie.After-read) (n : ℕ) → c .read .result ≡ Words n → take n (c .read .last .1 .0) ≡ wordsOf (text-at c) n
@@ -30,7 +30,7 @@ part-count c n e = sym (ap length (part-is c n e) ∙ length-words (text-at c) n
 
 fits : (c : tie.After-read) (n : ℕ) → c .read .result ≡ Words n → n ≤ 4096
 fits c n e =
-    let f : Filling mostWords (text-at c) n = filling mostWords (text-at c) n (sym (sheet-is c) ∙ e) in
+    let f : Filling mostLines (text-at c) n = filling mostLines (text-at c) n (sym (sheet-is c) ∙ e) in
     f .fits
 
 put-run-requires : tie.Need-put-run-requires
