@@ -1,8 +1,11 @@
-// The limits of what lifting takes, and the records of a fixed sample of words. What is printed is held to the stored output.
+// The limits of what lifting takes, the records of a fixed sample of words, and lists of records that are lent. What is printed is held to the
+// stored output.
 mod limits;
+mod list;
 mod print;
 mod sample;
 mod sums;
+mod tables;
 
 fn main() {
     limits::words_and_records();
@@ -12,4 +15,6 @@ fn main() {
     limits::names();
     sample::opcodes();
     sample::corners();
+    list::fewer_words();
+    list::as_many_words();
 }

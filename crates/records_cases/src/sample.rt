@@ -2,8 +2,8 @@
 // The stored sums are of luad's own records for these words.
 use crate::print;
 use crate::sums;
+use crate::tables;
 use records::lift::lift_word;
-use values::lookup::*;
 
 fn word(opcode: u32, a: u32, k: u32, b: u32, c: u32) -> u32 {
     opcode % 128 + a % 256 * 128 + k % 2 * 32768 + b % 256 * 65536 + c % 256 * 16777216
@@ -26,27 +26,9 @@ fn sample_word(i: usize) -> u32 {
 
 // A sum, and the record of a word.
 fn with_record(sum: u64, words: &[u32], pc: usize) -> u64 {
-    let tags = [
-        TAG_SHORT_STRING,
-        TAG_INTEGER,
-        TAG_FLOAT,
-        TAG_TRUE,
-        TAG_LONG_STRING,
-        TAG_NIL,
-        TAG_FALSE,
-        TAG_FLOAT,
-    ];
-    let payloads = [
-        17179869184u64,
-        18446744073709551615,
-        4614256656552045848,
-        7,
-        21474836484,
-        9,
-        11,
-        9221120237041090561,
-    ];
-    let names = [17179869184u64, UNNAMED, 21474836484, 9];
+    let tags = tables::tags();
+    let payloads = tables::payloads();
+    let names = tables::names();
     let lifted = lift_word(words, &tags, &payloads, &names, b"_ENVprint", pc);
     let instruction = lifted.instruction;
     sums::record(sum, instruction)
