@@ -52,17 +52,24 @@ struct lawendeb_run {
 };
 
 /* Both slices need n places at least. They get, for each word, 1 if it is reachable, else 0; and the most words that pass from there
-   without a service. What lies past n stays as it was. */
+   without a service. What lies past n stays as it was. Refusals: 1 more than 32,768 words, 6 a slice too short, 7 no words, 8 a reachable
+   bad word, its place the lowest. A refusal alters nothing, except that 8 leaves the marks and n zero lengths. */
 struct lawendeb_run lawendeb_longest_run(const uint32_t *words, size_t n, uint8_t *marks, size_t marks_n, uint32_t *lengths,
                                          size_t lengths_n);
 
-/* What lifting answers: refusals 1 to 6 and their place; number 0 is acceptance. */
+/* What lifting answers: number 0 is acceptance; 1 more than 32,768 words; 2 tags_n is not payloads_n, or over 65,536; 3 an unknown tag; 4 a string
+   that ends past the bytes; 5 over 255 names, or one that ends past the bytes; 6 too little room. The place of 3, 4 and 5 is the lowest
+   such index, of 5 with too many names 0. */
 struct lawendeb_answer {
     uint64_t number, place;
 };
 
 /* Numbers in a record: compare/FLAT.md lists them. */
 #define LAWENDEB_RECORD_NUMBERS 53
+
+/* Constants: a tag and a payload each. Tag 0 is nil, 1 false, 17 true, 3 an integer, 19 a float, 4 a short string, 20 a long one; the payload is the
+   integer, the float's bits, or a string's place in the bytes: start in the low 32 bits, length in the high 32. An upvalue's name is such a
+   place, UINT64_MAX if it has none. */
 
 /* Lifts a function: a record for each word, 53 numbers each, one after another in `numbers`. There is room for numbers_n / 53 records, and
    number 6 says that this is less than n. What lies past the last record stays as it was, and all of it on a refusal. */

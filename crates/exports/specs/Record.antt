@@ -48,8 +48,8 @@ flagNumber true = 1
 flagNumber false = 0
 
 -- a string's place, as it is lent: start in the low 32 bits, length in the high 32
-abbrev pub placeNumber : Span → ℕ
-placeNumber span = span .start + span .len * 2 ^ 32
+abbrev pub spanNumber : Span → ℕ
+spanNumber span = span .start + span .len * 2 ^ 32
 
 -- a float's bits. What is not a number has no bits as a `Float`, and no record holds it as one: see NanBits.
 unfoldable pub floatBits : Float → ℕ
@@ -64,7 +64,7 @@ pair kind value = record { kind = kind; value = value }
 -- whether there is a name, and its place
 abbrev pub flatName : Name → FlatPair
 flatName Unnamed = pair 0 0
-flatName (Named span) = pair 1 (placeNumber span)
+flatName (Named span) = pair 1 (spanNumber span)
 
 -- the kinds of model.rs's constants. A float that is not a number is of the floats' kind, by its own bits.
 abbrev pub flatValue : ConstantValue → FlatPair
@@ -73,8 +73,8 @@ flatValue (value.Boolean b) = pair 1 (flagNumber b)
 flatValue (value.Integer i) = pair 2 (ofZ w64 i)
 flatValue (value.Float x) = pair 3 (floatBits x)
 flatValue (value.NanBits bits) = pair 3 bits
-flatValue (value.ShortString span) = pair 4 (placeNumber span)
-flatValue (value.LongString span) = pair 5 (placeNumber span)
+flatValue (value.ShortString span) = pair 4 (spanNumber span)
+flatValue (value.LongString span) = pair 5 (spanNumber span)
 
 -- the kinds of ir.rs's operands
 abbrev pub flatOperand : TypedOperand → FlatSlot

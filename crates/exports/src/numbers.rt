@@ -2,7 +2,7 @@
 ghost use mathlib.Core.Path.{_≡_};
 ghost use mir.Syntax.{w64};
 ghost use mir.Val.{ofZ};
-ghost use Rattle.exports.specs.Record.{flagNumber, placeNumber, floatBits};
+ghost use Rattle.exports.specs.Record.{flagNumber, spanNumber, floatBits};
 use values::model::Span;
 
 pub(crate) fn flag_number(flag: bool) -> u64
@@ -11,8 +11,8 @@ pub(crate) fn flag_number(flag: bool) -> u64
     if flag { 1 } else { 0 }
 }
 
-pub(crate) fn place_number(span: Span) -> u64
-    ensures { λ r. ⌜ r ≡ placeNumber span ⌝ }
+pub(crate) fn span_number(span: Span) -> u64
+    ensures { λ r. ⌜ r ≡ spanNumber span ⌝ }
 {
     span.start as u64 + span.len as u64 * 4294967296
 }

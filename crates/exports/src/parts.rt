@@ -38,7 +38,7 @@ fn flat_name(name: Name) -> FlatPair
         Name::Unnamed => FlatPair { kind: 0, value: 0 },
         Name::Named(span) => FlatPair {
             kind: 1,
-            value: place_number(span),
+            value: span_number(span),
         },
     }
 }
@@ -66,11 +66,11 @@ fn flat_value(v: ConstantValue) -> FlatPair
         },
         ConstantValue::ShortString(span) => FlatPair {
             kind: 4,
-            value: place_number(span),
+            value: span_number(span),
         },
         ConstantValue::LongString(span) => FlatPair {
             kind: 5,
-            value: place_number(span),
+            value: span_number(span),
         },
     }
 }

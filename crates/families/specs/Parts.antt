@@ -1,7 +1,6 @@
 -- What several arms of lifter.rs share: sums of registers, the event map, and operands and effects that ask the tables.
 -- A refinement of the original. Assumes nothing.
 use Prim.Native.Nat.{ℕ, _+_, _-_}
-use mathlib.Core.Bool.{Bool}
 use mathlib.Core.List.{List, [], _∷_}
 use lib.Dec.{eqb, leb}
 use Rattle.fields.specs.Events.{«TM_LEN», «TM_EQ», «TM_ADD»}

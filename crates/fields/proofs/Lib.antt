@@ -1,3 +1,5 @@
+pub mod Below
+pub mod Bytes
 pub mod Difference
 pub mod Entries
 pub mod Lopcodes

@@ -1,11 +1,11 @@
 -- lopcodes.h's fields are document 01's: a mask of k ones is the remainder by 2 ^ k.
 -- Assumes nothing.
-use Prim.Native.Nat.{ℕ, _/_, _^_}
+use Prim.Native.Nat.{_/_, _^_}
 use lib.Bits.{and-mask}
 use Rattle.fields.specs.Lopcodes.{Agreement}
 
 pub agreement : Agreement
-agreement word fits =
+agreement word =
     rw (
       and-mask (word / 2 ^ 0) 7,
       and-mask (word / 2 ^ 7) 8,

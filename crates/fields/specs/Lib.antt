@@ -4,3 +4,4 @@ pub mod Events
 pub mod Word
 pub mod Lopcodes
 pub mod Table
+pub mod Packed

@@ -1,7 +1,7 @@
 -- The fields of a word as lopcodes.h of Lua 5.4 takes them, in the header's own shape: sizes and positions added up,
 -- a mask made by shifts and complements, offsets as half of the largest argument. `Agreement` says that they are document 01's.
 -- Assumes nothing.
-use Prim.Native.Nat.{ℕ, _+_, _-_, _*_, _/_, _%_, _^_, _<_}
+use Prim.Native.Nat.{ℕ, _+_, _-_, _*_, _/_, _%_, _^_}
 use mathlib.Core.Path.{_≡_}
 use lib.Bits.{bitAnd}
 use lib.IntN.{ℤ, pos, _-ℤ_}
@@ -149,6 +149,6 @@ instruction i =
       sj = «GETARG_sJ» i;
     }
 
--- demand 2: "Word fields .. are proved equal to lopcodes.h", at every 32-bit word
+-- demand 2: "Word fields .. are proved equal to lopcodes.h", at every 32-bit word, and at every other number
 abbrev pub Agreement : Type 0
-Agreement = (word : ℕ) → word < 2 ^ 32 → instruction word ≡ fieldsOf word
+Agreement = (word : ℕ) → instruction word ≡ fieldsOf word

@@ -2,7 +2,7 @@
 -- wanted and the fallback rule". Each column is a list of rows, opcodes from the first to the last, and what all others have.
 -- Assumes nothing.
 use Prim.Native.Nat.{ℕ, zero, suc}
-use mathlib.Core.Bool.{Bool, true, false}
+use mathlib.Core.Bool.{cond}
 use mathlib.Core.List.{List, [], _∷_}
 use lib.Dec.{leb}
 use Rattle.fields.specs.Opcodes.{«OP_LOADI», «OP_LOADF», «OP_LOADK», «OP_LOADKX», «OP_LFALSESKIP», «OP_GETTABUP», «OP_GETFIELD», «OP_SETTABUP», «OP_SETFIELD», «OP_NEWTABLE», «OP_SELF», «OP_ADDI», «OP_SHR», «OP_MMBIN», «OP_MMBINK», «OP_UNM», «OP_BNOT», «OP_LEN», «OP_CONCAT», «OP_TBC», «OP_JMP», «OP_EQ», «OP_TESTSET», «OP_CALL», «OP_TAILCALL», «OP_RETURN1», «OP_FORLOOP», «OP_FORPREP», «OP_TFORPREP», «OP_TFORCALL», «OP_TFORLOOP», «OP_SETLIST», «OP_CLOSURE», «OP_EXTRAARG», «OP_UNKNOWN», «OP_LAST»}
@@ -12,15 +12,11 @@ use Rattle.fields.specs.Events.{«TM_INDEX», «TM_NEWINDEX», «TM_LEN�
 pub data Row (X : Type 0) : Type 0 where
   row : ℕ → ℕ → X → Row X
 
-abbrev pub pick : {X : Type 0} → Bool → X → X → X
-pick true a b = a
-pick false a b = b
-
 -- what the first row that has the opcode says, or what all others have
 abbrev pub lookup : {X : Type 0} → List (Row X) → X → ℕ → X
 lookup [] others opcode = others
 lookup (row first last x ∷ rows) others opcode =
-    pick (leb first opcode) (pick (leb opcode last) x (lookup rows others opcode)) (lookup rows others opcode)
+    cond (leb first opcode) (cond (leb opcode last) x (lookup rows others opcode)) (lookup rows others opcode)
 
 -- Column 0, the mode: the Rust's OpMode54 by `mode`; unknown opcodes have none.
 pub data OpMode54 : Type 0 where

@@ -3,5 +3,6 @@ pub mod columns;
 pub mod events;
 pub mod lookup;
 pub mod opcodes;
+pub mod packed;
 mod table;
 pub mod word;

@@ -4,6 +4,9 @@ ghost use Prim.Native.Nat.{_+_, _*_, _<_};
 ghost use lib.ListN.{getD};
 ghost use Rattle.fields.specs.Word.{opcodeOf};
 ghost use Rattle.fields.specs.Table.{opcodeTable, modeNumber, modeOf, classNumber, classOf, companionNumber, companionOf, fallbackNumber, fallbackOf};
+use crate::packed::both;
+use crate::packed::byte;
+use crate::packed::eight_fallbacks;
 use crate::table::TABLE;
 
 // By value: reading a constant array copies it, so a loop takes the table once and lends it to the functions below.
@@ -35,13 +38,7 @@ pub fn companion_in(table: &[u8; 512], word: u32) -> u8
     column(table, word, 2)
 }
 
-pub fn fallback_in(table: &[u8; 512], word: u32) -> u8
-    ensures { λ r. ⌜ r ≡ getD (now (table .entry)) (opcodeOf word * 4 + 3) 0 ⌝ }
-{
-    column(table, word, 3)
-}
-
-// The columns of the opcode table.
+// The columns of the opcode table, for single calls.
 
 pub fn mode(word: u32) -> u8
     ensures { λ r. ⌜ r ≡ modeNumber (modeOf (opcodeOf word)) ⌝ }
@@ -53,20 +50,18 @@ pub fn mode(word: u32) -> u8
 pub fn step_class(word: u32) -> u8
     ensures { λ r. ⌜ r ≡ classNumber (classOf (opcodeOf word)) ⌝ }
 {
-    let entries = table();
-    column(&entries, word, 1)
+    both(word) % 16
 }
 
 pub fn companion(word: u32) -> u8
     ensures { λ r. ⌜ r ≡ companionNumber (companionOf (opcodeOf word)) ⌝ }
 {
-    let entries = table();
-    column(&entries, word, 2)
+    both(word) / 16
 }
 
 pub fn fallback(word: u32) -> u8
     ensures { λ r. ⌜ r ≡ fallbackNumber (fallbackOf (opcodeOf word)) ⌝ }
 {
-    let entries = table();
-    column(&entries, word, 3)
+    let opcode = word % 128;
+    byte(eight_fallbacks(opcode / 8), opcode)
 }

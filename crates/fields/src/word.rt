@@ -25,7 +25,8 @@ const OFFSET_SC: u32 = 127;
 
 const OFFSET_SBX: u32 = 65535;
 
-const OFFSET_SJ: u32 = 16777215;
+// JMP's distance is Ax less this.
+pub const OFFSET_SJ: u32 = 16777215;
 
 // A field read as a signed number: its value less an offset.
 fn signed(field: u32, offset: u32) -> i32

@@ -1,34 +1,28 @@
 -- A meter and the longest run, over any lawful graph: what the model holds is a path, and the words since service are its last segment.
 -- Assumes nothing.
 use Prim.Native.Nat.{ℕ, _+_, _<_, _≤_}
-use mathlib.Core.Bool.{Bool, true, false, cond, _||_, or-true}
+use mathlib.Core.Bool.{Bool, true, false, cond, _||_, true≢false}
 use mathlib.Core.Path.{_≡_, refl, sym, ap, subst, _∙_}
-use mathlib.Core.Logic.{inl, inr}
-use mathlib.Core.List.{List, [], _∷_, _++_, append-assoc}
+use mathlib.Core.List.{List, [], _∷_, _++_, append-assoc, append-nil}
 use native.Mathlib.Omega.{arith}
 use lib.ListN.{length, replicate, length-append}
 use borrow.Author.Tests.{eq-eqb, lt-ltb}
 use Rattle.runs.specs.Graph.{In, Graph, Lawful, Along, Path, Unserved, Segment}
 use Rattle.runs.specs.Run.{mostWords}
+use Rattle.runs.proofs.Paths.{along-in}
 use Rattle.meter.specs.declared.step.Meter.{Meter}
-use Rattle.meter.specs.Feed.{isIn, follows, ceiling, beginOf}
-use Rattle.meter.specs.Model.{Call, begin, feed, Model, blank, lastFrom, writes, servesTo, fed, called, answerTo, modelAfter, modelAnswers, anyServes, sinceService, wordsSince}
+use Rattle.meter.specs.Feed.{follows, ceiling, beginOf}
+use Rattle.meter.specs.Model.{Call, begin, feed, Model, emptyModel, lastFrom, writes, servesTo, fed, called, answerTo, modelAfter, modelAnswers, anyServes, sinceService, wordsSince}
 use Rattle.meter.specs.Calls.{meterAfter}
 use Rattle.meter.specs.Bound.{feeds, ShownOn, Bound}
-use Rattle.meter.proofs.Paths.{is-in, last-more}
+use Rattle.meter.proofs.Paths.{in-of-member, member-of-in, last-more}
 use Rattle.meter.proofs.Trust.{first-word, follows-model}
-
--- the test of `In`, the other way round
-in-is : (q : ℕ) (xs : List ℕ) → In q xs → isIn q xs ≡ true
-in-is q [] i = absurd i
-in-is q (x ∷ xs) (inl e) = rw (eq-eqb x q (sym e))
-in-is q (x ∷ xs) (inr i) = rw (in-is q xs i, or-true)
 
 module _ (g : Graph) (law : Lawful g) where
   -- What the model writes down is a path, or nothing.
 
   along-more : (p : ℕ) (ps : List ℕ) (q : ℕ) → Along g p ps → follows g (lastFrom p ps) q ≡ true → Along g p (ps ++ (q ∷ []))
-  along-more p [] q a h = let i : In q (g .successors p) = is-in q (g .successors p) h in (a, i, law .inside p q i)
+  along-more p [] q a h = let i : In q (g .successors p) = in-of-member q (g .successors p) h in (a, i, law .inside p q i)
   along-more p (x ∷ ps) q a h = (a .0, a .1, along-more x ps q (a .2) h)
 
   abbrev PathOrNone : List ℕ → Type 0
@@ -55,7 +49,7 @@ module _ (g : Graph) (law : Lawful g) where
   none-serves p (q ∷ qs) h = go (g .serves p q) refl (none-serves q qs) h
     where
       go : (t : Bool) → g .serves p q ≡ t → (anyServes g q qs ≡ false → Unserved g q qs) → t || anyServes g q qs ≡ false → Unserved g p (q ∷ qs)
-      go true e later d = let z : _≡_ {A = ℕ} 0 1 = cc in absurd (omega arith)
+      go true e later d = absurd (true≢false d)
       go false e later d = (e, later d)
 
   -- the path as the words before, and those since service
@@ -75,13 +69,9 @@ module _ (g : Graph) (law : Lawful g) where
       go true e s = record { before = p ∷ s .before; first = s .first; rest = s .rest; whole = rw (s .whole); since = rw e (s .since); unserved = s .unserved }
       go false e s = record { before = []; first = p; rest = q ∷ qs; whole = refl; since = rw e; unserved = none-serves p (q ∷ qs) e }
 
-  append-none : (l : List ℕ) → l ++ [] ≡ l
-  append-none [] = refl
-  append-none (x ∷ l) = rw (append-none l)
-
   since-segment : (p : ℕ) (ps : List ℕ) → Path g (p ∷ ps) → (s : Split p ps) → Segment g (s .first) (s .rest)
   since-segment p ps path s =
-      record { before = s .before; after = []; path = rw (append-none (s .rest)) (subst (λ (l : List ℕ). Path g l) (s .whole) path); unserved = s .unserved }
+      record { before = s .before; after = []; path = rw (append-nil (s .rest)) (subst (λ (l : List ℕ). Path g l) (s .whole) path); unserved = s .unserved }
 
   abbrev AtMost : ℕ → Type 0
   AtMost longest = (p : ℕ) (ps : List ℕ) → Segment g p ps → length (p ∷ ps) ≤ longest
@@ -104,28 +94,24 @@ module _ (g : Graph) (law : Lawful g) where
   after-word b q h = (rw h, rw h)
 
   written : (x : ℕ) (xs : List ℕ) (k : ℕ) (qs : List ℕ) → Along g (lastFrom x xs) qs → Written x xs k qs
-  written x xs k [] a = (ap (λ (l : List ℕ). x ∷ l) (sym (append-none xs)), refl)
+  written x xs k [] a = (ap (λ (l : List ℕ). x ∷ l) (sym (append-nil xs)), refl)
   written x xs k (q ∷ qs) a =
       let now : (fed g (record { path = x ∷ xs; tally = k }) q ≡ record { path = x ∷ (xs ++ (q ∷ [])); tally = cond (g .serves (lastFrom x xs) q) (k + 1) k })
       × (answerTo g (record { path = x ∷ xs; tally = k }) q ≡ 0) =
-      after-word (record { path = x ∷ xs; tally = k }) q (in-is q (g .successors (lastFrom x xs)) (a .1)) in
+      after-word (record { path = x ∷ xs; tally = k }) q (member-of-in q (g .successors (lastFrom x xs)) (a .1)) in
       let rest : Written x (xs ++ (q ∷ [])) (cond (g .serves (lastFrom x xs) q) (k + 1) k) qs =
       written x (xs ++ (q ∷ [])) (cond (g .serves (lastFrom x xs) q) (k + 1) k) qs (rw (last-more x xs q) (a .2)) in (
         ap (λ (b : Model). modelAfter g b (feeds qs) .path) (now .0) ∙ rest .0 ∙ ap (λ (l : List ℕ). x ∷ l) (append-assoc xs (q ∷ []) qs),
         rw (now .1, now .0) (ap (λ (l : List ℕ). 0 ∷ l) (rest .1)),
       )
 
-  starts-inside : (p : ℕ) (ps : List ℕ) → Along g p ps → p < g .size
-  starts-inside p [] a = a
-  starts-inside p (q ∷ qs) a = a .0
-
   written-path : (words : List ℕ) → Path g words
-      → (modelAfter g blank (feeds words) .path ≡ words) × (modelAnswers g blank (feeds words) ≡ replicate (length words) 0)
+      → (modelAfter g emptyModel (feeds words) .path ≡ words) × (modelAnswers g emptyModel (feeds words) ≡ replicate (length words) 0)
   written-path [] path = absurd path
   written-path (p ∷ ps) path =
       let rest : Written p [] 0 ps = written p [] 0 ps (path .1) in
-      let first : writes g [] p ≡ true = rw (eq-eqb p 0 (path .0), lt-ltb 0 (g .size) (omega (arith, starts-inside p ps (path .1)))) in
-      let now : (fed g blank p ≡ record { path = p ∷ []; tally = 0 }) × (answerTo g blank p ≡ 0) = after-word blank p first in (
+      let first : writes g [] p ≡ true = rw (eq-eqb p 0 (path .0), lt-ltb 0 (g .size) (omega (arith, along-in g p ps (path .1)))) in
+      let now : (fed g emptyModel p ≡ record { path = p ∷ []; tally = 0 }) × (answerTo g emptyModel p ≡ 0) = after-word emptyModel p first in (
         ap (λ (b : Model). modelAfter g b (feeds ps) .path) (now .0) ∙ rest .0,
         rw (now .1, now .0) (ap (λ (l : List ℕ). 0 ∷ l) (rest .1)),
       )
@@ -157,7 +143,7 @@ module _ (g : Graph) (law : Lawful g) where
     ends-least (b ∷ bs) = since-least b bs
 
   along-start : (p : ℕ) (ps qs : List ℕ) → Along g p (ps ++ qs) → Along g p ps
-  along-start p [] qs a = starts-inside p qs a
+  along-start p [] qs a = along-in g p qs a
   along-start p (x ∷ ps) qs a = (a .0, a .1, along-start x ps qs (a .2))
 
   path-start : (bs : List ℕ) (p : ℕ) (ps qs : List ℕ) → Path g (bs ++ ((p ∷ ps) ++ qs)) → Path g (bs ++ (p ∷ ps))
@@ -170,7 +156,7 @@ module _ (g : Graph) (law : Lawful g) where
     never : (calls : List Call) → meterAfter g (beginOf m) calls .count ≤ longest
     never calls =
         rw (follows-model g law small m calls fits .count)
-        (since-most longest most (modelAfter g blank calls .path) (path-after blank tt calls))
+        (since-most longest most (modelAfter g emptyModel calls .path) (path-after emptyModel tt calls))
 
     fed-count : (words : List ℕ) → Path g words → meterAfter g (beginOf m) (feeds words) .count ≡ wordsSince g words
     fed-count words path = follows-model g law small m (feeds words) fits .count ∙ ap (wordsSince g) (written-path words path .0)

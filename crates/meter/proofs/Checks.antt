@@ -13,12 +13,9 @@ use Rattle.runs.specs.Successors.{listOf, successorsOf, hasSuccessor, isSuccess
 use Rattle.runs.specs.Graph.{Graph}
 use Rattle.runs.specs.Instance.{graphOf}
 use Rattle.runs.specs.Run.{mostWords}
+use Rattle.runs.proofs.Tests.{neither}
 use Rattle.meter.specs.declared.step.Meter.{Meter}
-use Rattle.meter.specs.Feed.{isIn, isBegun, follows, isForeign, isStray}
-
-pub neither : (t u : Bool) → t || u ≡ false → (t ≡ false) × (u ≡ false)
-neither true u h = (h, cc)
-neither false u h = (refl, h)
+use Rattle.meter.specs.Feed.{member, isBegun, follows, isForeign, isStray}
 
 small : (n last count : ℕ) (t : Bool) → cond t (leb n last || (eqb count 0 || ltb (last + 1) count)) (not (eqb last 0) || not (eqb count 0)) ≡ false → n ≤ mostWords → count ≤ mostWords
 small n last count true h k =
@@ -30,7 +27,7 @@ small n last count false h k =
     omega (arith, eqb-true count 0 (not-false (eqb count 0) (a .1)))
 
 -- the test of `runs` that q is a step from p is the graph's
-same-test : (s : Successors) (q : ℕ) → hasSuccessor s q ≡ isIn q (listOf s)
+same-test : (s : Successors) (q : ℕ) → hasSuccessor s q ≡ member q (listOf s)
 same-test Invalid q = refl
 same-test Stop q = refl
 same-test (One a) q = sym (or-false (eqb a q))

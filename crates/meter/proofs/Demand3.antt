@@ -11,19 +11,19 @@ use borrow.Author.Tests.{ltb-false}
 use Rattle.runs.specs.declared.longest.Run.{Run}
 use Rattle.runs.specs.Demand.{Demand, Passes}
 use Rattle.runs.specs.Instance.{graphOf}
-use Rattle.runs.specs.Run.{mostWords, refuse, runOf, numberOf, longestOf, firstOf}
+use Rattle.runs.specs.Run.{mostWords, refuseRun, runOf, numberOf, longestOf, firstOf}
 use Rattle.runs.proofs.Demand.{demand}
 use Rattle.runs.proofs.Lawful.{lawful}
+use Rattle.runs.proofs.Tests.{neither}
 use Rattle.meter.specs.declared.step.Meter.{Meter}
 use Rattle.meter.specs.Feed.{ceiling}
 use Rattle.meter.specs.Bound.{Bound}
 use Rattle.meter.specs.Demand3.{Demand3}
-use Rattle.meter.proofs.Checks.{neither}
 use Rattle.meter.proofs.Trust.{follows-model}
 use Rattle.meter.proofs.Bound.{bound}
 
 -- a check that refused nothing: its test did not hold, and the later checks decided
-passed : (t : Bool) (number place : ℕ) (later : Run) → (number ≡ 0 → ⊥) → numberOf (refuse t number place later) ≡ 0 → (t ≡ false) × (numberOf later ≡ 0)
+passed : (t : Bool) (number place : ℕ) (later : Run) → (number ≡ 0 → ⊥) → numberOf (refuseRun t number place later) ≡ 0 → (t ≡ false) × (numberOf later ≡ 0)
 passed true number place later n h = absurd (n h)
 passed false number place later n h = (refl, h)
 
@@ -40,11 +40,12 @@ module _ (ws : List ℕ) (marks lengths : ℕ) (accepted : numberOf (runOf ws ma
   bounded-by-run : (m : Meter) → m .services ≤ ceiling → Bound (graphOf ws) m (longestOf (runOf ws marks lengths))
   bounded-by-run m fits =
       let e = enough in
-      let d : Demand ws marks lengths = demand ws marks lengths (e .0) (e .1 .0) (e .1 .1) in
-      let s : Passes ws (firstOf (runOf ws marks lengths)) (longestOf (runOf ws marks lengths)) = d .reached accepted in
-      bound (graphOf ws) (lawful ws) (e .0) m fits (longestOf (runOf ws marks lengths))
+      let r : Run = runOf ws marks lengths in
+      let d : Demand ws r = demand ws marks lengths (e .0) (e .1 .0) (e .1 .1) in
+      let s : Passes ws (firstOf r) (longestOf r) = d .reached accepted in
+      bound (graphOf ws) (lawful ws) (e .0) m fits (longestOf r)
       (λ p ps t. d .bounded accepted p (length (p ∷ ps)) (record { rest = ps; segment = t; count = refl }))
-      (firstOf (runOf ws marks lengths)) (s .rest) (s .segment) (s .count)
+      (firstOf r) (s .rest) (s .segment) (s .count)
 
 pub demand3 : (ws : List ℕ) → length ws ≤ mostWords → Demand3 ws
 demand3 ws few =

@@ -1,39 +1,39 @@
 -- One word more at a path's end: its last word, and the words since service.
 -- Assumes nothing.
 use Prim.Native.Nat.{ℕ, _+_}
-use mathlib.Core.Bool.{Bool, true, false, cond, _||_, or-false, or-true}
+use mathlib.Core.Bool.{Bool, true, false, cond, _||_, or-assoc, or-false, or-true, false≢true}
 use mathlib.Core.Path.{_≡_, refl, sym, ap, _∙_}
 use mathlib.Core.Logic.{inl, inr}
 use mathlib.Core.List.{List, [], _∷_, _++_}
-use native.Mathlib.Omega.{arith}
 use lib.Dec.{eqb}
 use lib.ListN.{length, length-append}
-use borrow.Author.Tests.{eqb-true}
+use borrow.Author.Tests.{eqb-true, eq-eqb}
 use Rattle.runs.specs.Graph.{In, Graph}
-use Rattle.meter.specs.Feed.{isIn}
+use Rattle.meter.specs.Feed.{member}
 use Rattle.meter.specs.Model.{lastFrom, anyServes, sinceService, wordsSince}
 
--- the test of `In` is right
-pub is-in : (q : ℕ) (xs : List ℕ) → isIn q xs ≡ true → In q xs
-is-in q [] h = let z : _≡_ {A = ℕ} 0 1 = cc in omega arith
-is-in q (x ∷ xs) h = go (eqb x q) refl (is-in q xs) h
+-- the test of `In` is right, both ways
+pub in-of-member : (q : ℕ) (xs : List ℕ) → member q xs ≡ true → In q xs
+in-of-member q [] h = absurd (false≢true h)
+in-of-member q (x ∷ xs) h = go (eqb x q) refl (in-of-member q xs) h
   where
-    go : (t : Bool) → eqb x q ≡ t → (isIn q xs ≡ true → In q xs) → t || isIn q xs ≡ true → In q (x ∷ xs)
+    go : (t : Bool) → eqb x q ≡ t → (member q xs ≡ true → In q xs) → t || member q xs ≡ true → In q (x ∷ xs)
     go true e later d = inl (sym (eqb-true x q e))
     go false e later d = inr (later d)
+
+pub member-of-in : (q : ℕ) (xs : List ℕ) → In q xs → member q xs ≡ true
+member-of-in q [] i = absurd i
+member-of-in q (x ∷ xs) (inl e) = rw (eq-eqb x q (sym e))
+member-of-in q (x ∷ xs) (inr i) = rw (member-of-in q xs i, or-true)
 
 pub last-more : (p : ℕ) (ps : List ℕ) (q : ℕ) → lastFrom p (ps ++ (q ∷ [])) ≡ q
 last-more p [] q = refl
 last-more p (x ∷ ps) q = last-more x ps q
 
-or-assoc : (t u v : Bool) → t || (u || v) ≡ (t || u) || v
-or-assoc true u v = refl
-or-assoc false u v = refl
-
 module _ (g : Graph) where
   any-more : (p : ℕ) (ps : List ℕ) (q : ℕ) → anyServes g p (ps ++ (q ∷ [])) ≡ anyServes g p ps || g .serves (lastFrom p ps) q
   any-more p [] q = or-false (g .serves p q)
-  any-more p (x ∷ ps) q = rw (any-more x ps q) (or-assoc (g .serves p x) (anyServes g x ps) (g .serves (lastFrom x ps) q))
+  any-more p (x ∷ ps) q = rw (any-more x ps q) (sym (or-assoc (g .serves p x) (anyServes g x ps) (g .serves (lastFrom x ps) q)))
 
   -- a serving step leads to q: the words since service are q alone
   pub since-served : (p : ℕ) (ps : List ℕ) (q : ℕ) → g .serves (lastFrom p ps) q ≡ true → sinceService g p (ps ++ (q ∷ [])) ≡ q ∷ []

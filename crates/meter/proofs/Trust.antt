@@ -1,7 +1,7 @@
 -- Demand 3, its second half: a meter just begun shows what the reference model holds, whatever calls follow.
 -- Assumes nothing.
 use Prim.Native.Nat.{ℕ, _+_, _<_, _≤_, min}
-use mathlib.Core.Bool.{Bool, true, false, cond, not, _&&_, or-true}
+use mathlib.Core.Bool.{Bool, true, false, cond, not, or-true}
 use mathlib.Core.Path.{_≡_, refl, ap}
 use mathlib.Core.List.{List, [], _∷_, _++_}
 use native.Mathlib.Omega.{arith}
@@ -9,12 +9,13 @@ use lib.Dec.{ltb, eqb}
 use borrow.Author.Tests.{ltb-true, ltb-false, eqb-true, le-ltb, lt-leb, le-leb, ne-eqb}
 use Rattle.runs.specs.Graph.{Graph, Lawful}
 use Rattle.runs.specs.Run.{mostWords}
+use Rattle.runs.proofs.Tests.{both}
 use Rattle.meter.specs.declared.step.Meter.{Meter}
 use Rattle.meter.specs.declared.step.Fed.{Fed}
 use Rattle.meter.specs.Feed.{follows, ceiling, oneService, movedTo, isForeign, isStray, beginOf, feedOf}
-use Rattle.meter.specs.Model.{Call, begin, feed, Model, blank, lastFrom, writes, fed, called, answerTo, modelAfter, modelAnswers, hasWord, lastOr0, wordsSince}
+use Rattle.meter.specs.Model.{Call, begin, feed, Model, emptyModel, lastFrom, writes, fed, called, answerTo, modelAfter, modelAnswers, hasWord, lastOr0, wordsSince}
 use Rattle.meter.specs.Calls.{meterAfter, meterAnswers, FollowsModel}
-use Rattle.meter.proofs.Paths.{is-in, last-more, words-more}
+use Rattle.meter.proofs.Paths.{in-of-member, last-more, words-more}
 
 -- The ceiling.
 
@@ -33,7 +34,7 @@ shows g start b =
 
 module _ (g : Graph) (law : Lawful g) where
   step-inside : (p q : ℕ) → follows g p q ≡ true → q < g .size
-  step-inside p q h = law .inside p q (is-in q (g .successors p) h)
+  step-inside p q h = law .inside p q (in-of-member q (g .successors p) h)
 
   -- The invariant: the path's last word is a word, and the count is from 1 to that word's number and one more.
 
@@ -46,11 +47,7 @@ module _ (g : Graph) (law : Lawful g) where
 
   fits-next : (p q k : ℕ) (t : Bool) → g .serves p q ≡ t → follows g p q ≡ true → k ≤ p + 1 → Fits q (cond t 1 (k + 1))
   fits-next p q k true e h l = (step-inside p q h, (omega arith, omega arith))
-  fits-next p q k false e h l = (step-inside p q h, (omega arith, omega (arith, law .forward p q (is-in q (g .successors p) h) e)))
-
-  both : (t u : Bool) → t && u ≡ true → (t ≡ true) × (u ≡ true)
-  both true u h = (refl, h)
-  both false u h = (cc, cc)
+  fits-next p q k false e h l = (step-inside p q h, (omega arith, omega (arith, law .forward p q (in-of-member q (g .successors p) h) e)))
 
   pub first-word : (q : ℕ) → writes g [] q ≡ true → (q ≡ 0) × (0 < g .size)
   first-word q h =
@@ -116,9 +113,9 @@ module _ (g : Graph) (law : Lawful g) where
       let rest : Same start (fed g b q) cs = same start h (fed g b q) (sound-fed b q (writes g (b .path) q) refl s) cs in
       rw (fed-as start (b .tally) (b .path) q h s) (ap (λ (l : List ℕ). answerTo g b q ∷ l) (rest .0), rest .1)
 
-  begun-blank : (m : Meter) → m .services ≤ ceiling → beginOf m ≡ shows g (m .services) blank
+  begun-empty : (m : Meter) → m .services ≤ ceiling → beginOf m ≡ shows g (m .services) emptyModel
   unfolding beginOf
-  begun-blank m h = ap (λ (s : ℕ). record { begun = 0; last = 0; count = 0; services = s }) (omega arith)
+  begun-empty m h = ap (λ (s : ℕ). record { begun = 0; last = 0; count = 0; services = s }) (omega arith)
 
   begun-if : (ps : List ℕ) (n : ℕ) → n ≡ cond (hasWord ps) 1 0 → not (eqb n 0) ≡ hasWord ps
   begun-if [] n e = rw e
@@ -126,12 +123,12 @@ module _ (g : Graph) (law : Lawful g) where
 
   pub follows-model : g .size ≤ mostWords → (m : Meter) (calls : List Call) → m .services ≤ ceiling → FollowsModel g m calls
   follows-model h m calls fits =
-      let all : Same (m .services) blank calls = same (m .services) h blank tt calls in
-      let start : beginOf m ≡ shows g (m .services) blank = begun-blank m fits in
-      let after : meterAfter g (beginOf m) calls ≡ shows g (m .services) (modelAfter g blank calls) = rw start (all .1) in
+      let all : Same (m .services) emptyModel calls = same (m .services) h emptyModel tt calls in
+      let start : beginOf m ≡ shows g (m .services) emptyModel = begun-empty m fits in
+      let after : meterAfter g (beginOf m) calls ≡ shows g (m .services) (modelAfter g emptyModel calls) = rw start (all .1) in
       record {
         answers = rw start (all .0);
-        begun = begun-if (modelAfter g blank calls .path) (meterAfter g (beginOf m) calls .begun) (ap (λ (z : Meter). z .begun) after);
+        begun = begun-if (modelAfter g emptyModel calls .path) (meterAfter g (beginOf m) calls .begun) (ap (λ (z : Meter). z .begun) after);
         last = ap (λ (z : Meter). z .last) after;
         count = ap (λ (z : Meter). z .count) after;
         services = ap (λ (z : Meter). z .services) after;

@@ -6,7 +6,7 @@ use Prim.Native.Nat.{ℕ, _+_, min}
 use Rattle.runs.specs.Graph.{Graph}
 use Rattle.meter.specs.declared.step.Meter.{Meter}
 use Rattle.meter.specs.Feed.{ceiling, isBegun, feedOf, beginOf}
-use Rattle.meter.specs.Model.{Call, begin, feed, Model, blank, modelAfter, modelAnswers, hasWord, lastOr0, wordsSince}
+use Rattle.meter.specs.Model.{Call, begin, feed, Model, emptyModel, modelAfter, modelAnswers, hasWord, lastOr0, wordsSince}
 
 -- "Each call is lent the meter as the call before left it, refused or not; nobody else writes it meanwhile.": the meter after
 -- the calls, by the definitions that the contracts of `begin` and `feed` cite
@@ -27,11 +27,11 @@ module _ (g : Graph) (m : Meter) (calls : List Call) where
   shown = meterAfter g (beginOf m) calls
 
   abbrev pub model : Model
-  model = modelAfter g blank calls
+  model = modelAfter g emptyModel calls
 
   pub record FollowsModel : Type 0 where
     -- "Any other feed writes nothing; its answer is 10, and that of a written one 0."
-    pub answers : meterAnswers g (beginOf m) calls ≡ modelAnswers g blank calls
+    pub answers : meterAnswers g (beginOf m) calls ≡ modelAnswers g emptyModel calls
     -- "After the list the meter is begun exactly if the course has a word"
     pub begun : isBegun shown ≡ hasWord (model .path)
     -- "last is the course's last word, or 0"

@@ -19,8 +19,8 @@ use Rattle.meter.specs.Bound.{Bound}
 pub record Demand3 (ws : List ℕ) : Type 0 where
   -- ".. result slices at least as long ..: it is refused exactly if it has no words, some course meets a bad word, or the longest
   -- run is over 32,768. If accepted, no course passes more than L words without a service between them, and some course passes
-  -- exactly L."
-  pub run : (marks lengths : ℕ) → length ws ≤ marks → length ws ≤ lengths → Demand ws marks lengths
+  -- exactly L." `Demand` says it, and which number and place a refusal has
+  pub run : (marks lengths : ℕ) → length ws ≤ marks → length ws ≤ lengths → Demand ws (runOf ws marks lengths)
   -- "Accepted or not, take a meter just begun, whatever services it holds: for every list of begins and feeds on it over the same
   -- words, whatever word each feed names, refused feeds included, a feed is accepted exactly if document 01's feeding book writes
   -- its word down, and after the list the meter shows the words since the last service on the book's course, and the services

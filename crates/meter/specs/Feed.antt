@@ -10,13 +10,13 @@ use Rattle.meter.specs.declared.step.Meter.{Meter}
 use Rattle.meter.specs.declared.step.Fed.{Fed}
 
 -- a number stands in a list: the test of `In`
-abbrev pub isIn : ℕ → List ℕ → Bool
-isIn q [] = false
-isIn q (x ∷ xs) = eqb x q || isIn q xs
+abbrev pub member : ℕ → List ℕ → Bool
+member q [] = false
+member q (x ∷ xs) = eqb x q || member q xs
 
 -- q is "a step from" p
 abbrev pub follows : Graph → ℕ → ℕ → Bool
-follows g p q = isIn q (g .successors p)
+follows g p q = member q (g .successors p)
 
 -- "begun": any number but 0, so that every meter a C program can lend is one or the other
 abbrev pub isBegun : Meter → Bool
@@ -56,13 +56,13 @@ unfoldable pub isStray : Graph → Meter → ℕ → Bool
 isStray g m q = leb (g .size) q || cond (isBegun m) (not (follows g (m .last) q)) (not (eqb q 0))
 
 -- where the test holds, the number and the "meter unchanged"; else what the later checks say
-abbrev pub refuse : Bool → ℕ → Meter → Fed → Fed
-refuse t number m later = cond t (record { meter = m; number = number }) later
+abbrev pub refuseFeed : Bool → ℕ → Meter → Fed → Fed
+refuseFeed t number m later = cond t (record { meter = m; number = number }) later
 
 -- "Checks run in this order": "a feed 1, 11, 10". Number 1 is "more than 32,768 words"; 0 is acceptance
 unfoldable pub feedOf : Graph → Meter → ℕ → Fed
 feedOf g m q =
-    refuse (ltb mostWords (g .size)) 1 m
-    (refuse (isForeign (g .size) m) 11 m
-    (refuse (isStray g m q) 10 m
+    refuseFeed (ltb mostWords (g .size)) 1 m
+    (refuseFeed (isForeign (g .size) m) 11 m
+    (refuseFeed (isStray g m q) 10 m
     (record { meter = movedTo g m q; number = 0 })))

@@ -19,8 +19,8 @@ pub record Model : Type 0 where
   pub tally : ℕ
 
 -- "empty at first", "0 at first"
-abbrev pub blank : Model
-blank = record { path = []; tally = 0 }
+abbrev pub emptyModel : Model
+emptyModel = record { path = []; tally = 0 }
 
 -- the last of p and the words after it
 abbrev pub lastFrom : ℕ → List ℕ → ℕ

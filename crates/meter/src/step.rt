@@ -4,9 +4,7 @@ ghost use Prim.Native.Nat.{_<_, _≤_};
 ghost use Rattle.runs.specs.Instance.{graphOf};
 ghost use Rattle.runs.specs.Run.{mostWords};
 ghost use Rattle.meter.specs.Feed.{beginOf, oneService, movedTo, isForeign, isStray, feedOf};
-
-// Document 01, number 1: at most so many words.
-const MOST_WORDS: usize = 32768;
+use runs::longest::MOST_WORDS;
 
 // Document 01, "Meter": services stay at this.
 const CEILING: u32 = 4294967295;

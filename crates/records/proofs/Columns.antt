@@ -2,13 +2,13 @@
 -- Assumes nothing.
 use Prim.Native.Nat.{ℕ, _+_, _<_}
 use mathlib.Core.Path.{_≡_, refl}
-use mathlib.Core.Bool.{Bool, true, false}
+use mathlib.Core.Bool.{Bool, true, false, cond}
 use mathlib.Core.List.{List, [], _∷_}
 use native.Mathlib.Omega.{arith}
 use lib.Dec.{leb, lit<}
 use Rattle.fields.specs.Opcodes.{«OP_GETTABUP», «OP_GETFIELD», «OP_SETTABUP», «OP_SETFIELD», «OP_SELF», «OP_MMBIN», «OP_MMBINK», «OP_UNM», «OP_BNOT», «OP_LEN», «OP_CONCAT», «OP_TBC», «OP_CALL», «OP_TAILCALL»}
 use Rattle.fields.specs.Events.{«TM_INDEX», «TM_NEWINDEX», «TM_LEN», «TM_UNM», «TM_BNOT», «TM_CONCAT», «TM_CALL», «TM_CLOSE»}
-use Rattle.fields.specs.Table.{Row, row, pick, lookup, Companion, alone, metamethodAfter, arithmeticBefore, jumpAfter, extraAfter, extraAfterIfK, callAtTarget, loopAfter, companionNumber, FallbackRule, fixed, byC, noFallback, fallbackNumber, fallbackOf}
+use Rattle.fields.specs.Table.{Row, row, lookup, Companion, alone, metamethodAfter, arithmeticBefore, jumpAfter, extraAfter, extraAfterIfK, callAtTarget, loopAfter, companionNumber, FallbackRule, fixed, byC, noFallback, fallbackNumber, fallbackOf}
 use Rattle.values.specs.declared.ir.Fallback.the-variants.{NoFallback, Event}
 use Rattle.values.specs.declared.ir.OptionalPc.the-variants.{NoPc, Pc}
 use Rattle.families.specs.Parts.{eventOf}
@@ -55,7 +55,7 @@ abbrev AllSmall : List (Row FallbackRule) → Type 0
 AllSmall [] = Unit {0}
 AllSmall (row first last r ∷ rows) = Small r × AllSmall rows
 
-small-pick : (b : Bool) (r s : FallbackRule) → Small r → Small s → Small (pick b r s)
+small-pick : (b : Bool) (r s : FallbackRule) → Small r → Small s → Small (cond b r s)
 small-pick true r s p q = p
 small-pick false r s p q = q
 
@@ -63,7 +63,7 @@ small-lookup : (rows : List (Row FallbackRule)) (others : FallbackRule) (o : ℕ
 small-lookup [] others o p q = q
 small-lookup (row first last r ∷ rows) others o p q =
     let rest = small-lookup rows others o (p .1) q in
-    small-pick (leb first o) (pick (leb o last) r (lookup rows others o)) (lookup rows others o) (small-pick (leb o last) r (lookup rows others o) (p .0) rest) rest
+    small-pick (leb first o) (cond (leb o last) r (lookup rows others o)) (lookup rows others o) (small-pick (leb o last) r (lookup rows others o) (p .0) rest) rest
 
 -- the rows of `fallbackOf`
 abbrev rules : List (Row FallbackRule)

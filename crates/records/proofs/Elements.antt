@@ -1,7 +1,7 @@
 -- What the caller's list of records is afterwards, element by element.
 -- Assumes nothing.
 use mathlib.Core.Path.{_≡_, refl, sym, _∙_, subst}
-use Prim.Native.Nat.{ℕ, zero, suc, _+_, _<_, _≤_}
+use Prim.Native.Nat.{ℕ, zero, suc, _<_, _≤_}
 use native.Mathlib.Omega.{arith}
 use native.Mathlib.Nat.{not-suc-le-zero}
 use mathlib.Core.Bool.{Bool, true, false}
@@ -14,8 +14,8 @@ use Rattle.values.specs.declared.ir.SemanticInstruction.{SemanticInstruction}
 use Rattle.values.specs.Values.{choose}
 use Rattle.records.specs.Lift.{liftOf}
 use Rattle.records.specs.Refusals.{answerOf, planOf}
-use Rattle.records.specs.Walk.{filled, recordsAfter, ElementWise}
-use Rattle.records.proofs.Plan.{accepted, within}
+use Rattle.records.specs.Walk.{filled, ElementWise}
+use Rattle.records.proofs.Plan.{within}
 
 fits : {n m l : ℕ} → suc n ≤ m → l ≡ m → n < l
 fits a e = omega (arith, a, e)

@@ -1,10 +1,9 @@
 -- The laws of `lowest`, for a loop that goes up.
 -- Assumes nothing.
-use Prim.Native.Nat.{ℕ, zero, suc, _+_, _-_, _<_, _≤_}
+use Prim.Native.Nat.{ℕ, suc, _+_, _-_, _<_, _≤_}
 use mathlib.Core.Path.{_≡_, ap}
 use mathlib.Core.Bool.{Bool, true, false}
 use native.Mathlib.Omega.{arith}
-use Rattle.records.specs.declared.refusals.Place.{Place}
 use Rattle.records.specs.declared.refusals.Place.the-variants.{Nowhere, At}
 use Rattle.records.specs.Refusals.{lowest}
 use Rattle.values.specs.Values.{choose}

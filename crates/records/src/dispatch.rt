@@ -21,7 +21,7 @@ use values::ir::CompanionRole;
 use values::ir::ImplicitEffect;
 use values::ir::TypedOperand;
 
-const OFFSET_SJ: usize = 16777215;
+const OFFSET_SJ: usize = fields::word::OFFSET_SJ as usize;
 
 fn extended_index(words: &[u32], pc: usize) -> usize
     requires { ⌜ pc < 32768 ⌝ }

@@ -2,8 +2,8 @@
 ghost use mathlib.Core.Path.{_≡_};
 ghost use Prim.Native.Nat.{_<_, _≤_};
 ghost use lib.ListN.{length};
-ghost use Rattle.fields.specs.Word.{opcodeOf, cOf};
-ghost use Rattle.fields.specs.Table.{opcodeTable, fallbackOf};
+ghost use Rattle.fields.specs.Word.{opcodeOf};
+ghost use Rattle.fields.specs.Table.{fallbackOf};
 ghost use Rattle.records.specs.Lift.{fallbackBy, before, companionPc, confidenceOf, liftOf};
 ghost use Rattle.records.specs.Walk.{blank, liftedOf, recordAt};
 use crate::dispatch::lift_body;
@@ -13,9 +13,8 @@ use crate::refusals::planned;
 use families::builders::*;
 use families::parts::event_of;
 use fields::columns::*;
-use fields::lookup::companion_in;
-use fields::lookup::fallback_in;
-use fields::lookup::table;
+use fields::lookup::companion;
+use fields::lookup::fallback;
 use fields::opcodes::*;
 use fields::word::decode;
 use fields::word::opcode;
@@ -32,11 +31,10 @@ pub struct Lifted {
     pub instruction: SemanticInstruction,
 }
 
-fn fallback_of(table: &[u8; 512], word: u32, c: u8) -> Fallback
-    requires { ⌜ now table ≡ opcodeTable ⌝ }
+fn fallback_of(word: u32, c: u8) -> Fallback
     ensures { λ r. ⌜ r ≡ fallbackBy (fallbackOf (opcodeOf word)) c ⌝ }
 {
-    let rule = fallback_in(table, word);
+    let rule = fallback(word);
     if rule == NO_FALLBACK {
         Fallback::NoFallback
     } else if rule == BY_C {
@@ -56,8 +54,8 @@ fn word_before(pc: usize) -> OptionalPc
     }
 }
 
-fn companion_of(table: &[u8; 512], word: u32, pc: usize) -> OptionalPc
-    requires { ⌜ (now table ≡ opcodeTable) × (pc < 32768) ⌝ }
+fn companion_of(word: u32, pc: usize) -> OptionalPc
+    requires { ⌜ pc < 32768 ⌝ }
     ensures { λ r. ⌜ r ≡ companionPc (opcodeOf word) pc ⌝ }
 {
     let number = opcode(word);
@@ -67,7 +65,7 @@ fn companion_of(table: &[u8; 512], word: u32, pc: usize) -> OptionalPc
     if number == OP_EXTRAARG {
         return word_before(pc);
     }
-    let wanted = companion_in(table, word);
+    let wanted = companion(word);
     if wanted == EXTRA_AFTER {
         OptionalPc::Pc(pc + 1)
     } else if wanted == ARITHMETIC_BEFORE {
@@ -101,7 +99,6 @@ pub(crate) fn lift_at<'a>(
     let raw = decode(raw_word);
     let number = opcode(raw_word);
     let body = lift_body(words, tags, payloads, names, pc, raw_word, raw, number);
-    let entries = table();
     let operands = body.operands;
     let reads = body.reads;
     let writes = body.writes;
@@ -115,9 +112,9 @@ pub(crate) fn lift_at<'a>(
         reads,
         writes,
         implicit_effect,
-        metamethod_fallback: fallback_of(&entries, raw_word, raw.c),
+        metamethod_fallback: fallback_of(raw_word, raw.c),
         jump_target,
-        companion_pc: companion_of(&entries, raw_word, pc),
+        companion_pc: companion_of(raw_word, pc),
         confidence: confidence_of(number),
     }
 }

@@ -1,6 +1,6 @@
 -- The lengths, and the pass from the highest word down that fills them. Assumes nothing.
 use mathlib.Core.Path.{_≡_, sym, ap, subst, _∙_}
-use mathlib.Core.Logic.{_⊎_, ⊎-elim}
+use mathlib.Core.Logic.{⊎-elim}
 use mathlib.Core.Bool.{Bool, true, false, cond, _&&_}
 use mathlib.Core.List.{List, [], _∷_}
 use Prim.Native.Nat.{ℕ, zero, suc, _+_, _-_, _*_, _≤_, _<_, zero-le}
@@ -13,7 +13,7 @@ use Rattle.runs.specs.Graph.{Graph, In, Lawful}
 use Rattle.runs.specs.Marks.{markOf}
 use Rattle.runs.specs.Longest.{best, within, heaviest, lengthOf}
 use Rattle.runs.specs.Invariants.{Filled, at}
-use Rattle.runs.proofs.Order.{split, one-of, bit}
+use Rattle.runs.proofs.Order.{past, one-of, bit}
 use Rattle.runs.proofs.Paths.{Reach, next}
 use Rattle.runs.proofs.Heaviest.{best-same, heaviest-is}
 use Rattle.runs.proofs.Moves.{at-set}
@@ -80,11 +80,8 @@ module _ (g : Graph) (law : Lawful g) (w : ℕ → ℕ) (m l : List ℕ) (p : �
         m-long = k .m-long;
         l-long = simp length-set (k .l-long);
         marks = k .marks;
-        from = λ q d i. ⊎-elim (λ x. x .1 ∙ e ∙ ap (lengthOf g w) (sym (x .0))) (λ x. x .1 ∙ k .from q (above q d (x .0)) i) (at-set l p v q (omega (arith, k .l-long)));
+        from = λ q d i. ⊎-elim (λ x. x .1 ∙ e ∙ ap (lengthOf g w) (sym (x .0))) (λ x. x .1 ∙ k .from q (omega (arith, past d (x .0))) i) (at-set l p v q (omega (arith, k .l-long)));
       }
-    where
-      above : (q : ℕ) → p ≤ q → (q ≡ p → ⊥) → p + 1 ≤ q
-      above q d n = ⊎-elim (λ e. absurd (n (omega arith))) (λ e. omega arith) (split q p)
 
 -- the lowest word that is marked and passes a test, after word p: m its mark, b its test, i the lowest above it
 module _ (m : ℕ) (b : Bool) (p i : ℕ) where

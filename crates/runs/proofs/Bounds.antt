@@ -2,7 +2,7 @@
 -- Assumes nothing.
 use Prim.Native.Nat.{ℕ, _+_, _<_}
 use mathlib.Core.Path.{_≡_, refl}
-use mathlib.Core.Bool.{Bool, true, false, _||_, true≢false}
+use mathlib.Core.Bool.{Bool, true, false, cond, _||_}
 use mathlib.Core.List.{List}
 use lib.Dec.{ltb, leb, eqb}
 use lib.IntN.{ℤ, pos, negsuc}
@@ -10,11 +10,12 @@ use lib.ListN.{length, getD}
 use borrow.Author.Tests.{ltb-true, leb-false}
 use Rattle.fields.specs.Opcodes.{«OP_CALL», «OP_TFORCALL»}
 use Rattle.fields.specs.Word.{kOf}
-use Rattle.fields.specs.Table.{pick, StepClass, following, returning, branching, skipping, skippingIfK, jumping, looping, preparing, entering, invalid, classOf}
+use Rattle.fields.specs.Table.{StepClass, following, returning, branching, skipping, skippingIfK, jumping, looping, preparing, entering, invalid, classOf}
 use Rattle.runs.specs.declared.edges.Successors.{Successors}
 use Rattle.runs.specs.declared.edges.Successors.the-variants.{One, Two}
 use Rattle.runs.specs.Successors.{unless, one, ordered, two, opcodeAt, nextOf, companionPresent, successorsOf, servesOf}
 use Rattle.runs.specs.Laws.{Below, Laws}
+use Rattle.runs.proofs.Tests.{neither}
 
 -- a test, and what it says where it holds
 by-test : (n : ℕ) (t : Bool) (s : Successors) → (t ≡ true → Below n s) → Below n (unless t s)
@@ -22,7 +23,7 @@ unfolding unless
 by-test n true s f = f refl
 by-test n false s f = tt
 
-picked : (n : ℕ) (t : Bool) (a b : Successors) → (t ≡ true → Below n a) → Below n b → Below n (pick t a b)
+picked : (n : ℕ) (t : Bool) (a b : Successors) → (t ≡ true → Below n a) → Below n b → Below n (cond t a b)
 picked n true a b f g = f refl
 picked n false a b f g = g
 
@@ -58,14 +59,9 @@ below ws p =
     by-test (length ws) (ltb p (length ws)) _ λ e. by-test (length ws) (companionPresent ws p) _ λ d.
     next-below (classOf (opcodeAt ws p)) (length ws) (getD ws p 0) p
 
-last-test : (a b c : Bool) → (a || b || c) ≡ false → c ≡ false
-last-test false false c e = e
-last-test false true c e = absurd (true≢false e)
-last-test true b c e = absurd (true≢false e)
-
 pub forward : (ws : List ℕ) (p q : ℕ) → servesOf ws p q ≡ false → p < q
 unfolding servesOf
-forward ws p q e = leb-false q p (last-test (eqb (opcodeAt ws p) «OP_CALL») (eqb (opcodeAt ws p) «OP_TFORCALL») (leb q p) e)
+forward ws p q e = leb-false q p (neither (eqb (opcodeAt ws p) «OP_CALL» || eqb (opcodeAt ws p) «OP_TFORCALL») (leb q p) e .1)
 
 pub laws : Laws
 laws = record { below = below; forward = forward }

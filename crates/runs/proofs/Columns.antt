@@ -1,15 +1,17 @@
 -- The numbers in the columns of the opcode table lead back to what they stand for.
 -- Assumes nothing.
-use Prim.Native.Nat.{ℕ, _+_, _*_, _/_, _%_, _≤_, _<_}
+use Prim.Native.Nat.{ℕ, _+_, _*_, _/_, _%_, _≤_}
 use mathlib.Core.Path.{_≡_, refl, ap, _∙_}
 use mathlib.Core.List.{List}
 use native.Mathlib.Omega.{arith}
 use lib.ListN.{getD, List·getD-eq-default}
 use Rattle.fields.specs.Word.{opcodeOf}
 use Rattle.fields.specs.Table.{StepClass, following, returning, branching, skipping, skippingIfK, jumping, looping, preparing, entering, invalid, classNumber, classOf, Companion, alone, metamethodAfter, arithmeticBefore, jumpAfter, extraAfter, extraAfterIfK, callAtTarget, loopAfter, companionNumber, companionOf, opcodeTable}
+use Rattle.fields.specs.Packed.{bothOf}
+use Rattle.fields.proofs.Bytes.{low-half, high-half}
 use Rattle.fields.proofs.Entries.{entry}
 use Rattle.runs.specs.Successors.{opcodeAt}
-use Rattle.runs.specs.Columns.{classes, classFrom, companions, companionFrom, bothOf}
+use Rattle.runs.specs.Columns.{classes, classFrom, companions, companionFrom}
 
 pub class-back : (x : StepClass) → classFrom (classNumber x) ≡ x
 unfolding classFrom
@@ -58,27 +60,15 @@ module _ (table ws : List ℕ) (p : ℕ) (right : table ≡ opcodeTable) where
       (companion-back (companionOf (opcodeOf (getD ws p 0))))
 
 -- the same, from both columns in a byte
-class-low : (x : StepClass) → classNumber x < 16
-class-low following = omega arith
-class-low returning = omega arith
-class-low branching = omega arith
-class-low skipping = omega arith
-class-low skippingIfK = omega arith
-class-low jumping = omega arith
-class-low looping = omega arith
-class-low preparing = omega arith
-class-low entering = omega arith
-class-low invalid = omega arith
-
 module _ (ws : List ℕ) (p both : ℕ) (right : both ≡ bothOf (opcodeOf (getD ws p 0))) where
   pub class-of-both : classFrom (both % 16) ≡ classOf (opcodeAt ws p)
   unfolding opcodeAt
   class-of-both =
       let o : ℕ = opcodeOf (getD ws p 0) in
-      ap classFrom (omega (arith, class-low (classOf o))) ∙ class-back (classOf o)
+      ap classFrom (low-half o right) ∙ class-back (classOf o)
 
   pub companion-of-both : companionFrom (both / 16) ≡ companionOf (opcodeAt ws p)
   unfolding opcodeAt
   companion-of-both =
       let o : ℕ = opcodeOf (getD ws p 0) in
-      ap companionFrom (omega (arith, class-low (classOf o))) ∙ companion-back (companionOf o)
+      ap companionFrom (high-half o right) ∙ companion-back (companionOf o)

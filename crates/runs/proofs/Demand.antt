@@ -1,23 +1,26 @@
 -- Demand 3, first half, of the definition that the contract of `longest_run` cites. Assumes nothing.
-use mathlib.Core.Path.{_≡_, refl, sym, ap, _∙_}
-use mathlib.Core.Logic.{_⊎_, inl, inr, ⊎-elim}
-use mathlib.Core.Bool.{Bool, true, false, _&&_}
+use mathlib.Core.Path.{_≡_, refl, sym, subst, _∙_}
+use mathlib.Core.Logic.{_↔_, _⊎_, inl, inr, ⊎-elim}
+use mathlib.Core.Bool.{true}
 use mathlib.Core.List.{List, [], _∷_}
 use Prim.Native.Nat.{ℕ, _≤_, _<_}
+use native.Mathlib.Nat.{pos-of-ne-zero}
 use native.Mathlib.Omega.{arith}
 use borrow.Author.Tests.{eqb-true, eq-eqb, lt-ltb, le-ltb}
 use lib.ListN.{length}
+use Rattle.runs.specs.declared.longest.Run.{Run}
 use Rattle.runs.specs.declared.longest.Run.the-variants.{Accepted, Refused}
 use Rattle.runs.specs.Graph.{Graph, Reachable, weigh}
 use Rattle.runs.specs.Marks.{markOf}
-use Rattle.runs.specs.Longest.{lowest, longest, first}
+use Rattle.runs.specs.Longest.{lowestFrom, longest, first}
 use Rattle.runs.specs.Instance.{graphOf, unitWeight}
-use Rattle.runs.specs.Run.{mostWords, reachesInvalid, lowestInvalid, runOf, numberOf, longestOf, firstOf}
+use Rattle.runs.specs.Run.{mostWords, reachesInvalid, lowestInvalid, runOf}
 use Rattle.runs.specs.Meaning.{Meaning}
-use Rattle.runs.specs.Demand.{MeetsInvalid, Passes, RunsTooLong, Demand}
+use Rattle.runs.specs.Demand.{MeetsInvalidAt, MeetsInvalid, Passes, RunsTooLong, Demand}
 use Rattle.runs.proofs.Order.{split, same-or-not}
-use Rattle.runs.proofs.Paths.{reach-in, reach-of}
-use Rattle.runs.proofs.Lists.{lowest-first}
+use Rattle.runs.proofs.Tests.{both}
+use Rattle.runs.proofs.Paths.{reach-in, reach-of, segment-start}
+use Rattle.runs.proofs.Lists.{lowest-first, apart}
 use Rattle.runs.proofs.Meaning.{meaning}
 use Rattle.runs.proofs.Outcome.{run-7, run-words}
 use Rattle.runs.proofs.Lawful.{lawful}
@@ -26,13 +29,6 @@ weigh-counts : (ps : List ℕ) → weigh unitWeight ps ≡ length ps
 weigh-counts [] = refl
 weigh-counts (p ∷ ps) = let h = weigh-counts ps in omega arith
 
-both : (a b : Bool) → (a && b) ≡ true → (a ≡ true) × (b ≡ true)
-both true b e = (refl, e)
-both false b e = absurd (let z : _≡_ {A = ℕ} 0 1 = cc in omega arith)
-
-above : {n : ℕ} → (n ≡ 0 → ⊥) → 0 < n
-above {n} z = omega arith
-
 module _ (ws : List ℕ) where
   abbrev graph : Graph
   graph = graphOf ws
@@ -40,25 +36,26 @@ module _ (ws : List ℕ) where
   means : Meaning graph unitWeight
   means = meaning graph (lawful ws) unitWeight (λ p. omega arith)
 
-  -- a reachable invalid word is met by a path, and the other way round
-  met : lowestInvalid ws < length ws → MeetsInvalid ws
+  inside : {p : ℕ} → Reachable graph p → p < length ws
+  inside r = reach-in graph (reach-of graph r)
+
+  -- the lowest reachable invalid word is met by a path, and none below it is
+  met : lowestInvalid ws < length ws → MeetsInvalidAt ws (lowestInvalid ws)
   unfolding lowestInvalid
   met h =
-      let p = lowest (reachesInvalid ws) 0 (length ws) in
       let e = both _ _ (lowest-first (reachesInvalid ws) 0 (length ws) .holds (omega arith)) in
-      let r = means .mark-one p h .0 (eqb-true _ _ (e .0)) in
-      record { words = r .words; path = r .path; word = p; on = r .on; invalid = e .1 }
+      record { reachable = means .mark-one (lowestFrom (reachesInvalid ws) 0 (length ws)) h .0 (eqb-true _ _ (e .0)); invalid = e .1 }
+
+  least-met : (p : ℕ) → MeetsInvalidAt ws p → lowestInvalid ws ≤ p
+  unfolding lowestInvalid
+  least-met p m =
+      let y : reachesInvalid ws p ≡ true = simp (eq-eqb (markOf graph p) 1 (means .mark-one p (inside (m .reachable)) .1 (m .reachable)), m .invalid) in
+      ⊎-elim (λ d. d)
+      (λ d. absurd (apart (reachesInvalid ws) p y (lowest-first (reachesInvalid ws) 0 (length ws) .not-before p (omega arith) d)))
+      (split (lowestFrom (reachesInvalid ws) 0 (length ws)) p)
 
   unmet : length ws ≤ lowestInvalid ws → MeetsInvalid ws → ⊥
-  unfolding lowestInvalid
-  unmet h m =
-      let p = m .word in
-      let r : Reachable graph p = record { words = m .words; path = m .path; on = m .on } in
-      let l = reach-in graph (reach-of graph r) in
-      let y : reachesInvalid ws p ≡ true = simp (eq-eqb (markOf graph p) 1 (means .mark-one p l .1 r), m .invalid) in
-      let n : reachesInvalid ws p ≡ false = lowest-first (reachesInvalid ws) 0 (length ws) .not-before p (omega arith) (omega (arith, l)) in
-      let z : _≡_ {A = ℕ} 0 1 = cc in
-      omega arith
+  unmet h m = omega (arith, least-met (m .word) (m .met), inside (m .met .reachable))
 
   passes-most : {p k : ℕ} → Passes ws p k → k ≤ longest graph unitWeight
   passes-most {p} s = omega (arith, s .count, weigh-counts (p ∷ s .rest), means .longest-most p (s .rest) (s .segment))
@@ -68,46 +65,94 @@ module _ (ws : List ℕ) where
       let a = means .first-some z in
       record { rest = a .0; segment = a .1; count = sym (weigh-counts (first graph unitWeight ∷ a .0)) ∙ a .2 }
 
-  module _ (a b : ℕ) where
-    refused-for : (number place : ℕ) → runOf ws a b ≡ Refused number place → 0 < number → (length ws ≡ 0) ⊎ (MeetsInvalid ws ⊎ RunsTooLong ws) → Demand ws a b
-    refused-for number place e h ground =
-        let n : numberOf (runOf ws a b) ≡ number = ap numberOf e in
-        record {
-          refused = (λ k. ground, λ k. omega arith);
-          bounded = λ z. absurd (omega arith);
-          reached = λ z. absurd (omega arith);
-          lowest = λ z. absurd (omega arith);
-        }
+  passes-some : {p k : ℕ} → Passes ws p k → 0 < length ws
+  passes-some s = omega (arith, reach-in graph (segment-start graph (s .segment)))
 
-    accepted : 0 < length ws → length ws ≤ lowestInvalid ws → longest graph unitWeight ≤ mostWords → runOf ws a b ≡ Accepted (longest graph unitWeight) (first graph unitWeight) → Demand ws a b
-    accepted some valid short e =
-        let n : numberOf (runOf ws a b) ≡ 0 = ap numberOf e in
+  -- Each number in turn.
+
+  abbrev Ground : Type 0
+  Ground = (length ws ≡ 0) ⊎ (MeetsInvalid ws ⊎ RunsTooLong ws)
+
+  -- a refusal that names no place
+  unplaced : (number : ℕ) → 0 < number → (number ≡ 8 → ⊥) → Ground → (number ≡ 7) ↔ (length ws ≡ 0) → (MeetsInvalid ws → ⊥) → (number ≡ 9) ↔ RunsTooLong ws → Demand ws (Refused number 0)
+  unplaced number h other ground seven valid nine =
+      record {
+        refused = (λ k. ground, λ k. h);
+        seven = seven;
+        eight = (λ e. absurd (other e), λ m. absurd (valid m));
+        nine = (λ e. (valid, nine .0 e), λ t. nine .1 (t .1));
+        place = λ e. absurd (other e);
+        place-lowest = λ e. absurd (other e);
+        no-place = λ n. refl;
+        bounded = λ z. absurd (omega arith);
+        reached = λ z. absurd (omega arith);
+        first-lowest = λ z. absurd (omega arith);
+      }
+
+  none : length ws ≡ 0 → Demand ws (Refused 7 0)
+  none z =
+      unplaced 7 (omega arith) (λ e. omega arith) (inl z) (λ e. z, λ e. refl)
+      (λ m. omega (arith, inside (m .met .reachable))) (λ e. absurd (omega arith), λ t. absurd (omega (arith, passes-some (t .passes))))
+
+  invalid : lowestInvalid ws < length ws → Demand ws (Refused 8 (lowestInvalid ws))
+  invalid h =
+      let m : MeetsInvalid ws = record { word = lowestInvalid ws; met = met h } in
+      record {
+        refused = (λ k. inr (inl m), λ k. omega arith);
+        seven = (λ e. absurd (omega arith), λ z. absurd (omega arith));
+        eight = (λ e. m, λ e. refl);
+        nine = (λ e. absurd (omega arith), λ t. absurd (t .0 m));
+        place = λ e. met h;
+        place-lowest = λ e. least-met;
+        no-place = λ n. absurd (n refl);
+        bounded = λ z. absurd (omega arith);
+        reached = λ z. absurd (omega arith);
+        first-lowest = λ z. absurd (omega arith);
+      }
+
+  module _ (some : 0 < length ws) (valid : length ws ≤ lowestInvalid ws) where
+    long : mostWords < longest graph unitWeight → Demand ws (Refused 9 0)
+    long h =
+        let t : RunsTooLong ws = record { start = first graph unitWeight; count = longest graph unitWeight; over = h; passes = passes-first some } in
+        unplaced 9 (omega arith) (λ e. omega arith) (inr (inr t)) (λ e. absurd (omega arith), λ z. absurd (omega arith)) (unmet valid) (λ e. t, λ e. refl)
+
+    accepted : longest graph unitWeight ≤ mostWords → Demand ws (Accepted (longest graph unitWeight) (first graph unitWeight))
+    accepted h =
         record {
-          refused = (λ k. absurd (omega arith), λ k. absurd (none k));
-          bounded = λ z p k s. omega (arith, ap longestOf e, passes-most s);
-          reached = λ z. rw e (passes-first some);
-          lowest = λ z p s. least p (rw e at s);
+          refused = (λ k. absurd (omega arith), λ k. absurd (groundless k));
+          seven = (λ e. absurd (omega arith), λ z. absurd (omega arith));
+          eight = (λ e. absurd (omega arith), λ m. absurd (unmet valid m));
+          nine = (λ e. absurd (omega arith), λ t. absurd (short (t .1)));
+          place = λ e. absurd (omega arith);
+          place-lowest = λ e. absurd (omega arith);
+          no-place = λ n. refl;
+          bounded = λ z p k s. passes-most s;
+          reached = λ z. passes-first some;
+          first-lowest = λ z p s. means .first-lowest p (s .rest) (s .segment) (weigh-counts (p ∷ s .rest) ∙ s .count);
         }
       where
-        none : (length ws ≡ 0) ⊎ (MeetsInvalid ws ⊎ RunsTooLong ws) → ⊥
-        none (inl z) = omega arith
-        none (inr (inl m)) = unmet valid m
-        none (inr (inr r)) = omega (arith, r .over, passes-most (r .passes))
+        short : RunsTooLong ws → ⊥
+        short t = omega (arith, t .over, passes-most (t .passes))
 
-        least : (p : ℕ) → Passes ws p (longest graph unitWeight) → firstOf (runOf ws a b) ≤ p
-        least p s = omega (arith, ap firstOf e, means .first-lowest p (s .rest) (s .segment) (weigh-counts (p ∷ s .rest) ∙ s .count))
+        groundless : Ground → ⊥
+        groundless (inl z) = omega arith
+        groundless (inr (inl m)) = unmet valid m
+        groundless (inr (inr t)) = short t
 
-    pub demand : length ws ≤ mostWords → length ws ≤ a → length ws ≤ b → Demand ws a b
-    demand few h k =
+  module _ (a b : ℕ) (few : length ws ≤ mostWords) (h : length ws ≤ a) (k : length ws ≤ b) where
+    of-run : {r : Run} → Demand ws r → runOf ws a b ≡ r → Demand ws (runOf ws a b)
+    of-run d e = subst (λ (r : Run). Demand ws r) (sym e) d
+
+    pub demand : Demand ws (runOf ws a b)
+    demand =
         ⊎-elim
-        (λ z. refused-for 7 0 (run-7 ws a b few h k z) (omega arith) (inl z))
-        (λ n. let some = above n in let r = run-words ws a b few h k some in
+        (λ z. of-run (none z) (run-7 ws a b few h k z))
+        (λ n. let some = pos-of-ne-zero n in let r = run-words ws a b few h k some in
         ⊎-elim
         (λ valid. ⊎-elim
-        (λ short. accepted some valid short (r ∙ simp (le-ltb (lowestInvalid ws) (length ws) valid, le-ltb mostWords (longest graph unitWeight) short)))
-        (λ long. refused-for 9 0 (r ∙ simp (le-ltb (lowestInvalid ws) (length ws) valid, lt-ltb mostWords (longest graph unitWeight) long)) (omega arith)
-        (inr (inr (record { start = first graph unitWeight; count = longest graph unitWeight; over = long; passes = passes-first some }))))
+        (λ l. of-run (accepted some valid l) (r ∙ simp (le-ltb (lowestInvalid ws) (length ws) valid, le-ltb mostWords (longest graph unitWeight) l)))
+        (λ l. of-run (long some valid l) (r ∙ simp (le-ltb (lowestInvalid ws) (length ws) valid, lt-ltb mostWords (longest graph unitWeight) l)))
         (split (longest graph unitWeight) mostWords))
-        (λ invalid. refused-for 8 (lowestInvalid ws) (r ∙ simp (lt-ltb (lowestInvalid ws) (length ws) invalid)) (omega arith) (inr (inl (met invalid))))
+        (λ l. of-run (invalid l) (r ∙ simp (lt-ltb (lowestInvalid ws) (length ws) l)))
         (split (length ws) (lowestInvalid ws)))
         (same-or-not (length ws) 0)

@@ -78,10 +78,6 @@ module _ (n x b : ℕ) where
   back-none e =
       two-equal n x ∙ ap (λ (z : ℤ). two n z (pos x)) (ap pos (omega arith) ∙ sym (difference-in x b (omega arith)))
 
--- for the last arm of a `match` on the numbers from 0: a number that is none of them is past them
-pub past : {k m : ℕ} → m ≤ k → (k ≡ m → ⊥) → suc m ≤ k
-past {k} {m} h differs = omega arith
-
 -- a test that holds
 let-through : (t : Bool) (s : Successors) → t ≡ true → s ≡ unless t s
 unfolding unless
@@ -99,8 +95,3 @@ module _ (ws : List ℕ) (p : ℕ) where
     pub by-columns : unless (standsAt (companionFrom companion) ws p) (nextOf (classFrom class) (length ws) (getD ws p 0) p) ≡ successorsOf ws p
     unfolding successorsOf companionPresent
     by-columns = rw (d, e) (let-through (ltb p (length ws)) _ (lt-ltb p (length ws) inside))
-
-  -- the most frequent words: p+1, and nothing is asked
-  pub plainly : p < length ws → companionFrom 0 ≡ companionOf (opcodeAt ws p) → classFrom 0 ≡ classOf (opcodeAt ws p) → one (length ws) (pos (p + 1)) ≡ successorsOf ws p
-  unfolding unless companionFrom classFrom
-  plainly inside d e = by-columns 0 0 inside d e

@@ -1,7 +1,6 @@
 pub mod Backward
-pub mod Below
 pub mod Bounds
-pub mod Bytes
+pub mod Clearing
 pub mod Columns
 pub mod Demand
 pub mod Heaviest
@@ -15,4 +14,5 @@ pub mod Moves
 pub mod Order
 pub mod Outcome
 pub mod Paths
+pub mod Tests
 pub mod Turn

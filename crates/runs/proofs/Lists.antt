@@ -1,7 +1,7 @@
 -- The lowest number at which a test holds, the largest of some numbers, and lists by their elements. Assumes nothing.
 use mathlib.Core.Path.{_≡_, refl, sym, ap, ap₂, subst, _∙_}
 use mathlib.Core.Logic.{_⊎_, inl, inr, ⊎-elim}
-use mathlib.Core.Bool.{Bool, true, false, cond}
+use mathlib.Core.Bool.{Bool, true, false, cond, true≢false}
 use mathlib.Core.List.{List, _∷_, _++_}
 use Prim.Native.Nat.{ℕ, zero, suc, _+_, _-_, _≤_, _<_, max}
 use native.Mathlib.Nat.{not-suc-le-zero, le-of-suc-le-suc, le-antisymm, add-zero}
@@ -9,21 +9,21 @@ use native.Mathlib.Numerals.{add-one}
 use native.Mathlib.Omega.{arith}
 use lib.ListN.{length, getD, take, drop, replicate, take-append-drop}
 use lib.Seq.{ext-getD, getD-take, length-take-le}
-use Rattle.runs.specs.Longest.{most, lowest}
+use Rattle.runs.specs.Longest.{most, lowestFrom}
 use Rattle.runs.specs.Run.{table, over}
-use Rattle.runs.proofs.Order.{split, same-or-not}
+use Rattle.runs.proofs.Order.{split, same-or-not, past}
 
 -- the lowest of the numbers from i up to n, as i goes down
-pub lowest-none : (t : ℕ → Bool) (n : ℕ) → n ≡ lowest t n (n - n)
-unfolding lowest
-lowest-none t n = let e : n - n ≡ 0 = omega arith in sym (ap (lowest t n) e)
+pub lowest-none : (t : ℕ → Bool) (n : ℕ) → n ≡ lowestFrom t n (n - n)
+unfolding lowestFrom
+lowest-none t n = let e : n - n ≡ 0 = omega arith in sym (ap (lowestFrom t n) e)
 
-pub lowest-down : (t : ℕ → Bool) (n i : ℕ) → i < n → lowest t i (n - i) ≡ cond (t i) i (lowest t (i + 1) (n - (i + 1)))
-unfolding lowest
-lowest-down t n i h = let e : n - i ≡ suc (n - (i + 1)) = omega arith in ap (lowest t i) e
+pub lowest-down : (t : ℕ → Bool) (n i : ℕ) → i < n → lowestFrom t i (n - i) ≡ cond (t i) i (lowestFrom t (i + 1) (n - (i + 1)))
+unfolding lowestFrom
+lowest-down t n i h = let e : n - i ≡ suc (n - (i + 1)) = omega arith in ap (lowestFrom t i) e
 
-pub lowest-whole : (t : ℕ → Bool) (n : ℕ) → lowest t 0 (n - 0) ≡ lowest t 0 n
-lowest-whole t n = let e : n - 0 ≡ n = omega arith in ap (lowest t 0) e
+pub lowest-whole : (t : ℕ → Bool) (n : ℕ) → lowestFrom t 0 (n - 0) ≡ lowestFrom t 0 n
+lowest-whole t n = let e : n - 0 ≡ n = omega arith in ap (lowestFrom t 0) e
 
 -- it is where the test holds first
 pub record First (t : ℕ → Bool) (i k a : ℕ) : Type 0 where
@@ -32,43 +32,41 @@ pub record First (t : ℕ → Bool) (i k a : ℕ) : Type 0 where
   pub holds : a < i + k → t a ≡ true
   pub not-before : (p : ℕ) → i ≤ p → p < a → t p ≡ false
 
-pub lowest-first : (t : ℕ → Bool) (i k : ℕ) → First t i k (lowest t i k)
-unfolding lowest
+pub lowest-first : (t : ℕ → Bool) (i k : ℕ) → First t i k (lowestFrom t i k)
+unfolding lowestFrom
 lowest-first t i zero = record { from = omega arith; upto = omega arith; holds = λ h. absurd (omega arith); not-before = λ p h l. absurd (omega arith) }
 lowest-first t i (suc k) = go (lowest-first t (i + 1) k) (t i) refl
   where
-    go : First t (i + 1) k (lowest t (i + 1) k) → (b : Bool) → t i ≡ b → First t i (suc k) (cond b i (lowest t (i + 1) k))
+    go : First t (i + 1) k (lowestFrom t (i + 1) k) → (b : Bool) → t i ≡ b → First t i (suc k) (cond b i (lowestFrom t (i + 1) k))
     go f true e = record { from = omega arith; upto = omega arith; holds = λ h. e; not-before = λ p h l. absurd (omega arith) }
     go f false e =
         record {
           from = omega (arith, f .from);
           upto = omega (arith, f .upto);
           holds = λ h. f .holds (omega arith);
-          not-before = λ p h l. ⊎-elim (λ d. subst (λ (x : ℕ). t x ≡ false) (sym d) e) (λ n. f .not-before p (above p h n) l) (same-or-not p i);
+          not-before = λ p h l. ⊎-elim (λ d. subst (λ (x : ℕ). t x ≡ false) (sym d) e) (λ n. f .not-before p (omega (arith, past h n)) l) (same-or-not p i);
         }
-      where
-        above : (p : ℕ) → i ≤ p → (p ≡ i → ⊥) → i + 1 ≤ p
-        above p h n = ⊎-elim (λ d. absurd (n (omega arith))) (λ d. omega arith) (split p i)
 
-apart : (t : ℕ → Bool) (a : ℕ) → t a ≡ true → t a ≡ false → ⊥
-apart t a y n = let z : _≡_ {A = ℕ} 0 1 = cc in omega arith
+-- a test holds or does not
+pub apart : (t : ℕ → Bool) (a : ℕ) → t a ≡ true → t a ≡ false → ⊥
+apart t a y n = true≢false (sym y ∙ n)
 
 -- so it is that number, whatever way it was found
-pub lowest-is : (t : ℕ → Bool) (k a : ℕ) → a < k → t a ≡ true → ((p : ℕ) → p < a → t p ≡ false) → a ≡ lowest t 0 k
+pub lowest-is : (t : ℕ → Bool) (k a : ℕ) → a < k → t a ≡ true → ((p : ℕ) → p < a → t p ≡ false) → a ≡ lowestFrom t 0 k
 lowest-is t k a l e h =
     let f = lowest-first t 0 k in
     ⊎-elim
-    (λ d. ⊎-elim (λ c. le-antisymm d c) (λ c. absurd (apart t a e (f .not-before a (omega arith) c))) (split (lowest t 0 k) a))
-    (λ d. absurd (apart t (lowest t 0 k) (f .holds (omega arith)) (h (lowest t 0 k) d)))
-    (split a (lowest t 0 k))
+    (λ d. ⊎-elim (λ c. le-antisymm d c) (λ c. absurd (apart t a e (f .not-before a (omega arith) c))) (split (lowestFrom t 0 k) a))
+    (λ d. absurd (apart t (lowestFrom t 0 k) (f .holds (omega arith)) (h (lowestFrom t 0 k) d)))
+    (split a (lowestFrom t 0 k))
 
-pub lowest-nowhere : (t : ℕ → Bool) (k : ℕ) → ((p : ℕ) → p < k → t p ≡ false) → k ≡ lowest t 0 k
+pub lowest-nowhere : (t : ℕ → Bool) (k : ℕ) → ((p : ℕ) → p < k → t p ≡ false) → k ≡ lowestFrom t 0 k
 lowest-nowhere t k h =
     let f = lowest-first t 0 k in
     ⊎-elim
     (λ d. le-antisymm d (omega (arith, f .upto)))
-    (λ d. absurd (apart t (lowest t 0 k) (f .holds (omega arith)) (h (lowest t 0 k) d)))
-    (split k (lowest t 0 k))
+    (λ d. absurd (apart t (lowestFrom t 0 k) (f .holds (omega arith)) (h (lowestFrom t 0 k) d)))
+    (split k (lowestFrom t 0 k))
 
 -- the largest of the numbers f p below k
 pub most-upper : (f : ℕ → ℕ) (k p : ℕ) → p < k → f p ≤ most f k
@@ -76,15 +74,7 @@ unfolding most
 most-upper f zero p h = absurd (not-suc-le-zero h)
 most-upper f (suc k) p h =
     let r = most-upper f k p in
-    ⊎-elim (λ e. omega (arith, ap f e)) (λ n. omega (arith, r (omega (arith, below n)))) (same-or-not p k)
-  where
-    below : (p ≡ k → ⊥) → p < k
-    below n = omega arith
-
-pub most-least : (f : ℕ → ℕ) (k v : ℕ) → ((p : ℕ) → p < k → f p ≤ v) → most f k ≤ v
-unfolding most
-most-least f zero v h = omega arith
-most-least f (suc k) v h = let r = most-least f k v (λ p l. h p (omega arith)) in omega (arith, h k (omega arith))
+    ⊎-elim (λ e. omega (arith, ap f e)) (λ n. omega (arith, r (past (omega arith) (λ e. n (sym e))))) (same-or-not p k)
 
 pub most-attained : (f : ℕ → ℕ) (k : ℕ) → 0 < most f k → (p : ℕ) × (p < k) × (f p ≡ most f k)
 unfolding most
@@ -105,8 +95,8 @@ unfolding most
 most-same f h zero e = refl
 most-same f h (suc k) e = ap₂ max (most-same f h k (λ p l. e p (omega arith))) (e k (omega arith))
 
-pub lowest-same : (t u : ℕ → Bool) (i k : ℕ) → ((p : ℕ) → p < i + k → t p ≡ u p) → lowest t i k ≡ lowest u i k
-unfolding lowest
+pub lowest-same : (t u : ℕ → Bool) (i k : ℕ) → ((p : ℕ) → p < i + k → t p ≡ u p) → lowestFrom t i k ≡ lowestFrom u i k
+unfolding lowestFrom
 lowest-same t u i zero e = refl
 lowest-same t u i (suc k) e = ap₂ (λ (b : Bool) (x : ℕ). cond b i x) (e i (omega arith)) (lowest-same t u (i + 1) k (λ p l. e p (omega arith)))
 

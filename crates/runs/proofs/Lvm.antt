@@ -2,9 +2,9 @@
 -- test, and then a case of the switch at a time.
 -- Assumes nothing.
 use Prim.Native.Nat.{ℕ, _+_, _*_, _<_, _^_}
-use mathlib.Core.Path.{_≡_, refl, ap, sym, _∙_}
+use mathlib.Core.Path.{_≡_, refl, ap, sym, subst, _∙_}
 use mathlib.Core.Logic.{inl, inr, _↔_}
-use mathlib.Core.Bool.{Bool, true, false, true≢false}
+use mathlib.Core.Bool.{Bool, true, false, cond, true≢false}
 use mathlib.Core.List.{List, [], _∷_}
 use native.Mathlib.Omega.{arith}
 use lib.Dec.{T, ltb, eqb, eqb→eq}
@@ -13,17 +13,18 @@ use lib.IntN.{ℤ, pos, negsuc, _+ℤ_, _-ℤ_, +ℤ-assoc, +ℤ-comm, +ℤ-idr}
 use lib.ListN.{length, getD}
 use borrow.Author.Tests.{ltb-false, eqb-true, eqb-false, eq-eqb, ne-eqb}
 use Rattle.fields.specs.declared.word.RawInstruction54.{RawInstruction54}
+use Rattle.fields.specs.Opcodes.{«OP_JMP»}
 use Rattle.fields.specs.Word.{opcodeOf, kOf, bxOf, sjOf}
 use Rattle.fields.specs.Lopcodes.{«GET_OPCODE», «GETARG_Bx», «GETARG_sJ», «TESTARG_k»}
-use Rattle.fields.specs.Table.{pick, StepClass, following, returning, branching, skipping, skippingIfK, jumping, looping, preparing, entering, invalid, classNumber, classOf}
+use Rattle.fields.specs.Table.{StepClass, following, returning, branching, skipping, skippingIfK, jumping, looping, preparing, entering, invalid, classNumber, classOf, Companion, jumpAfter, companionNumber, companionOf}
+use Rattle.fields.proofs.Below.{all, all-at}
 use Rattle.fields.proofs.Lopcodes.{agreement}
 use Rattle.runs.specs.declared.edges.Successors.{Successors}
 use Rattle.runs.specs.declared.edges.Successors.the-variants.{One, Two}
-use Rattle.runs.specs.Columns.{classFrom}
-use Rattle.runs.specs.Successors.{unless, one, ordered, two, opcodeAt, nextOf, companionPresent, successorsOf, isInvalid, listOf}
-use Rattle.runs.specs.Lvm.{Body, still, skip, arith as arithmetic, jmp, condjump, testset, call, leave, loop, forprep, tforprep, tforcall, setlist, assert0, absent, waysOf, switch, vmdispatch, placesOf, goesOn, Among, integers, Agreement}
-use Rattle.runs.proofs.Columns.{class-back}
-use Rattle.runs.proofs.Below.{all, all-at}
+use Rattle.runs.specs.Columns.{classFrom, companionFrom}
+use Rattle.runs.specs.Successors.{unless, one, ordered, two, opcodeAt, nextOf, standsAt, companionPresent, successorsOf, isInvalid, listOf}
+use Rattle.runs.specs.Lvm.{Body, still, skip, arith as arithmetic, jmp, condjump, testset, call, leave, loop, forprep, tforprep, tforcall, setlist, assert0, absent, fetch, dojump, waysOf, switch, vmdispatch, targetsOf, waysAt, goesOn, Among, integers, Alike, Agreement}
+use Rattle.runs.proofs.Columns.{class-back, companion-back}
 
 -- The two classifications.
 
@@ -96,7 +97,7 @@ ordered-same : (q r : ℕ) → Same (pos q ∷ pos r ∷ []) (integers (listOf (
 unfolding ordered
 ordered-same q r = go (ltb q r) (ltb r q) refl refl
   where
-    go : (a b : Bool) → ltb q r ≡ a → ltb r q ≡ b → Same (pos q ∷ pos r ∷ []) (integers (listOf (pick a (Two q r) (pick b (Two r q) (One q)))))
+    go : (a b : Bool) → ltb q r ≡ a → ltb r q ≡ b → Same (pos q ∷ pos r ∷ []) (integers (listOf (cond a (Two q r) (cond b (Two r q) (One q)))))
     go true b d e z = (λ m. m, λ m. m)
     go false true d e z = (swapped, swapped)
     go false false d e z =
@@ -112,15 +113,15 @@ two-same n (pos q) (negsuc r) e = absurd (true≢false e)
 two-same n (negsuc q) y e = absurd (true≢false e)
 
 -- A word's fields, by the header's macros.
-module _ (w : ℕ) (fits : w < 2 ^ 32) where
+module _ (w : ℕ) where
   opcode-is : «GET_OPCODE» w ≡ opcodeOf w
-  opcode-is = ap (λ (i : RawInstruction54). i .«opcode_num») (agreement w fits)
+  opcode-is = ap (λ (i : RawInstruction54). i .«opcode_num») (agreement w)
 
   bx-is : «GETARG_Bx» w ≡ bxOf w
-  bx-is = ap (λ (i : RawInstruction54). i .bx) (agreement w fits)
+  bx-is = ap (λ (i : RawInstruction54). i .bx) (agreement w)
 
   sj-is : «GETARG_sJ» w ≡ sjOf w
-  sj-is = ap (λ (i : RawInstruction54). i .sj) (agreement w fits)
+  sj-is = ap (λ (i : RawInstruction54). i .sj) (agreement w)
 
 test-is : (w : ℕ) → «TESTARG_k» w ≡ kOf w * 2 ^ 15
 test-is w = and-high w 1 15
@@ -145,36 +146,36 @@ module _ (n : ℕ) where
       let both = two-by x y x' y' c d e z in
       (λ m. both .0 (swapped m), λ m. swapped (both .1 m))
 
-module _ (n w p : ℕ) (fits : w < 2 ^ 32) where
+module _ (ws : List ℕ) (n w p : ℕ) where
   list-same : (t : Bool) → eqb (kOf w) 1 ≡ t
-      → isInvalid (pick t (one n (pos (p + 2))) (one n (pos (p + 1)))) ≡ false
-      → Same (placesOf (waysOf setlist (pos (p + 1)) w)) (integers (listOf (pick t (one n (pos (p + 2))) (one n (pos (p + 1))))))
+      → isInvalid (cond t (one n (pos (p + 2))) (one n (pos (p + 1)))) ≡ false
+      → Same (targetsOf (waysOf ws setlist (pos (p + 1)) w)) (integers (listOf (cond t (one n (pos (p + 2))) (one n (pos (p + 1))))))
   list-same true d e = rw (k-set w (eqb-true _ _ d)) (one-by n _ (pos (p + 2)) (ap pos (omega arith)) e)
   list-same false d e = rw (k-clear w (eqb-false _ _ d)) (one-by n _ (pos (p + 1)) refl e)
 
   body-same : (b : Body) → isInvalid (nextOf (classBy b) n w p) ≡ false
-      → Same (placesOf (waysOf b (pos (p + 1)) w)) (integers (listOf (nextOf (classBy b) n w p)))
+      → Same (targetsOf (waysOf ws b (pos (p + 1)) w)) (integers (listOf (nextOf (classBy b) n w p)))
   body-same still e = one-by n _ (pos (p + 1)) refl e
   body-same skip e = one-by n _ (pos (p + 2)) (ap pos (omega arith)) e
   body-same arithmetic e = two-back n (pos (p + 1)) _ (pos (p + 1)) (pos (p + 2)) refl (ap pos (omega arith)) e
-  body-same jmp e = one-by n _ (pos (p + 1) +ℤ sjOf w) (ap (pos (p + 1) +ℤ_) (+ℤ-idr («GETARG_sJ» w) ∙ sj-is w fits)) e
+  body-same jmp e = one-by n _ (pos (p + 1) +ℤ sjOf w) (ap (pos (p + 1) +ℤ_) (+ℤ-idr («GETARG_sJ» w) ∙ sj-is w)) e
   body-same condjump e = two-back n (pos (p + 1)) _ (pos (p + 1)) (pos (p + 2)) refl (ap pos (omega arith)) e
   body-same testset e = two-back n (pos (p + 1)) _ (pos (p + 1)) (pos (p + 2)) refl (ap pos (omega arith)) e
   body-same call e = one-by n _ (pos (p + 1)) refl e
   body-same leave e = itself []
   body-same loop e =
-      two-by n _ _ (pos (p + 1) -ℤ pos (bxOf w)) (pos (p + 1)) (ap (λ (b : ℕ). pos (p + 1) -ℤ pos b) (bx-is w fits)) refl e
+      two-by n _ _ (pos (p + 1) -ℤ pos (bxOf w)) (pos (p + 1)) (ap (λ (b : ℕ). pos (p + 1) -ℤ pos b) (bx-is w)) refl e
   body-same forprep e =
-      two-back n _ _ (pos (p + 1)) (pos (p + 2 + bxOf w)) refl (ap pos (omega (arith, bx-is w fits))) e
-  body-same tforprep e = one-by n _ (pos (p + 1 + bxOf w)) (ap pos (omega (arith, bx-is w fits))) e
+      two-back n _ _ (pos (p + 1)) (pos (p + 2 + bxOf w)) refl (ap pos (omega (arith, bx-is w))) e
+  body-same tforprep e = one-by n _ (pos (p + 1 + bxOf w)) (ap pos (omega (arith, bx-is w))) e
   body-same tforcall e = one-by n _ (pos (p + 1)) refl e
   body-same setlist e = list-same (eqb (kOf w) 1) refl e
   body-same assert0 e = absurd (true≢false e)
   body-same absent e = absurd (true≢false e)
 
-  found-same : (b : Body) (s : Successors) (places : List ℤ) → places ≡ placesOf (waysOf b (pos (p + 1)) w)
-      → s ≡ nextOf (classBy b) n w p → isInvalid s ≡ false → Same places (integers (listOf s))
-  found-same b s places d c e = rw (d, c) (body-same b (sym (ap isInvalid c) ∙ e))
+  found-same : (b : Body) (s : Successors) (targets : List ℤ) → targets ≡ targetsOf (waysOf ws b (pos (p + 1)) w)
+      → s ≡ nextOf (classBy b) n w p → isInvalid s ≡ false → Same targets (integers (listOf s))
+  found-same b s targets d c e = rw (d, c) (body-same b (sym (ap isInvalid c) ∙ e))
 
 -- the steps of a word that is not bad are those of its class
 steps-by : (ws : List ℕ) (p : ℕ) → isInvalid (successorsOf ws p) ≡ false
@@ -185,19 +186,106 @@ steps-by ws p e =
     let first = passed (ltb p (length ws)) (unless (companionPresent ws p) steps) e in
     first ∙ passed (companionPresent ws p) steps (sym (ap isInvalid first) ∙ e)
 
-same : (ws : List ℕ) (p : ℕ) → getD ws p 0 < 2 ^ 32 → isInvalid (successorsOf ws p) ≡ false
-    → Same (goesOn ws p) (integers (listOf (successorsOf ws p)))
-unfolding goesOn opcodeAt
-same ws p fits e =
-    found-same (length ws) (getD ws p 0) p fits (vmdispatch switch (opcodeOf (getD ws p 0))) (successorsOf ws p) (goesOn ws p)
-    (ap (λ (o : ℕ). placesOf (waysOf (vmdispatch switch o) (pos (p + 1)) (getD ws p 0))) (opcode-is (getD ws p 0) fits))
+same : (ws : List ℕ) (p : ℕ) → isInvalid (successorsOf ws p) ≡ false → Same (goesOn ws p) (integers (listOf (successorsOf ws p)))
+unfolding waysAt opcodeAt
+same ws p e =
+    found-same ws (length ws) (getD ws p 0) p (vmdispatch switch (opcodeOf (getD ws p 0))) (successorsOf ws p) (goesOn ws p)
+    (ap (λ (o : ℕ). targetsOf (waysOf ws (vmdispatch switch o) (pos (p + 1)) (getD ws p 0))) (opcode-is (getD ws p 0)))
     (steps-by ws p e
     ∙ ap (λ (x : StepClass). nextOf x (length ws) (getD ws p 0) p) (class-by (opcodeOf (getD ws p 0)) (omega arith)))
     e
+
+-- A JMP that is done at once.
+
+abbrev isTest : Body → Bool
+isTest still = false
+isTest skip = false
+isTest arithmetic = false
+isTest jmp = false
+isTest condjump = true
+isTest testset = true
+isTest call = false
+isTest leave = false
+isTest loop = false
+isTest forprep = false
+isTest tforprep = false
+isTest tforcall = false
+isTest setlist = false
+isTest assert0 = false
+isTest absent = false
+
+wants-right : ℕ → Bool
+wants-right o = cond (isTest (vmdispatch switch o)) (eqb (companionNumber (companionOf o)) (companionNumber jumpAfter)) true
+
+wants-below : T (all wants-right 128)
+unfolding wants-right companionOf
+wants-below = tt
+
+wants-jump : (o : ℕ) → o < 128 → isTest (vmdispatch switch o) ≡ true → companionOf o ≡ jumpAfter
+unfolding wants-right
+wants-jump o h e =
+    let wanted : Bool = eqb (companionNumber (companionOf o)) (companionNumber jumpAfter) in
+    let right : T wanted = subst (λ (t : Bool). T (cond t wanted true)) e (all-at wants-right 128 wants-below o h) in
+    sym (companion-back (companionOf o)) ∙ (ap companionFrom (eqb→eq _ _ right) ∙ companion-back jumpAfter)
+
+held : (t : Bool) (s : Successors) → isInvalid (unless t s) ≡ false → t ≡ true
+unfolding unless
+held true s e = refl
+held false s e = absurd (true≢false e)
+
+opcode-fits : (ws : List ℕ) (p : ℕ) → opcodeAt ws p < 128
+unfolding opcodeAt
+opcode-fits ws p = omega arith
+
+-- a test that is not bad has a JMP after it
+jump-after : (ws : List ℕ) (p : ℕ) → isInvalid (successorsOf ws p) ≡ false → isTest (vmdispatch switch (opcodeAt ws p)) ≡ true
+    → opcodeAt ws (p + 1) ≡ «OP_JMP»
+unfolding successorsOf companionPresent
+jump-after ws p e t =
+    let steps : Successors = nextOf (classOf (opcodeAt ws p)) (length ws) (getD ws p 0) p in
+    let first = passed (ltb p (length ws)) (unless (companionPresent ws p) steps) e in
+    let there : companionPresent ws p ≡ true = held (companionPresent ws p) steps (sym (ap isInvalid first) ∙ e) in
+    eqb-true _ _ (sym (ap (λ (c : Companion). standsAt c ws p) (wants-jump (opcodeAt ws p) (opcode-fits ws p) t)) ∙ there)
 
 one-later : (p : ℕ) (j : ℤ) → pos p +ℤ (j +ℤ pos 1) ≡ pos (p + 1) +ℤ (j +ℤ pos 0)
 one-later p j =
     ap (pos p +ℤ_) (+ℤ-comm j (pos 1)) ∙ (sym (+ℤ-assoc (pos p) (pos 1) j) ∙ ap (pos (p + 1) +ℤ_) (sym (+ℤ-idr j)))
 
+-- where the case of a JMP leads
+jump-ways : (ws : List ℕ) (q : ℕ) → opcodeAt ws q ≡ «OP_JMP» → waysAt ws q ≡ fetch (dojump (pos q) (getD ws q 0) (pos 1)) ∷ []
+unfolding waysAt opcodeAt
+jump-ways ws q e =
+    ap (λ (o : ℕ). waysOf ws (vmdispatch switch o) (pos (q + 1)) (getD ws q 0)) (opcode-is (getD ws q 0) ∙ e)
+    ∙ ap (λ (z : ℤ). fetch z ∷ []) (sym (one-later q («GETARG_sJ» (getD ws q 0))))
+
+module _ (ws : List ℕ) (w p : ℕ) where
+  fetched : (t : Bool) (x y : ℤ) → Alike ws (cond t (fetch x ∷ []) (fetch y ∷ []))
+  fetched true x y = tt
+  fetched false x y = tt
+
+  body-alike : (b : Body) → (isTest b ≡ true → waysAt ws (p + 1) ≡ fetch (dojump (pos (p + 1)) (getD ws (p + 1) 0) (pos 1)) ∷ [])
+      → Alike ws (waysOf ws b (pos (p + 1)) w)
+  body-alike condjump h = (h refl, tt)
+  body-alike testset h = (h refl, tt)
+  body-alike setlist h = fetched (eqb («TESTARG_k» w) 0) (pos (p + 1)) (pos (p + 1) +ℤ pos 1)
+  body-alike still h = tt
+  body-alike skip h = tt
+  body-alike arithmetic h = tt
+  body-alike jmp h = tt
+  body-alike call h = tt
+  body-alike leave h = tt
+  body-alike loop h = tt
+  body-alike forprep h = tt
+  body-alike tforprep h = tt
+  body-alike tforcall h = tt
+  body-alike assert0 h = tt
+  body-alike absent h = tt
+
+alike : (ws : List ℕ) (p : ℕ) → isInvalid (successorsOf ws p) ≡ false → Alike ws (waysAt ws p)
+unfolding waysAt opcodeAt
+alike ws p e =
+    body-alike ws (getD ws p 0) p (vmdispatch switch («GET_OPCODE» (getD ws p 0)))
+    (λ t. jump-ways ws (p + 1) (jump-after ws p e (sym (ap (λ (o : ℕ). isTest (vmdispatch switch o)) (opcode-is (getD ws p 0))) ∙ t)))
+
 pub agreement-holds : Agreement
-agreement-holds = record { same = same; alike = λ p i. one-later p («GETARG_sJ» i) }
+agreement-holds = record { same = same; alike = alike }

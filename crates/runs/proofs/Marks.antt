@@ -3,14 +3,14 @@ use mathlib.Core.Path.{_≡_, refl, sym, subst, _∙_}
 use mathlib.Core.Logic.{inl, inr}
 use mathlib.Core.Bool.{Bool, true, false, cond}
 use mathlib.Core.List.{List, [], _∷_}
-use Prim.Native.Nat.{ℕ, zero, suc, _+_, _-_, _≤_, _<_}
+use Prim.Native.Nat.{ℕ, zero, suc, _+_, _≤_, _<_}
 use native.Mathlib.Omega.{arith}
 use borrow.Author.Tests.{ltb-true, ltb-false, eqb-true, eqb-false}
 use lib.Dec.{ltb, eqb}
 use lib.ListN.{getD, set, replicate, length-replicate, getD-replicate}
 use Rattle.runs.specs.Graph.{Graph, In, Lawful, Reachable}
 use Rattle.runs.specs.Invariants.{Closed, Marking}
-use Rattle.runs.specs.Marks.{Search, push, pushAll, turn, turns, blank, markOf}
+use Rattle.runs.specs.Marks.{Search, push, pushAll, turn, turns, emptySearch, markOf}
 use Rattle.runs.proofs.Paths.{Reach, start, some-word, reach-of, reachable-of, reachable-next}
 use Rattle.runs.proofs.Order.{one-of}
 use Rattle.runs.proofs.Moves.{in-one, Pushed, marking-none, marking-take, marking-hand, marking-done, pushed-none, pushed-old, pushed-new, pushed-join, tail-le}
@@ -74,14 +74,14 @@ module _ (g : Graph) where
         go rec true t = rec (ltb-true _ _ t)
         go rec false t = (k, ltb-false _ _ t)
 
-    none : Under [] 0 (blank g)
+    none : Under [] 0 (emptySearch g)
     none = marking-none g (replicate (g .size) 0) (replicate (g .size) 0) (omega (arith, length-replicate (g .size) (zero))) (omega (arith, length-replicate (g .size) (zero))) (λ p h. getD-replicate (g .size) p 0 0 h)
 
-    first-is : 0 < g .size → Going (push (blank g) 0)
-    first-is z = let u = push-is [] 0 (blank g) 0 none z (reachable-of g (start refl z)) in (subst (λ (x : ℕ). Under [] x (push (blank g) 0)) (sym (push-head (blank g) 0)) (u .under), u .marked 0 (inl refl))
+    first-is : 0 < g .size → Going (push (emptySearch g) 0)
+    first-is z = let u = push-is [] 0 (emptySearch g) 0 none z (reachable-of g (start refl z)) in (subst (λ (x : ℕ). Under [] x (push (emptySearch g) 0)) (sym (push-head (emptySearch g) 0)) (u .under), u .marked 0 (inl refl))
 
-    last : 0 < g .size → Going (turns g (g .size) (push (blank g) 0)) × (turns g (g .size) (push (blank g) 0) .tail ≤ turns g (g .size) (push (blank g) 0) .head)
-    last z = turns-are (g .size) (push (blank g) 0) (first-is z) (omega arith)
+    last : 0 < g .size → Going (turns g (g .size) (push (emptySearch g) 0)) × (turns g (g .size) (push (emptySearch g) 0) .tail ≤ turns g (g .size) (push (emptySearch g) 0) .head)
+    last z = turns-are (g .size) (push (emptySearch g) 0) (first-is z) (omega arith)
 
     pub mark-of-reach : (p : ℕ) → Reach g p → markOf g p ≡ 1
     unfolding markOf

@@ -8,7 +8,7 @@ use borrow.Author.Tests.{eqb-true, eqb-false}
 use lib.Dec.{eqb}
 use Rattle.runs.specs.Graph.{Graph, Lawful, Reachable, Segment, weigh}
 use Rattle.runs.specs.Marks.{markOf}
-use Rattle.runs.specs.Longest.{lengthOf, most, lowest, longest, first}
+use Rattle.runs.specs.Longest.{lengthOf, most, lowestFrom, longest, first}
 use Rattle.runs.specs.Meaning.{Meaning}
 use Rattle.runs.proofs.Order.{split, bit}
 use Rattle.runs.proofs.Paths.{Reach, start, reach-in, reach-of, reachable-of, segment-of, segment-free, segment-start}
@@ -51,7 +51,7 @@ module _ (g : Graph) (law : Lawful g) (w : ℕ → ℕ) where
   first-least p l e =
       ⊎-elim (λ d. d)
       (λ d. absurd (eqb-false _ _ (lowest-first (λ q. eqb (lengthOf g w q) (longest g w)) 0 (g .size) .not-before p (omega arith) d) e))
-      (split (lowest (λ q. eqb (lengthOf g w q) (longest g w)) 0 (g .size)) p)
+      (split (lowestFrom (λ q. eqb (lengthOf g w q) (longest g w)) 0 (g .size)) p)
 
   module _ (pos : (p : ℕ) → 0 < w p) (some : 0 < g .size) where
     root-length : 0 < lengthOf g w 0
@@ -88,7 +88,7 @@ module _ (g : Graph) (w : ℕ → ℕ) (f : ℕ → ℕ) (e : (p : ℕ) → p < 
   unfolding longest
   longest-found q = q ∙ most-same f (lengthOf g w) (g .size) e
 
-  pub first-found : {v a : ℕ} → v ≡ longest g w → a ≡ lowest (λ p. eqb (f p) v) 0 (g .size) → a ≡ first g w
+  pub first-found : {v a : ℕ} → v ≡ longest g w → a ≡ lowestFrom (λ p. eqb (f p) v) 0 (g .size) → a ≡ first g w
   unfolding first
   first-found {v} q d =
       d ∙ lowest-same (λ p. eqb (f p) v) (λ p. eqb (lengthOf g w p) (longest g w)) 0 (g .size) (λ p l. ap₂ (λ (y z : ℕ). eqb y z) (e p (omega arith)) q)

@@ -10,7 +10,7 @@ use lib.Seq.{getD-set-same, getD-set-other}
 use Rattle.runs.specs.Graph.{Graph, In, Reachable}
 use Rattle.runs.specs.Invariants.{ones, Closed, Room, Marking}
 use Rattle.runs.proofs.Paths.{Reach, start, next}
-use Rattle.runs.proofs.Order.{split, same-or-not}
+use Rattle.runs.proofs.Order.{same-or-not, past}
 
 -- from m, qu, t to m′, qu′, t′ the words of l were marked, and those among them that were not yet were queued
 pub record Pushed (g : Graph) (hand m qu : List ℕ) (h t : ℕ) (l : List ℕ) (m′ qu′ : List ℕ) (t′ : ℕ) : Type 0 where
@@ -40,21 +40,13 @@ ones-set zero m q h l e = absurd (not-suc-le-zero h)
 ones-set (suc k) m q h l e =
     ⊎-elim
     (λ w. let o = ones-out k m q 1 (omega arith) l in let z : getD m k 0 ≡ 0 = ap (λ (y : ℕ). getD m y 0) (w .0) ∙ e in omega arith)
-    (λ w. let o = ones-set k m q (lt-of-ne h (w .0)) l e in omega arith)
+    (λ w. let o = ones-set k m q (past (omega arith) (w .0)) l e in omega arith)
     (at-set m q 1 k l)
-  where
-    lt-of-ne : q < suc k → (k ≡ q → ⊥) → q < k
-    lt-of-ne h n = ⊎-elim (λ e. absurd (n (sym e))) (λ d. omega arith) (same-or-not q k)
 
 pub ones-le : (k : ℕ) (m : List ℕ) → ((p : ℕ) → p < k → getD m p 0 ≤ 1) → ones k m ≤ k
 unfolding ones
 ones-le zero m b = zero-le
 ones-le (suc k) m b = let h = ones-le k m (λ p d. b p (omega arith)) in omega (arith, b k (omega arith))
-
-ones-none : (k : ℕ) (m : List ℕ) → ((p : ℕ) → p < k → getD m p 0 ≡ 0) → ones k m ≡ 0
-unfolding ones
-ones-none zero m b = refl
-ones-none (suc k) m b = let h = ones-none k m (λ p d. b p (omega arith)) in omega (arith, b k (omega arith))
 
 pub in-one : {x q : ℕ} → In x (q ∷ []) → x ≡ q
 in-one {x} {q} i = ⊎-elim (λ e. e) (λ n. absurd n) i
@@ -118,14 +110,11 @@ module _ (g : Graph) where
       todo = λ p lp e. ⊎-elim
           (λ u. ⊎-elim
           (λ d. inr (inr (inl (sym (ap (λ (y : ℕ). getD qu y 0) (sym d) ∙ u .3)))))
-          (λ n. inl (u .0, lt-of-ne (u .0) (u .1) n, u .2, u .3))
+          (λ n. inl (u .0, omega (arith, past (u .1) n), u .2, u .3))
           (same-or-not (u .0) h))
           (λ u. inr (⊎-elim (λ c. inl c) (λ i. inr (inr i)) u))
           (k .todo p lp e);
     }
-      where
-        lt-of-ne : (i : ℕ) → h ≤ i → (i ≡ h → ⊥) → h + 1 ≤ i
-        lt-of-ne i l n = ⊎-elim (λ d. absurd (n (omega arith))) (λ d. omega arith) (split i h)
 
     module _ (q : ℕ) (lq : q < g .size) (new : getD m q 0 ≡ 0) (r : Reachable g q) where
       inside : q < length m
@@ -148,7 +137,7 @@ module _ (g : Graph) where
         sound = sound-set;
         queued = λ i l. ⊎-elim
             (λ w. (omega arith, ap (λ (x : ℕ). getD (set m q 1) x 0) (w .1) ∙ getD-set-same m q 1 0 inside))
-            (λ w. let o = k .queued i (lt-of-ne i l (w .0)) in (omega arith, ap (λ (x : ℕ). getD (set m q 1) x 0) (w .1) ∙ mark-stays m q (getD qu i 0) inside (o .1)))
+            (λ w. let o = k .queued i (past (omega arith) (λ e. w .0 (sym e))) in (omega arith, ap (λ (x : ℕ). getD (set m q 1) x 0) (w .1) ∙ mark-stays m q (getD qu i 0) inside (o .1)))
             (at-set qu t q i in-qu);
         held = held-set;
         todo = λ p l e. ⊎-elim
@@ -162,9 +151,6 @@ module _ (g : Graph) where
         where
           in-qu : t < length qu
           in-qu = omega (arith, k .room .qu-long, tail-lt m qu t (k .room) q lq new)
-
-          lt-of-ne : (i : ℕ) → i < t + 1 → (i ≡ t → ⊥) → i < t
-          lt-of-ne i l n = ⊎-elim (λ d. absurd (n (omega arith))) (λ d. d) (split t i)
 
       -- a new word is marked and taken in hand
       pub marking-hold : Marking g (q ∷ hand) (set m q 1) qu h t

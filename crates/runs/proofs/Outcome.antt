@@ -1,6 +1,6 @@
 -- Which check answers where, and what the slices then hold. Assumes nothing.
-use mathlib.Core.Path.{_≡_, refl, sym, ap, _∙_}
-use mathlib.Core.Bool.{Bool, true, false, _||_}
+use mathlib.Core.Path.{_≡_, sym, ap, _∙_}
+use mathlib.Core.Bool.{true, or-true}
 use mathlib.Core.List.{List, _++_}
 use Prim.Native.Nat.{ℕ, _≤_, _<_}
 use native.Mathlib.Omega.{arith}
@@ -12,13 +12,16 @@ use Rattle.runs.specs.declared.longest.Run.the-variants.{Accepted, Refus
 use Rattle.runs.specs.Marks.{markOf}
 use Rattle.runs.specs.Longest.{lengthOf, longest, first}
 use Rattle.runs.specs.Instance.{graphOf, unitWeight}
-use Rattle.runs.specs.Run.{mostWords, lowestInvalid, refuse, runOf, untouched, over, marksAfter, lengthsAfter}
+use Rattle.runs.specs.Run.{mostWords, lowestInvalid, refuseRun, runOf, untouched, over, marksAfter, lengthsAfter}
 use Rattle.runs.specs.Invariants.{Lent}
 use Rattle.runs.proofs.Lists.{zeros-table}
 
-or-right : (b : Bool) → (b || true) ≡ true
-or-right true = refl
-or-right false = refl
+-- what the checks after the search say
+abbrev pub decided : List ℕ → Run
+decided ws =
+    refuseRun (ltb (lowestInvalid ws) (length ws)) 8 (lowestInvalid ws)
+    (refuseRun (ltb mostWords (longest (graphOf ws) unitWeight)) 9 0
+    (Accepted (longest (graphOf ws) unitWeight) (first (graphOf ws) unitWeight)))
 
 -- the checks before any word is read
 module _ (ws : List ℕ) (a b : ℕ) where
@@ -33,7 +36,7 @@ module _ (ws : List ℕ) (a b : ℕ) where
 
     pub run-6-lengths : b < length ws → runOf ws a b ≡ Refused 6 0
     unfolding runOf
-    run-6-lengths h = simp (le-ltb mostWords (length ws) few, lt-ltb b (length ws) h, or-right (ltb a (length ws)))
+    run-6-lengths h = simp (le-ltb mostWords (length ws) few, lt-ltb b (length ws) h, or-true (ltb a (length ws)))
 
     pub run-7 : length ws ≤ a → length ws ≤ b → length ws ≡ 0 → runOf ws a b ≡ Refused 7 0
     unfolding runOf
@@ -41,7 +44,7 @@ module _ (ws : List ℕ) (a b : ℕ) where
 
     -- the checks after the search
     module _ (h : length ws ≤ a) (k : length ws ≤ b) (some : 0 < length ws) where
-      pub run-words : runOf ws a b ≡ refuse (ltb (lowestInvalid ws) (length ws)) 8 (lowestInvalid ws) (refuse (ltb mostWords (longest (graphOf ws) unitWeight)) 9 0 (Accepted (longest (graphOf ws) unitWeight) (first (graphOf ws) unitWeight)))
+      pub run-words : runOf ws a b ≡ decided ws
       unfolding runOf
       run-words = simp (le-ltb mostWords (length ws) few, le-ltb a (length ws) h, le-ltb b (length ws) k, ne-eqb (length ws) 0 (λ z. omega arith))
 
@@ -55,7 +58,7 @@ module _ (ws m l : List ℕ) where
   outcome-kept number e u = (sym e, (simp (e, u), simp (e, u)))
 
   module _ (lent : Lent (length ws) m l) where
-    run-is : runOf ws (length m) (length l) ≡ refuse (ltb (lowestInvalid ws) (length ws)) 8 (lowestInvalid ws) (refuse (ltb mostWords (longest (graphOf ws) unitWeight)) 9 0 (Accepted (longest (graphOf ws) unitWeight) (first (graphOf ws) unitWeight)))
+    run-is : runOf ws (length m) (length l) ≡ decided ws
     run-is = run-words ws (length m) (length l) (lent .few) (lent .m-long) (lent .l-long) (lent .some)
 
     module _ {m′ l′ : List ℕ} (marks : m′ ≡ over (markOf (graphOf ws)) (length ws) m) where

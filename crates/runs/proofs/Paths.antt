@@ -19,7 +19,7 @@ Free g p [] = Unit {0}
 Free g p (q ∷ qs) = (In q (g .successors p) × (g .serves p q ≡ false)) × Free g q qs
 
 module _ (g : Graph) where
-  along-in : (p : ℕ) (ps : List ℕ) → Along g p ps → p < g .size
+  pub along-in : (p : ℕ) (ps : List ℕ) → Along g p ps → p < g .size
   along-in p [] a = a
   along-in p (q ∷ qs) a = a .0
 

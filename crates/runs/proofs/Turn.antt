@@ -1,6 +1,6 @@
 -- The search in the terms of the code: a turn, and the loop. Assumes nothing.
 use mathlib.Core.Path.{_≡_, refl, sym, ap, subst, subst₃, _∙_}
-use mathlib.Core.Logic.{_⊎_, inl, inr, ⊎-elim}
+use mathlib.Core.Logic.{inl, inr, ⊎-elim}
 use mathlib.Core.Bool.{Bool, true, false, cond}
 use mathlib.Core.List.{List, [], _∷_, _++_}
 use Prim.Native.Nat.{ℕ, zero, _+_, _-_, _≤_, _<_}
@@ -12,6 +12,7 @@ use lib.ListN.{length, getD, set, drop, replicate, length-append, length-replica
 use lib.Seq.{drop-at, drop-set-lt, getD-set-same}
 use Rattle.runs.specs.Graph.{Graph, In, Lawful, Reachable}
 use Rattle.runs.specs.Marks.{push, markOf}
+use Rattle.runs.specs.Run.{mostWords}
 use Rattle.runs.specs.Invariants.{ones, Closed, Room, Marking, inHand, Turned, Visiting, Visited, searchAt}
 use Rattle.runs.proofs.Order.{one-of, bit}
 use Rattle.runs.proofs.Paths.{start, reach-of, reachable-of, reachable-next}
@@ -20,7 +21,7 @@ use Rattle.runs.proofs.Marks.{push-is, mark-of-reach, reach-of-mark, ma
 
 -- what `push` asks and gives
 abbrev pub Asks : List ℕ → List ℕ → ℕ → ℕ → Type 0
-Asks m qu t q = (q < length m) × (getD m q 0 ≡ 0 → t < length qu) × (q < 32768)
+Asks m qu t q = (q < length m) × (getD m q 0 ≡ 0 → t < length qu) × (q < mostWords)
 
 abbrev pub Gives : List ℕ → List ℕ → ℕ → ℕ → List ℕ → List ℕ → ℕ → Type 0
 Gives m qu t q m′ qu′ t′ =
@@ -35,7 +36,7 @@ pub record Kept (g : Graph) (m qu : List ℕ) (t : ℕ) (m′ qu′ : List ℕ) 
   pub qu-rest : drop (g .size) qu′ ≡ drop (g .size) qu
 
 module _ (g : Graph) (m qu : List ℕ) (t : ℕ) (r : Room g m qu t) (q : ℕ) (l : q < g .size) where
-  pub push-asks : g .size ≤ 32768 → Asks m qu t q
+  pub push-asks : g .size ≤ mostWords → Asks m qu t q
   push-asks s = (omega (arith, r .m-long), λ e. omega (arith, r .qu-long, tail-lt g m qu t r q l e), omega arith)
 
   push-kept : let s = push (searchAt m qu t) q in Kept g m qu t (s .marks) (s .queue) (s .tail)
@@ -129,7 +130,7 @@ module _ (g : Graph) (law : Lawful g) (m qu : List ℕ) (p t : ℕ) (r : Room g 
     b-from : In b (g .successors p)
     b-from = subst (λ (x : List ℕ). In b x) e (inr (inl refl))
 
-    pub second-asks : g .size ≤ 32768 → Asks m qu t b
+    pub second-asks : g .size ≤ mostWords → Asks m qu t b
     second-asks = push-asks g m qu t r b (law .inside p b b-from)
 
     module _ {m₁ qu₁ : List ℕ} {t₁ : ℕ} (u : Gives m qu t b m₁ qu₁ t₁) where

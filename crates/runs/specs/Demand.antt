@@ -1,5 +1,5 @@
--- Demand 3, its first half: what an answer of `longest_run` says of the paths through the words. It speaks of `runOf`, which the
--- contract of `longest_run` cites. proofs/Demand.antt proves it for at most 32,768 words and slices that are at least as long.
+-- Demand 3, its first half: what the answer of `longest_run` says of the paths through the words. proofs/Demand.antt proves it of
+-- `runOf`, which the contract of `longest_run` cites, for at most 32,768 words and slices that are at least as long.
 -- Assumes nothing.
 use mathlib.Core.Path.{_≡_}
 use mathlib.Core.Logic.{_↔_, _⊎_}
@@ -7,18 +7,21 @@ use mathlib.Core.Bool.{true}
 use mathlib.Core.List.{List, _∷_}
 use Prim.Native.Nat.{ℕ, _≤_, _<_}
 use lib.ListN.{length}
-use Rattle.runs.specs.Graph.{In, Path, Segment}
+use Rattle.runs.specs.declared.longest.Run.{Run}
+use Rattle.runs.specs.Graph.{Reachable, Segment}
 use Rattle.runs.specs.Successors.{successorsOf, isInvalid}
 use Rattle.runs.specs.Instance.{graphOf}
-use Rattle.runs.specs.Run.{runOf, numberOf, longestOf, firstOf, mostWords}
+use Rattle.runs.specs.Run.{numberOf, placeOf, longestOf, firstOf, mostWords}
+
+-- some course meets word p, and it is bad
+pub record MeetsInvalidAt (ws : List ℕ) (p : ℕ) : Type 0 where
+  pub reachable : Reachable (graphOf ws) p
+  pub invalid : isInvalid (successorsOf ws p) ≡ true
 
 -- "some course meets a bad word"
 pub record MeetsInvalid (ws : List ℕ) : Type 0 where
-  pub words : List ℕ
-  pub path : Path (graphOf ws) words
   pub word : ℕ
-  pub on : In word words
-  pub invalid : isInvalid (successorsOf ws word) ≡ true
+  pub met : MeetsInvalidAt ws word
 
 -- a stretch of a course that has k words, and starts at p
 pub record Passes (ws : List ℕ) (p k : ℕ) : Type 0 where
@@ -33,12 +36,24 @@ pub record RunsTooLong (ws : List ℕ) : Type 0 where
   pub over : mostWords < count
   pub passes : Passes ws start count
 
-pub record Demand (ws : List ℕ) (marks lengths : ℕ) : Type 0 where
+-- r is the answer
+pub record Demand (ws : List ℕ) (r : Run) : Type 0 where
   -- "it is refused exactly if it has no words, some course meets a bad word, or the longest run is over 32,768"
-  pub refused : (0 < numberOf (runOf ws marks lengths)) ↔ ((length ws ≡ 0) ⊎ (MeetsInvalid ws ⊎ RunsTooLong ws))
+  pub refused : (0 < numberOf r) ↔ ((length ws ≡ 0) ⊎ (MeetsInvalid ws ⊎ RunsTooLong ws))
+  -- "Checks run in this order": "no words"
+  pub seven : (numberOf r ≡ 7) ↔ (length ws ≡ 0)
+  -- "a reachable bad word"; where there are no words, none is met
+  pub eight : (numberOf r ≡ 8) ↔ MeetsInvalid ws
+  -- "L over 32,768"
+  pub nine : (numberOf r ≡ 9) ↔ ((MeetsInvalid ws → ⊥) × RunsTooLong ws)
+  -- number 8's "place: the lowest"
+  pub place : numberOf r ≡ 8 → MeetsInvalidAt ws (placeOf r)
+  pub place-lowest : numberOf r ≡ 8 → (p : ℕ) → MeetsInvalidAt ws p → placeOf r ≤ p
+  -- "a place, 0 unless named"
+  pub no-place : (numberOf r ≡ 8 → ⊥) → placeOf r ≡ 0
   -- "If accepted, no course passes more than L words without a service between them"
-  pub bounded : numberOf (runOf ws marks lengths) ≡ 0 → (p k : ℕ) → Passes ws p k → k ≤ longestOf (runOf ws marks lengths)
+  pub bounded : numberOf r ≡ 0 → (p k : ℕ) → Passes ws p k → k ≤ longestOf r
   -- "and some course passes exactly L"
-  pub reached : numberOf (runOf ws marks lengths) ≡ 0 → Passes ws (firstOf (runOf ws marks lengths)) (longestOf (runOf ws marks lengths))
+  pub reached : numberOf r ≡ 0 → Passes ws (firstOf r) (longestOf r)
   -- "and the lowest word at which an L-word stretch begins"
-  pub lowest : numberOf (runOf ws marks lengths) ≡ 0 → (p : ℕ) → Passes ws p (longestOf (runOf ws marks lengths)) → firstOf (runOf ws marks lengths) ≤ p
+  pub first-lowest : numberOf r ≡ 0 → (p : ℕ) → Passes ws p (longestOf r) → firstOf r ≤ p

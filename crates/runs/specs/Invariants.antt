@@ -9,6 +9,7 @@ use lib.ListN.{length, getD, drop}
 use Rattle.runs.specs.Graph.{Graph, In, Reachable}
 use Rattle.runs.specs.Marks.{Search, markOf}
 use Rattle.runs.specs.Longest.{lengthOf}
+use Rattle.runs.specs.Run.{mostWords}
 
 -- how many of the first k words are marked, each mark being 0 or 1
 unfoldable pub ones : ℕ → List ℕ → ℕ
@@ -55,7 +56,7 @@ pub record Turned (g : Graph) (m qu : List ℕ) (p t : ℕ) (m′ qu′ : List �
 
 -- a search with a word to take from the queue
 pub record Visiting (g : Graph) (m qu : List ℕ) (h t : ℕ) : Type 0 where
-  pub few : g .size ≤ 32768
+  pub few : g .size ≤ mostWords
   pub some : h < t
   pub under : Marking g [] m qu h t
 
@@ -73,7 +74,7 @@ searchAt m qu t = record { marks = m; queue = qu; head = 0; tail = t }
 -- some words, not too many, and slices with room for each
 pub record Lent (n : ℕ) (m l : List ℕ) : Type 0 where
   pub some : 0 < n
-  pub few : n ≤ 32768
+  pub few : n ≤ mostWords
   pub m-long : n ≤ length m
   pub l-long : n ≤ length l
 
@@ -84,7 +85,7 @@ pub record Marked (g : Graph) (m₀ m : List ℕ) : Type 0 where
 
 -- the marks are right, and so are the lengths of the words from k on
 pub record Filled (g : Graph) (w : ℕ → ℕ) (m l : List ℕ) (k : ℕ) : Type 0 where
-  pub few : g .size ≤ 32768
+  pub few : g .size ≤ mostWords
   pub m-long : g .size ≤ length m
   pub l-long : g .size ≤ length l
   pub marks : (p : ℕ) → p < g .size → getD m p 0 ≡ markOf g p

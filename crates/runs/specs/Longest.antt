@@ -31,9 +31,9 @@ most f zero = 0
 most f (suc k) = max (most f k) (f k)
 
 -- the lowest p from i on at which the test holds, of k numbers; the number after them if there is none
-unfoldable pub lowest : (ℕ → Bool) → ℕ → ℕ → ℕ
-lowest t i zero = i
-lowest t i (suc k) = cond (t i) i (lowest t (i + 1) k)
+unfoldable pub lowestFrom : (ℕ → Bool) → ℕ → ℕ → ℕ
+lowestFrom t i zero = i
+lowestFrom t i (suc k) = cond (t i) i (lowestFrom t (i + 1) k)
 
 -- "The longest run, L, is the most words any stretch has."
 unfoldable pub longest : Graph → (ℕ → ℕ) → ℕ
@@ -41,4 +41,4 @@ longest g w = most (lengthOf g w) (g .size)
 
 -- "the lowest word at which an L-word stretch begins"
 unfoldable pub first : Graph → (ℕ → ℕ) → ℕ
-first g w = lowest (λ p. eqb (lengthOf g w p) (longest g w)) 0 (g .size)
+first g w = lowestFrom (λ p. eqb (lengthOf g w p) (longest g w)) 0 (g .size)

@@ -3,37 +3,44 @@
 -- yield inside a word are left out (docs/DIFFERENCES.md has the yields). `Agreement` says that for a word that is not bad
 -- these are the next words of document 01's table of steps.
 -- Assumes nothing.
-use Prim.Native.Nat.{ℕ, _+_, _<_, _^_}
+use Prim.Native.Nat.{ℕ, _+_}
 use mathlib.Core.Path.{_≡_}
 use mathlib.Core.Logic.{_⊎_, _↔_}
-use mathlib.Core.Bool.{false}
+use mathlib.Core.Bool.{false, cond}
 use mathlib.Core.List.{List, [], _∷_}
 use lib.Dec.{eqb}
-use lib.IntN.{ℤ, pos, _+ℤ_, _-ℤ_}
+use lib.IntN.{ℤ, pos, negsuc, _+ℤ_, _-ℤ_}
 use lib.ListN.{getD}
 use Rattle.fields.specs.Opcodes.{«OP_MOVE», «OP_LOADI», «OP_LOADF», «OP_LOADK», «OP_LOADKX», «OP_LOADFALSE», «OP_LFALSESKIP», «OP_LOADTRUE», «OP_LOADNIL», «OP_GETUPVAL», «OP_SETUPVAL», «OP_GETTABUP», «OP_GETTABLE», «OP_GETI», «OP_GETFIELD», «OP_SETTABUP», «OP_SETTABLE», «OP_SETI», «OP_SETFIELD», «OP_NEWTABLE», «OP_SELF», «OP_ADDI», «OP_ADDK», «OP_SUBK», «OP_MULK», «OP_MODK», «OP_POWK», «OP_DIVK», «OP_IDIVK», «OP_BANDK», «OP_BORK», «OP_BXORK», «OP_SHRI», «OP_SHLI», «OP_ADD», «OP_SUB», «OP_MUL», «OP_MOD», «OP_POW», «OP_DIV», «OP_IDIV», «OP_BAND», «OP_BOR», «OP_BXOR», «OP_SHR», «OP_SHL», «OP_MMBIN», «OP_MMBINI», «OP_MMBINK», «OP_UNM», «OP_BNOT», «OP_NOT», «OP_LEN», «OP_CONCAT», «OP_CLOSE», «OP_TBC», «OP_JMP», «OP_EQ», «OP_LT», «OP_LE», «OP_EQK», «OP_EQI», «OP_LTI», «OP_LEI», «OP_GTI», «OP_GEI», «OP_TEST», «OP_TESTSET», «OP_CALL», «OP_TAILCALL», «OP_RETURN», «OP_RETURN0», «OP_RETURN1», «OP_FORLOOP», «OP_FORPREP», «OP_TFORPREP», «OP_TFORCALL», «OP_TFORLOOP», «OP_SETLIST», «OP_CLOSURE», «OP_VARARG», «OP_VARARGPREP», «OP_EXTRAARG»}
 use Rattle.fields.specs.Lopcodes.{«GET_OPCODE», «GETARG_Bx», «GETARG_sJ», «TESTARG_k»}
-use Rattle.fields.specs.Table.{pick}
 use Rattle.runs.specs.Successors.{successorsOf, isInvalid, listOf}
 
 -- how a case goes on
 pub data Way : Type 0 where
   -- `vmbreak`: the loop fetches the word at pc
   fetch : ℤ → Way
-  -- the word at pc is executed without being fetched anew, which document 01 takes for a step of its own
+  -- `goto l_tforcall`, `goto l_tforloop`: the word at pc is executed without being fetched anew, which document 01 takes for a step of
+  -- its own
   along : ℤ → Way
+  -- the JMP at the first pc is done at once, which document 01 takes for a step of its own, and leaves pc at the second
+  jumped : ℤ → ℤ → Way
+
+-- *pc
+abbrev pub wordAt : List ℕ → ℤ → ℕ
+wordAt ws (pos q) = getD ws q 0
+wordAt ws (negsuc q) = 0
 
 -- #define dojump(ci,i,e)  { pc += GETARG_sJ(i) + e; .. }
 abbrev pub dojump : ℤ → ℕ → ℤ → ℤ
 dojump pc i e = pc +ℤ («GETARG_sJ» i +ℤ e)
 
 -- #define donextjump(ci)  { Instruction ni = *pc; dojump(ci, ni, 1); }
-abbrev pub donextjump : ℤ → Way
-donextjump pc = along pc
+abbrev pub donextjump : List ℕ → ℤ → Way
+donextjump ws pc = jumped pc (dojump pc (wordAt ws pc) (pos 1))
 
 -- #define docondjump()  if (cond != GETARG_k(i)) pc++; else donextjump(ci);
-abbrev pub docondjump : ℤ → List Way
-docondjump pc = fetch (pc +ℤ pos 1) ∷ donextjump pc ∷ []
+abbrev pub docondjump : List ℕ → ℤ → List Way
+docondjump ws pc = fetch (pc +ℤ pos 1) ∷ donextjump ws pc ∷ []
 
 -- what the cases of the switch do to pc
 pub data Body : Type 0 where
@@ -69,22 +76,22 @@ pub data Body : Type 0 where
   -- the switch has no such case, and no default
   absent : Body
 
-abbrev pub waysOf : Body → ℤ → ℕ → List Way
-waysOf still pc i = fetch pc ∷ []
-waysOf skip pc i = fetch (pc +ℤ pos 1) ∷ []
-waysOf arith pc i = fetch (pc +ℤ pos 1) ∷ fetch pc ∷ []
-waysOf jmp pc i = fetch (dojump pc i (pos 0)) ∷ []
-waysOf condjump pc i = docondjump pc
-waysOf testset pc i = fetch (pc +ℤ pos 1) ∷ donextjump pc ∷ []
-waysOf call pc i = fetch pc ∷ []
-waysOf leave pc i = []
-waysOf loop pc i = fetch (pc -ℤ pos («GETARG_Bx» i)) ∷ fetch pc ∷ []
-waysOf forprep pc i = fetch (pc +ℤ (pos («GETARG_Bx» i) +ℤ pos 1)) ∷ fetch pc ∷ []
-waysOf tforprep pc i = along (pc +ℤ pos («GETARG_Bx» i)) ∷ []
-waysOf tforcall pc i = along pc ∷ []
-waysOf setlist pc i = pick (eqb («TESTARG_k» i) 0) (fetch pc ∷ []) (fetch (pc +ℤ pos 1) ∷ [])
-waysOf assert0 pc i = fetch pc ∷ []
-waysOf absent pc i = fetch pc ∷ []
+abbrev pub waysOf : List ℕ → Body → ℤ → ℕ → List Way
+waysOf ws still pc i = fetch pc ∷ []
+waysOf ws skip pc i = fetch (pc +ℤ pos 1) ∷ []
+waysOf ws arith pc i = fetch (pc +ℤ pos 1) ∷ fetch pc ∷ []
+waysOf ws jmp pc i = fetch (dojump pc i (pos 0)) ∷ []
+waysOf ws condjump pc i = docondjump ws pc
+waysOf ws testset pc i = fetch (pc +ℤ pos 1) ∷ donextjump ws pc ∷ []
+waysOf ws call pc i = fetch pc ∷ []
+waysOf ws leave pc i = []
+waysOf ws loop pc i = fetch (pc -ℤ pos («GETARG_Bx» i)) ∷ fetch pc ∷ []
+waysOf ws forprep pc i = fetch (pc +ℤ (pos («GETARG_Bx» i) +ℤ pos 1)) ∷ fetch pc ∷ []
+waysOf ws tforprep pc i = along (pc +ℤ pos («GETARG_Bx» i)) ∷ []
+waysOf ws tforcall pc i = along pc ∷ []
+waysOf ws setlist pc i = cond (eqb («TESTARG_k» i) 0) (fetch pc ∷ []) (fetch (pc +ℤ pos 1) ∷ [])
+waysOf ws assert0 pc i = fetch pc ∷ []
+waysOf ws absent pc i = fetch pc ∷ []
 
 pub data Case : Type 0 where
   vmcase : ℕ → Body → Case
@@ -179,20 +186,25 @@ switch =
 
 abbrev pub vmdispatch : List Case → ℕ → Body
 vmdispatch [] o = absent
-vmdispatch (vmcase opcode body ∷ cases) o = pick (eqb o opcode) body (vmdispatch cases o)
+vmdispatch (vmcase opcode body ∷ cases) o = cond (eqb o opcode) body (vmdispatch cases o)
 
 -- the word that is executed next
-abbrev pub placeOf : Way → ℤ
-placeOf (fetch pc) = pc
-placeOf (along pc) = pc
+abbrev pub targetOf : Way → ℤ
+targetOf (fetch pc) = pc
+targetOf (along pc) = pc
+targetOf (jumped pc after) = pc
 
-abbrev pub placesOf : List Way → List ℤ
-placesOf [] = []
-placesOf (way ∷ ways) = placeOf way ∷ placesOf ways
+abbrev pub targetsOf : List Way → List ℤ
+targetsOf [] = []
+targetsOf (way ∷ ways) = targetOf way ∷ targetsOf ways
 
--- the words at which luaV_execute can go on after word p, `i = *(pc++)`
-unfoldable pub goesOn : List ℕ → ℕ → List ℤ
-goesOn ws p = placesOf (waysOf (vmdispatch switch («GET_OPCODE» (getD ws p 0))) (pos (p + 1)) (getD ws p 0))
+-- how luaV_execute can go on after word p, `i = *(pc++)`
+unfoldable pub waysAt : List ℕ → ℕ → List Way
+waysAt ws p = waysOf ws (vmdispatch switch («GET_OPCODE» (getD ws p 0))) (pos (p + 1)) (getD ws p 0)
+
+-- the words at which it can go on
+abbrev pub goesOn : List ℕ → ℕ → List ℤ
+goesOn ws p = targetsOf (waysAt ws p)
 
 abbrev pub Among : ℤ → List ℤ → Type 0
 Among z [] = ⊥
@@ -202,10 +214,19 @@ abbrev pub integers : List ℕ → List ℤ
 integers [] = []
 integers (q ∷ qs) = pos q ∷ integers qs
 
+-- each JMP that is done at once leaves pc where its own case would
+abbrev pub Alike : List ℕ → List Way → Type 0
+Alike ws [] = Unit {0}
+Alike ws (fetch pc ∷ ways) = Alike ws ways
+Alike ws (along pc ∷ ways) = Alike ws ways
+Alike ws (jumped (pos q) after ∷ ways) = (waysAt ws q ≡ fetch after ∷ []) × Alike ws ways
+Alike ws (jumped (negsuc q) after ∷ ways) = ⊥
+
 pub record Agreement : Type 0 where
   -- "for a word that is not bad, the set of next words is the same"
   pub same :
-      (ws : List ℕ) (p : ℕ) → getD ws p 0 < 2 ^ 32 → isInvalid (successorsOf ws p) ≡ false →
+      (ws : List ℕ) (p : ℕ) → isInvalid (successorsOf ws p) ≡ false →
       (z : ℤ) → Among z (goesOn ws p) ↔ Among z (integers (listOf (successorsOf ws p)))
-  -- a JMP that a test takes along, pc at it, moves pc to where its own case, pc past it, would
-  pub alike : (p i : ℕ) → dojump (pos p) i (pos 1) ≡ dojump (pos (p + 1)) i (pos 0)
+  -- "Where lvm.c takes the next word along without fetching it anew (JMP after a test ..), going to that word is a step of its own": it
+  -- leads on from there as the C does
+  pub alike : (ws : List ℕ) (p : ℕ) → isInvalid (successorsOf ws p) ≡ false → Alike ws (waysAt ws p)

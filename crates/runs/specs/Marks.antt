@@ -37,9 +37,10 @@ abbrev pub turns : Graph → ℕ → Search → Search
 turns g zero s = s
 turns g (suc k) s = cond (ltb (s .head) (s .tail)) (turns g k (turn g s)) s
 
-abbrev pub blank : Graph → Search
-blank g = record { marks = replicate (g .size) 0; queue = replicate (g .size) 0; head = 0; tail = 0 }
+-- nothing is marked, and nothing queued
+abbrev pub emptySearch : Graph → Search
+emptySearch g = record { marks = replicate (g .size) 0; queue = replicate (g .size) 0; head = 0; tail = 0 }
 
 -- "1 if reachable, else 0"
 unfoldable pub markOf : Graph → ℕ → ℕ
-markOf g p = getD (turns g (g .size) (push (blank g) 0) .marks) p 0
+markOf g p = getD (turns g (g .size) (push (emptySearch g) 0) .marks) p 0

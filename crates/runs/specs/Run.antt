@@ -8,7 +8,7 @@ use lib.ListN.{length, drop}
 use Rattle.runs.specs.declared.longest.Run.{Run}
 use Rattle.runs.specs.declared.longest.Run.the-variants.{Accepted, Refused}
 use Rattle.runs.specs.Marks.{markOf}
-use Rattle.runs.specs.Longest.{lengthOf, lowest, longest, first}
+use Rattle.runs.specs.Longest.{lengthOf, lowestFrom, longest, first}
 use Rattle.runs.specs.Successors.{successorsOf, isInvalid}
 use Rattle.runs.specs.Instance.{graphOf, unitWeight}
 
@@ -40,25 +40,25 @@ reachesInvalid ws p = eqb (markOf (graphOf ws) p) 1 && isInvalid (successorsOf w
 
 -- "place: the lowest"; n if there is none
 unfoldable pub lowestInvalid : List ℕ → ℕ
-lowestInvalid ws = lowest (reachesInvalid ws) 0 (length ws)
+lowestInvalid ws = lowestFrom (reachesInvalid ws) 0 (length ws)
 
 -- where the test holds, a refusal with its number and place; else what the later checks say
-abbrev pub refuse : Bool → ℕ → ℕ → Run → Run
-refuse t number place later = cond t (Refused number place) later
+abbrev pub refuseRun : Bool → ℕ → ℕ → Run → Run
+refuseRun t number place later = cond t (Refused number place) later
 
 -- "Checks run in this order": of the words and of the lengths of the marks slice and the lengths slice
 unfoldable pub runOf : List ℕ → ℕ → ℕ → Run
 runOf ws marks lengths =
     -- "more than 32,768 words"
-    refuse (ltb mostWords (length ws)) 1 0
+    refuseRun (ltb mostWords (length ws)) 1 0
     -- "a lent result slice shorter than the words"
-    (refuse (ltb marks (length ws) || ltb lengths (length ws)) 6 0
+    (refuseRun (ltb marks (length ws) || ltb lengths (length ws)) 6 0
     -- "no words"
-    (refuse (eqb (length ws) 0) 7 0
+    (refuseRun (eqb (length ws) 0) 7 0
     -- "a reachable bad word; place: the lowest"
-    (refuse (ltb (lowestInvalid ws) (length ws)) 8 (lowestInvalid ws)
+    (refuseRun (ltb (lowestInvalid ws) (length ws)) 8 (lowestInvalid ws)
     -- "L over 32,768"
-    (refuse (ltb mostWords (longest (graphOf ws) unitWeight)) 9 0
+    (refuseRun (ltb mostWords (longest (graphOf ws) unitWeight)) 9 0
     (Accepted (longest (graphOf ws) unitWeight) (first (graphOf ws) unitWeight))))))
 
 -- f i, f (i + 1), .. : k of them

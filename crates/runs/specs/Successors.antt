@@ -1,20 +1,20 @@
 -- Document 01, "Steps": the successors of word p of the words ws, and which of the steps serve.
 -- Assumes nothing.
 use Prim.Native.Nat.{ℕ, _+_, _-_}
-use mathlib.Core.Bool.{Bool, true, false, _&&_, _||_}
+use mathlib.Core.Bool.{Bool, true, false, cond, _&&_, _||_}
 use mathlib.Core.List.{List, [], _∷_}
 use lib.Dec.{ltb, leb, eqb}
 use lib.IntN.{ℤ, pos, negsuc, _+ℤ_, _-ℤ_}
 use lib.ListN.{length, getD}
 use Rattle.fields.specs.Opcodes.{«OP_ADDI», «OP_SHR», «OP_MMBIN», «OP_MMBINK», «OP_JMP», «OP_CALL», «OP_TFORCALL», «OP_TFORLOOP», «OP_EXTRAARG»}
 use Rattle.fields.specs.Word.{opcodeOf, kOf, bxOf, sjOf}
-use Rattle.fields.specs.Table.{pick, StepClass, following, returning, branching, skipping, skippingIfK, jumping, looping, preparing, entering, invalid, classOf, Companion, alone, metamethodAfter, arithmeticBefore, jumpAfter, extraAfter, extraAfterIfK, callAtTarget, loopAfter, companionOf}
+use Rattle.fields.specs.Table.{StepClass, following, returning, branching, skipping, skippingIfK, jumping, looping, preparing, entering, invalid, classOf, Companion, alone, metamethodAfter, arithmeticBefore, jumpAfter, extraAfter, extraAfterIfK, callAtTarget, loopAfter, companionOf}
 use Rattle.runs.specs.declared.edges.Successors.{Successors}
 use Rattle.runs.specs.declared.edges.Successors.the-variants.{Invalid, Stop, One, Two}
 
 -- "bad unless"
 unfoldable pub unless : Bool → Successors → Successors
-unless t s = pick t s Invalid
+unless t s = cond t s Invalid
 
 -- one next word: "a word is also bad if a next word is below 0, or n or more"
 unfoldable pub one : ℕ → ℤ → Successors
@@ -23,7 +23,7 @@ one n (negsuc q) = Invalid
 
 -- "two equal steps are one; steps are given lower first"
 unfoldable pub ordered : ℕ → ℕ → Successors
-ordered q r = pick (ltb q r) (Two q r) (pick (ltb r q) (Two r q) (One q))
+ordered q r = cond (ltb q r) (Two q r) (cond (ltb r q) (Two r q) (One q))
 
 -- two next words, each below 0 or n or more making the word bad
 unfoldable pub two : ℕ → ℤ → ℤ → Successors
@@ -36,8 +36,8 @@ unfoldable pub opcodeAt : List ℕ → ℕ → ℕ
 opcodeAt ws i = opcodeOf (getD ws i 0)
 
 -- whether an opcode is one of those from the first to the last
-unfoldable pub isIn : ℕ → ℕ → ℕ → Bool
-isIn first last opcode = leb first opcode && leb opcode last
+unfoldable pub isBetween : ℕ → ℕ → ℕ → Bool
+isBetween first last opcode = leb first opcode && leb opcode last
 
 -- "Next word", a clause for each kind of the table of steps: the steps of word p, w, of n words whose companion is there
 abbrev pub nextOf : StepClass → ℕ → ℕ → ℕ → Successors
@@ -48,7 +48,7 @@ nextOf branching n w p = two n (pos (p + 1)) (pos (p + 2))
 -- p+2
 nextOf skipping n w p = one n (pos (p + 2))
 -- "SETLIST 78 if its k is 1": p+2; else as all others p+1
-nextOf skippingIfK n w p = pick (eqb (kOf w) 1) (one n (pos (p + 2))) (one n (pos (p + 1)))
+nextOf skippingIfK n w p = cond (eqb (kOf w) 1) (one n (pos (p + 2))) (one n (pos (p + 1)))
 -- p+1+sJ
 nextOf jumping n w p = one n (pos (p + 1) +ℤ sjOf w)
 -- p+1-Bx, p+1
@@ -65,15 +65,15 @@ nextOf following n w p = one n (pos (p + 1))
 -- "Bad unless", a clause for each kind of the table of steps: the companion of word p stands where it is wanted
 abbrev pub standsAt : Companion → List ℕ → ℕ → Bool
 -- word p+1 is 46 to 48
-standsAt metamethodAfter ws p = isIn «OP_MMBIN» «OP_MMBINK» (opcodeAt ws (p + 1))
+standsAt metamethodAfter ws p = isBetween «OP_MMBIN» «OP_MMBINK» (opcodeAt ws (p + 1))
 -- p > 0 and word p-1 is 21 to 45
-standsAt arithmeticBefore ws p = ltb 0 p && isIn «OP_ADDI» «OP_SHR» (opcodeAt ws (p - 1))
+standsAt arithmeticBefore ws p = ltb 0 p && isBetween «OP_ADDI» «OP_SHR» (opcodeAt ws (p - 1))
 -- word p+1 is JMP
 standsAt jumpAfter ws p = eqb (opcodeAt ws (p + 1)) «OP_JMP»
 -- word p+1 is EXTRAARG
 standsAt extraAfter ws p = eqb (opcodeAt ws (p + 1)) «OP_EXTRAARG»
 -- the same for "SETLIST 78 if its k is 1"
-standsAt extraAfterIfK ws p = pick (eqb (kOf (getD ws p 0)) 1) (eqb (opcodeAt ws (p + 1)) «OP_EXTRAARG») true
+standsAt extraAfterIfK ws p = cond (eqb (kOf (getD ws p 0)) 1) (eqb (opcodeAt ws (p + 1)) «OP_EXTRAARG») true
 -- p+1+Bx: that word is TFORCALL
 standsAt callAtTarget ws p = eqb (opcodeAt ws (p + 1 + bxOf (getD ws p 0))) «OP_TFORCALL»
 -- p+1: that word is TFORLOOP

@@ -2,7 +2,6 @@
 pub mod edges;
 mod lengths;
 pub mod longest;
-mod packed;
 mod search;
 pub mod successors;
 

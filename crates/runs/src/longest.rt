@@ -14,7 +14,8 @@ pub enum Run {
     Refused { number: u8, place: usize },
 }
 
-const MOST_WORDS: usize = 32768;
+// Document 01, number 1: at most so many words. Number 9: no longest run has more.
+pub const MOST_WORDS: usize = 32768;
 
 // The run of words that pass the checks of their number and of the slices.
 fn run_of_words(words: &[u32], marks: &mut [u8], lengths: &mut [u32]) -> Run

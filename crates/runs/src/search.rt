@@ -6,13 +6,14 @@ ghost use lib.ListN.{length, getD, drop, replicate};
 ghost use Rattle.fields.specs.Table.{opcodeTable};
 ghost use Rattle.runs.specs.Marks.{push as pushed};
 ghost use Rattle.runs.specs.Instance.{graphOf};
+ghost use Rattle.runs.specs.Run.{mostWords};
 ghost use Rattle.runs.specs.Invariants.{Lent, Marked, Room, Turned, Visiting, Visited, searchAt};
 use crate::edges::Successors;
 use crate::successors::successors_in;
 
 // Word q is marked and put at the queue's end, if it is not marked yet. The new tail.
 fn push(marks: &mut [u8], queue: &mut [u32], tail: usize, q: usize) -> usize
-    requires { ⌜ (q < length (now marks)) × (getD (now marks) q 0 ≡ 0 → tail < length (now queue)) × (q < 32768) ⌝ }
+    requires { ⌜ (q < length (now marks)) × (getD (now marks) q 0 ≡ 0 → tail < length (now queue)) × (q < mostWords) ⌝ }
     ensures { λ r. ⌜ (now (marks .exit) ≡ pushed (searchAt (now (marks .entry)) (now (queue .entry)) tail) q .marks) × (now (queue .exit) ≡ pushed (searchAt (now (marks .entry)) (now (queue .entry)) tail) q .queue) × (r ≡ pushed (searchAt (now (marks .entry)) (now (queue .entry)) tail) q .tail) ⌝ }
 {
     if marks[q] == 0 {
@@ -35,7 +36,7 @@ fn visit(
     p: usize,
     tail: usize,
 ) -> Turn
-    requires { ⌜ (now table ≡ opcodeTable) × (length (now words) ≤ 32768) × (p < length (now words)) × Room (graphOf (now words)) (now marks) (now queue) tail ⌝ }
+    requires { ⌜ (now table ≡ opcodeTable) × (length (now words) ≤ mostWords) × (p < length (now words)) × Room (graphOf (now words)) (now marks) (now queue) tail ⌝ }
     ensures { λ r. ⌜ Turned (graphOf (now (words .entry))) (now (marks .entry)) (now (queue .entry)) p tail (now (marks .exit)) (now (queue .exit)) (r .0) (r .1) (r .2) ⌝ }
 {
     let s = successors_in(table, words, p);

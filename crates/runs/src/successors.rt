@@ -6,13 +6,12 @@ ghost use lib.ListN.{length, getD};
 ghost use Rattle.fields.specs.Word.{bxOf, sjOf};
 ghost use Rattle.fields.specs.Table.{opcodeTable, jumpAfter, metamethodAfter, arithmeticBefore};
 ghost use Rattle.runs.specs.Columns.{classFrom, companionFrom};
-ghost use Rattle.runs.specs.Successors.{one, two, opcodeAt, isIn, nextOf, standsAt, unless, successorsOf, hasSuccessor, isSuccessor, servesOf};
+ghost use Rattle.runs.specs.Successors.{one, two, opcodeAt, isBetween, nextOf, standsAt, unless, successorsOf, hasSuccessor, isSuccessor, servesOf};
 use crate::edges::Successors;
 use fields::columns::*;
 use fields::opcodes::*;
 
-// JMP's distance is Ax less this.
-const OFFSET_SJ: usize = 16777215;
+const OFFSET_SJ: usize = fields::word::OFFSET_SJ as usize;
 
 fn one_of(n: usize, q: usize) -> Successors
     ensures { λ r. ⌜ r ≡ one n (pos q) ⌝ }
@@ -85,8 +84,8 @@ fn next_of(class: u8, n: usize, word: u32, p: usize) -> Successors
     }
 }
 
-fn is_in(first: u8, last: u8, opcode: u8) -> bool
-    ensures { λ r. ⌜ r ≡ isIn first last opcode ⌝ }
+fn is_between(first: u8, last: u8, opcode: u8) -> bool
+    ensures { λ r. ⌜ r ≡ isBetween first last opcode ⌝ }
 {
     if first <= opcode {
         opcode <= last
@@ -113,10 +112,10 @@ fn stands_at(companion: u8, words: &[u32], p: usize) -> bool
 {
     match companion {
         ALONE => true,
-        METAMETHOD_AFTER => is_in(OP_MMBIN, OP_MMBINK, opcode_at(words, p + 1)),
+        METAMETHOD_AFTER => is_between(OP_MMBIN, OP_MMBINK, opcode_at(words, p + 1)),
         ARITHMETIC_BEFORE => {
             if 0 < p {
-                is_in(OP_ADDI, OP_SHR, opcode_at(words, p - 1))
+                is_between(OP_ADDI, OP_SHR, opcode_at(words, p - 1))
             } else {
                 false
             }
@@ -166,7 +165,7 @@ fn arithmetic(words: &[u32], p: usize) -> Successors
     requires { ⌜ p < length (now words) ⌝ }
     ensures { λ r. ⌜ r ≡ unless (standsAt metamethodAfter (now (words .entry)) p) (two (length (now (words .entry))) (pos (p + 1)) (pos (p + 2))) ⌝ }
 {
-    if is_in(OP_MMBIN, OP_MMBINK, opcode_at(words, p + 1)) {
+    if is_between(OP_MMBIN, OP_MMBINK, opcode_at(words, p + 1)) {
         return two_of(words.len(), p + 1, p + 2);
     }
     Successors::Invalid
@@ -179,7 +178,7 @@ fn metamethod(words: &[u32], p: usize) -> Successors
     if p == 0 {
         return Successors::Invalid;
     }
-    if is_in(OP_ADDI, OP_SHR, opcode_at(words, p - 1)) {
+    if is_between(OP_ADDI, OP_SHR, opcode_at(words, p - 1)) {
         return one_of(words.len(), p + 1);
     }
     Successors::Invalid
@@ -221,18 +220,25 @@ pub(crate) fn successors_in(table: &[u8; 512], words: &[u32], p: usize) -> Succe
     successors_by(companion, class, words, p)
 }
 
-// The successors of word p.
+// The successors of word p, by both columns in a byte. A word that wants nothing and a test come first, as in `successors_in`.
 pub fn successors(words: &[u32], p: usize) -> Successors
     ensures { λ r. ⌜ r ≡ successorsOf (now (words .entry)) p ⌝ }
 {
     if words.len() <= p {
         return Successors::Invalid;
     }
-    let both = crate::packed::both(words[p]);
+    let both = fields::packed::both(words[p]);
     if both == 0 {
         return one_of(words.len(), p + 1);
     }
-    successors_by(both / 16, both % 16, words, p)
+    let companion = both / 16;
+    let class = both % 16;
+    if companion == JUMP_AFTER {
+        if class == BRANCHING {
+            return test(words, p);
+        }
+    }
+    successors_by(companion, class, words, p)
 }
 
 fn has_successor(s: Successors, q: usize) -> bool

@@ -2,9 +2,8 @@
 use crate::print;
 use crate::words::*;
 use fields::opcodes::*;
+use fields::word::OFFSET_SJ;
 use runs::longest_run;
-
-const OFFSET_SJ: u32 = 16777215;
 
 fn slices(marks: &[u8], lengths: &[u32]) {
     print::text(b" marks");

@@ -2,10 +2,9 @@
 use crate::print;
 use crate::words::*;
 use fields::opcodes::*;
+use fields::word::OFFSET_SJ;
 use runs::successors::serves;
 use runs::successors::successors;
-
-const OFFSET_SJ: u32 = 16777215;
 
 // The steps of the second of four words, and whether a step on would serve. A step back always does.
 fn second(label: &[u8], before: u32, word: u32, after: u32, last: u32) {

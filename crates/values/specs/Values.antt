@@ -14,6 +14,7 @@ use Rattle.values.specs.declared.model.ConstantValue.the-variants.{Nil, 
 use Rattle.values.specs.declared.model.Name.{Name}
 use Rattle.values.specs.declared.model.Name.the-variants.{Unnamed, Named}
 
+-- the library's `cond`, shut: what stands in many tests opens only where a proof says so
 unfoldable pub choose : {X : Type 0} → Bool → X → X → X
 choose true a b = a
 choose false a b = b

@@ -2,8 +2,6 @@
 -- Assumes nothing.
 use native.Mathlib.Omega.{arith}
 use mir.Facts.{toZ-ofZ}
-use mir.Val.{SFits}
-use borrow.Author.Needs.{needs}
 use Rattle.exports.proofs.Signed.{told, kept, kept-bits, flipped, flipped-bits}
 use Rattle.exports.proofs.numbers.twos_complement.Statement.{statement}
 use Rattle.exports.proofs.numbers.twos_complement.Tie as tie

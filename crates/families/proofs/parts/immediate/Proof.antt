@@ -1,7 +1,7 @@
 -- `families::parts::immediate` meets its contract: a signed number is kept by the cast to a wider type.
 -- Assumes nothing.
 use native.Mathlib.Omega.{arith}
-use mir.Syntax.{w32, w64}
+use mir.Syntax.{w64}
 use mir.Facts.{toZ-ofZ}
 use mir.Val.{SFits}
 use Rattle.families.proofs.parts.immediate.Statement.{statement}

@@ -1,23 +1,16 @@
--- `fields::lookup::fallback` meets its contract by the table's rule.
+-- `fields::lookup::fallback` meets its contract by the computed test of all bytes.
 -- Assumes nothing.
-use mathlib.Core.Path.{_∙_}
+use Prim.Native.Nat.{_%_}
+use native.Mathlib.Nat.{div-one}
 use native.Mathlib.Omega.{arith}
 use borrow.Author.Needs.{needs}
-use Rattle.fields.specs.Word.{opcodeOf}
-use Rattle.fields.proofs.Entries.{entry}
+use Rattle.fields.proofs.Bytes.{rule-byte}
 use Rattle.fields.proofs.lookup.fallback.Statement.{statement}
 use Rattle.fields.proofs.lookup.fallback.Tie as tie
 
-table-requires : tie.Need-table-requires
-table-requires c κs = search needs
-
-column-requires : tie.Need-column-requires
-column-requires c κs = search needs
-
 returns : tie.Need-returns
 returns c =
-    c .column .ensures
-    ∙ rw (c .before .before .table .ensures) (entry (opcodeOf (c .before .before .before .args .word)) 3 (omega arith) (omega arith))
+    rw (c .byte .ensures, c .before .eight-fallbacks .ensures, div-one) (rule-byte (c .before .before .args .word % 128) (omega arith))
 
 pub fallback-spec : {M : Type 1} → statement M
-fallback-spec = tie.close (tie.spec table-requires column-requires returns)
+fallback-spec = tie.close (tie.spec (λ c κs. search needs) (λ c κs. search needs) returns)

@@ -4,13 +4,11 @@ use Prim.Native.Nat.{ℕ}
 use mathlib.Core.Path.{_≡_, _∙_, sym}
 use mathlib.Core.Bool.{false}
 use lib.Dec.{eqb}
-use native.Mathlib.Omega.{arith}
 use borrow.Author.Needs.{needs}
 use borrow.Author.Tests.{eq-eqb, ne-eqb}
 use Rattle.fields.specs.Opcodes.{«OP_NEWTABLE», «OP_EXTRAARG»}
 use Rattle.fields.specs.Word.{opcodeOf}
-use Rattle.fields.specs.Table.{companionOf, companionNumber}
-use Rattle.fields.proofs.Entries.{entry}
+use Rattle.fields.specs.Table.{companionOf}
 use Rattle.values.specs.Values.{choose}
 use Rattle.values.specs.declared.ir.OptionalPc.{OptionalPc}
 use Rattle.records.specs.Lift.{companionBy, companionPc}
@@ -21,13 +19,6 @@ use Rattle.records.proofs.lift.companion_of.Tie as tie
 -- an opcode that was tested is another
 miss : (o : ℕ) {n : ℕ} (k : ℕ) → n ≡ o → (n ≡ k → ⊥) → eqb o k ≡ false
 miss o k e other = ne-eqb o k (λ h. other (e ∙ h))
-
--- what is read is the number of what the opcode wants
-wanted :
-    (c : tie.After-companion-in) → c .companion-in .result ≡ companionNumber (companionOf (opcodeOf (c .before .before .before .before .args .word)))
-wanted c =
-    c .companion-in .ensures
-    ∙ rw (c .before .before .before .before .pre .0) (entry (opcodeOf (c .before .before .before .before .args .word)) 2 (omega arith) (omega arith))
 
 -- there neither of the two opcodes stands
 column : (c : tie.Else2) (r : OptionalPc) → r ≡ companionBy (companionOf (opcodeOf (c .before .before .before .args .word))) (c .before .before .before .args .pc)
@@ -50,17 +41,17 @@ returns-2 c =
     (c .word-before .ensures)
 
 returns-3 : tie.Need-returns-3
-returns-3 c = column (c .before .before) _ (wants-extra _ (companionOf _) (sym (wanted (c .before)) ∙ c .if3 .taken))
+returns-3 c = column (c .before .before) _ (wants-extra _ (companionOf _) (sym (c .before .companion .ensures) ∙ c .if3 .taken))
 
 returns-4 : tie.Need-returns-4
 returns-4 c =
     column (c .before .before .before .before) _
-    (c .word-before2 .ensures ∙ wants-arithmetic _ (companionOf _) (sym (wanted (c .before .before .before)) ∙ c .before .if4 .taken))
+    (c .word-before2 .ensures ∙ wants-arithmetic _ (companionOf _) (sym (c .before .before .before .companion .ensures) ∙ c .before .if4 .taken))
 
 returns-5 : tie.Need-returns-5
 returns-5 c =
     column (c .before .before .before) _
-    (wants-neither _ (companionOf _) (λ e. c .before .if3 .left (wanted (c .before .before) ∙ e)) (λ e. c .if4 .left (wanted (c .before .before) ∙ e)))
+    (wants-neither _ (companionOf _) (λ e. c .before .if3 .left (c .before .before .companion .ensures ∙ e)) (λ e. c .if4 .left (c .before .before .companion .ensures ∙ e)))
 
 pub companion-of-spec : {M : Type 1} → statement M
 companion-of-spec = tie.close (tie.spec (λ c κs. search needs) returns (λ c κs. search needs) returns-2 (λ c κs. search needs) (λ c. search needs) (λ c κs. search needs) returns-3 returns-4 returns-5)

@@ -11,11 +11,11 @@ returns c =
     rw (
       c .confidence-of .ensures,
       c .before .companion-of .ensures,
-      c .before .before .before .fallback-of .ensures,
-      c .before .before .before .before .before .before .before .before .before .lift-body .ensures,
-      c .before .before .before .before .before .before .before .before .before .before .opcode .ensures,
-      c .before .before .before .before .before .before .before .before .before .before .before .decode .ensures,
+      c .before .before .fallback-of .ensures,
+      c .before .before .before .before .before .before .lift-body .ensures,
+      c .before .before .before .before .before .before .before .opcode .ensures,
+      c .before .before .before .before .before .before .before .before .decode .ensures,
     )
 
 pub lift-at-spec : {M : Type 1} → statement M
-lift-at-spec = tie.close (tie.spec (λ c. search needs) (λ c. search needs) (λ c κs. search needs) (λ c κs. search needs) (λ c κs. search needs) (λ c κs. search needs) (λ c κs. search needs) (λ c κs. search needs) (λ c κs. search needs) returns)
+lift-at-spec = tie.close (tie.spec (λ c. search needs) (λ c. search needs) (λ c κs. search needs) (λ c κs. search needs) (λ c κs. search needs) (λ c κs. search needs) (λ c κs. search needs) (λ c κs. search needs) returns)

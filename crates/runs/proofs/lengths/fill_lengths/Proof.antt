@@ -4,7 +4,7 @@ use Prim.Native.Nat.{ℕ, _+_, _-_, _<_, _≤_}
 use native.Mathlib.Omega.{arith}
 use lib.ListN.{length, drop, length-set}
 use lib.Seq.{drop-set-lt}
-use Rattle.runs.specs.Longest.{lowest}
+use Rattle.runs.specs.Longest.{lowestFrom}
 use Rattle.runs.specs.Instance.{graphOf, unitWeight}
 use Rattle.runs.specs.Run.{reachesInvalid, lowestInvalid}
 use Rattle.runs.specs.Invariants.{Filled}
@@ -18,7 +18,7 @@ abbrev Inv-loop : tie.InvT-loop
 Inv-loop table words marks lengths₀ invalid₀ i₀ lengths invalid i =
     Filled (graphOf words) unitWeight marks lengths i
     × (i ≤ length words)
-    × (invalid ≡ lowest (reachesInvalid words) i (length words - i))
+    × (invalid ≡ lowestFrom (reachesInvalid words) i (length words - i))
     × (drop (length words) lengths ≡ drop (length words) lengths₀)
     × (length lengths ≡ length lengths₀)
 
@@ -46,11 +46,11 @@ module _ (c : tie.In-loop Inv-loop μ-loop) where
   filled = subst (λ (x : ℕ). Filled (graphOf (start .args .words .now)) unitWeight (start .args .marks .now) (c .before .loop .lengths) x) back (c .before .loop .inv .0)
 
   -- the lowest invalid word after the turn
-  lower : {v : ℕ} → (let ws = start .args .words .now in v ≡ cond (reachesInvalid ws word) word (c .before .loop .invalid)) → let ws = start .args .words .now in v ≡ lowest (reachesInvalid ws) word (length ws - word)
+  lower : {v : ℕ} → (let ws = start .args .words .now in v ≡ cond (reachesInvalid ws word) word (c .before .loop .invalid)) → let ws = start .args .words .now in v ≡ lowestFrom (reachesInvalid ws) word (length ws - word)
   lower e =
       let ws = start .args .words .now in
       e
-      ∙ ap (λ (x : ℕ). cond (reachesInvalid ws word) word x) (c .before .loop .inv .2 ∙ ap (λ (x : ℕ). lowest (reachesInvalid ws) x (length ws - x)) back)
+      ∙ ap (λ (x : ℕ). cond (reachesInvalid ws word) word x) (c .before .loop .inv .2 ∙ ap (λ (x : ℕ). lowestFrom (reachesInvalid ws) x (length ws - x)) back)
       ∙ sym (lowest-down (reachesInvalid ws) (length ws) word inside)
 
 loop-again : tie.Need-loop-again Inv-loop μ-loop
@@ -72,7 +72,7 @@ returns c =
     let ws = c .before .before .before .before .before .args .words .now in
     let e : c .before .loop .i ≡ 0 = omega (arith, c .loop-test .left) in (
       record { each = λ p h. v .0 .from p (omega (arith, e)) h; rest = v .3 },
-      v .2 ∙ ap (λ (x : ℕ). lowest (reachesInvalid ws) x (length ws - x)) e ∙ lowest-whole (reachesInvalid ws) (length ws),
+      v .2 ∙ ap (λ (x : ℕ). lowestFrom (reachesInvalid ws) x (length ws - x)) e ∙ lowest-whole (reachesInvalid ws) (length ws),
     )
 
 pub fill-lengths-spec : {M : Type 1} → statement M

@@ -11,7 +11,7 @@ use Rattle.runs.specs.Marks.{markOf}
 use Rattle.runs.specs.Longest.{best, lengthOf}
 use Rattle.runs.specs.Successors.{listOf, isInvalid}
 use Rattle.runs.specs.Instance.{graphOf, unitWeight}
-use Rattle.runs.specs.Run.{reachesInvalid}
+use Rattle.runs.specs.Run.{mostWords, reachesInvalid}
 use Rattle.runs.specs.Invariants.{at}
 use Rattle.runs.proofs.Lawful.{lawful}
 use Rattle.runs.proofs.Backward.{unmarked, marked, measured, in-lengths, length-unmarked, length-bound, lowest-unmarked, lowest-here, lowest-above}
@@ -46,7 +46,7 @@ module _ (c : tie.After-successors-in) where
     steps : l ≡ graph (enter c) .successors (enter c .args .p)
     steps = e ∙ ap listOf (c .successors-in .ensures)
 
-    found : let s = enter c in (lengthHere s ≡ 1 + best (graph s) (s .args .p) (at (s .args .lengths .now)) l) × (lengthHere s ≤ 32768)
+    found : let s = enter c in (lengthHere s ≡ 1 + best (graph s) (s .args .p) (at (s .args .lengths .now)) l) × (lengthHere s ≤ mostWords)
     found =
         let s = enter c in (
           measured (graph s) (lawful (s .args .words .now)) unitWeight (s .args .marks .now) (s .args .lengths .now) (s .args .p) (s .pre .1) (s .pre .2) (c .before .if1 .left) steps,
@@ -77,7 +77,7 @@ returns-3 c = let e = c .enum-told2 .given .1 in let d = c .before .before in (o
 
 -- one successor
 module _ (c : tie.After-beyond) where
-  one-found : let s = enter (c .before .before .before .before) in (c .beyond .result + 1 ≡ lengthHere s) × (lengthHere s ≤ 32768)
+  one-found : let s = enter (c .before .before .before .before) in (c .beyond .result + 1 ≡ lengthHere s) × (lengthHere s ≤ mostWords)
   one-found = let f = found (c .before .before .before .before) (one (c .before .before)) in (omega (arith, f .0, c .beyond .ensures), f .1)
 
   one-valid : let s = enter (c .before .before .before .before) in Lowest s (s .args .invalid)
@@ -85,7 +85,7 @@ module _ (c : tie.After-beyond) where
 
 -- two successors
 module _ (c : tie.After-beyond3) where
-  two-found : let s = enter (c .before .before .before .before .before) in (lengthHere s ≤ 32768) × (c .before .beyond2 .result ≤ c .beyond3 .result → c .beyond3 .result + 1 ≡ lengthHere s) × (c .beyond3 .result ≤ c .before .beyond2 .result → c .before .beyond2 .result + 1 ≡ lengthHere s)
+  two-found : let s = enter (c .before .before .before .before .before) in (lengthHere s ≤ mostWords) × (c .before .beyond2 .result ≤ c .beyond3 .result → c .beyond3 .result + 1 ≡ lengthHere s) × (c .beyond3 .result ≤ c .before .beyond2 .result → c .before .beyond2 .result + 1 ≡ lengthHere s)
   two-found =
       let f = found (c .before .before .before .before .before) (two (c .before .before .before)) in
       (f .1, λ h. omega (arith, f .0, c .beyond3 .ensures, c .before .beyond2 .ensures), λ h. omega (arith, f .0, c .beyond3 .ensures, c .before .beyond2 .ensures))
@@ -93,10 +93,10 @@ module _ (c : tie.After-beyond3) where
   two-valid : let s = enter (c .before .before .before .before .before) in Lowest s (s .args .invalid)
   two-valid = not-invalid (c .before .before .before .before .before) (ap isInvalid (c .before .before .before .s2 .given .1))
 
-left : (c : tie.Then2) → let s = enter (c .before .before .before .before .before .before) in (c .before .beyond3 .result + 1 ≡ lengthHere s) × (lengthHere s ≤ 32768)
+left : (c : tie.Then2) → let s = enter (c .before .before .before .before .before .before) in (c .before .beyond3 .result + 1 ≡ lengthHere s) × (lengthHere s ≤ mostWords)
 left c = let f = two-found (c .before) in (f .1 (omega (arith, c .if2 .taken)), f .0)
 
-right : (c : tie.Else2) → let s = enter (c .before .before .before .before .before .before) in (c .before .before .beyond2 .result + 1 ≡ lengthHere s) × (lengthHere s ≤ 32768)
+right : (c : tie.Else2) → let s = enter (c .before .before .before .before .before .before) in (c .before .before .beyond2 .result + 1 ≡ lengthHere s) × (lengthHere s ≤ mostWords)
 right c = let f = two-found (c .before) in (f .2 (omega (arith, c .if2 .left)), f .0)
 
 pub measure-spec : {M : Type 1} → statement M

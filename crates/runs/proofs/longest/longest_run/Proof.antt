@@ -1,6 +1,5 @@
-use mathlib.Core.Path.{_≡_, refl}
-use Prim.Native.Nat.{ℕ, _<_}
-use native.Mathlib.Omega.{arith}
+use mathlib.Core.Path.{refl}
+use native.Mathlib.Nat.{pos-of-ne-zero}
 use borrow.Author.Needs.{needs}
 use Rattle.runs.proofs.Outcome.{run-1, run-6-marks, run-6-lengths, run-7, outcome-kept}
 use Rattle.runs.proofs.longest.longest_run.Statement.{statement}
@@ -21,10 +20,7 @@ returns-4 c = outcome-kept _ _ _ 7 (run-7 _ _ _ (c .before .before .before .if1 
 run-of-words-requires : tie.Need-run-of-words-requires
 run-of-words-requires c κs =
     let d = c .before .before in
-    record { some = above (d .if4 .left); few = d .before .before .before .if1 .left; m-long = d .before .before .if2 .left; l-long = d .before .if3 .left }
-  where
-    above : {n : ℕ} → (n ≡ 0 → ⊥) → 0 < n
-    above {n} z = omega arith
+    record { some = pos-of-ne-zero (d .if4 .left); few = d .before .before .before .if1 .left; m-long = d .before .before .if2 .left; l-long = d .before .if3 .left }
 
 pub longest-run-spec : {M : Type 1} → statement M
 longest-run-spec =

@@ -8,11 +8,11 @@ returns : tie.Need-returns
 unfolding unless
 returns c =
     let a = c .before .before in
-    rw (← a .before .opcode-at .ensures, ← a .is-in .ensures, c .before .if1 .taken) (c .two-of .ensures)
+    rw (← a .before .opcode-at .ensures, ← a .is-between .ensures, c .before .if1 .taken) (c .two-of .ensures)
 
 returns-2 : tie.Need-returns-2
 unfolding unless
-returns-2 c = let a = c .before in rw (← a .before .opcode-at .ensures, ← a .is-in .ensures, c .if1 .left)
+returns-2 c = let a = c .before in rw (← a .before .opcode-at .ensures, ← a .is-between .ensures, c .if1 .left)
 
 pub arithmetic-spec : {M : Type 1} → statement M
 arithmetic-spec =

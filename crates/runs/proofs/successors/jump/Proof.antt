@@ -7,10 +7,10 @@ use Rattle.runs.proofs.successors.jump.Statement.{statement}
 use Rattle.runs.proofs.successors.jump.Tie as tie
 
 returns : tie.Need-returns
-returns c = rw (← c .before .ax .ensures) (away-below _ _ _ 16777215 (c .if1 .taken))
+returns c = rw (← c .before .ax .ensures) (away-below _ _ _ _ (c .if1 .taken))
 
 returns-2 : tie.Need-returns-2
-returns-2 c = c .one-of .ensures ∙ rw (← c .before .before .ax .ensures) (away-in _ _ _ 16777215 (c .before .if1 .left))
+returns-2 c = c .one-of .ensures ∙ rw (← c .before .before .ax .ensures) (away-in _ _ _ _ (c .before .if1 .left))
 
 pub jump-spec : {M : Type 1} → statement M
 jump-spec =

@@ -1,15 +1,11 @@
 -- `runs::successors::metamethod` meets its contract. Assumes nothing.
-use Prim.Native.Nat.{ℕ, _<_}
-use mathlib.Core.Path.{_≡_}
+use native.Mathlib.Nat.{pos-of-ne-zero}
 use native.Mathlib.Omega.{arith}
 use Rattle.runs.specs.Successors.{unless}
 use borrow.Author.Needs.{needs}
 use borrow.Author.Tests.{lt-ltb, le-ltb}
 use Rattle.runs.proofs.successors.metamethod.Statement.{statement}
 use Rattle.runs.proofs.successors.metamethod.Tie as tie
-
-above : {n : ℕ} → (n ≡ 0 → ⊥) → 0 < n
-above {n} z = omega arith
 
 returns : tie.Need-returns
 unfolding unless
@@ -20,21 +16,21 @@ unfolding unless
 returns-2 c =
     let a = c .before .before in
     let e = a .before .before in
-    rw (lt-ltb 0 _ (above (e .if1 .left)), ← a .before .opcode-at .ensures, ← a .is-in .ensures, c .before .if2 .taken) (c .one-of .ensures)
+    rw (lt-ltb 0 _ (pos-of-ne-zero (e .if1 .left)), ← a .before .opcode-at .ensures, ← a .is-between .ensures, c .before .if2 .taken) (c .one-of .ensures)
 
 returns-3 : tie.Need-returns-3
 unfolding unless
 returns-3 c =
     let a = c .before in
     let e = a .before .before in
-    rw (lt-ltb 0 _ (above (e .if1 .left)), ← a .before .opcode-at .ensures, ← a .is-in .ensures, c .if2 .left)
+    rw (lt-ltb 0 _ (pos-of-ne-zero (e .if1 .left)), ← a .before .opcode-at .ensures, ← a .is-between .ensures, c .if2 .left)
 
 pub metamethod-spec : {M : Type 1} → statement M
 metamethod-spec =
     tie.close
     (tie.spec
     returns
-    (λ c. omega (arith, above (c .if1 .left)))
+    (λ c. omega (arith, pos-of-ne-zero (c .if1 .left)))
     (λ c κs. search needs)
     (λ c κs. search needs)
     (λ c. search needs)

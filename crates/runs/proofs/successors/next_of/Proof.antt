@@ -2,9 +2,8 @@
 -- Assumes nothing.
 use borrow.Author.Tests.{eq-eqb, ne-eqb}
 use mathlib.Core.Path.{sym, _∙_}
-use borrow.Author.Needs.{zero≤}
 use Rattle.runs.specs.Columns.{classFrom}
-use Rattle.runs.proofs.Laws.{past}
+use Rattle.runs.proofs.Order.{past-all}
 use Rattle.runs.proofs.Columns.{class-past}
 use borrow.Author.Needs.{needs}
 use Rattle.runs.proofs.successors.next_of.Statement.{statement}
@@ -51,9 +50,7 @@ unfolding classFrom
 returns-10 c = rw (c .before .before .match .keys9, ← c .before .bx2 .ensures) (c .one-of5 .ensures)
 
 returns-11 : tie.Need-returns-11
-returns-11 c =
-    let r = c .match .rest in
-    rw (class-past (c .before .args .class) (past (past (past (past (past (past (past (past (past zero≤ (r .0 .0 .0 .0 .0 .0 .0 .0 .1)) (r .0 .0 .0 .0 .0 .0 .0 .1)) (r .0 .0 .0 .0 .0 .0 .1)) (r .0 .0 .0 .0 .0 .1)) (r .0 .0 .0 .0 .1)) (r .0 .0 .0 .1)) (r .0 .0 .1)) (r .0 .1)) (r .1)))
+returns-11 c = rw (class-past (c .before .args .class) (past-all 9 _ (c .match .rest)))
 
 pub next-of-spec : {M : Type 1} → statement M
 next-of-spec =

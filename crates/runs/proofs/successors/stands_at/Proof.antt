@@ -2,9 +2,8 @@
 -- Assumes nothing.
 use borrow.Author.Tests.{eq-eqb, ne-eqb, lt-ltb, le-ltb}
 use mathlib.Core.Path.{sym, _∙_}
-use borrow.Author.Needs.{zero≤}
 use Rattle.runs.specs.Columns.{companionFrom}
-use Rattle.runs.proofs.Laws.{past}
+use Rattle.runs.proofs.Order.{past-all}
 use Rattle.runs.proofs.Columns.{companion-past}
 use borrow.Author.Needs.{needs}
 use Rattle.runs.proofs.successors.stands_at.Statement.{statement}
@@ -47,9 +46,7 @@ unfolding companionFrom
 returns-9 c = rw (c .before .before .before .match .keys7) (cc)
 
 returns-10 : tie.Need-returns-10
-returns-10 c =
-    let r = c .before .match .rest in
-    rw (companion-past (c .before .before .before .args .companion) (past (past (past (past (past (past (past zero≤ (r .0 .0 .0 .0 .0 .0 .1)) (r .0 .0 .0 .0 .0 .1)) (r .0 .0 .0 .0 .1)) (r .0 .0 .0 .1)) (r .0 .0 .1)) (r .0 .1)) (r .1))) (cc)
+returns-10 c = rw (companion-past (c .before .before .before .args .companion) (past-all 7 _ (c .before .match .rest))) (cc)
 
 pub stands-at-spec : {M : Type 1} → statement M
 stands-at-spec =

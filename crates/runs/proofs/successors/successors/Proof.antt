@@ -1,34 +1,47 @@
 -- `runs::successors::successors` meets its contract: both columns from a byte.
 -- Assumes nothing.
-use mathlib.Core.Path.{sym, _∙_}
+use Prim.Native.Nat.{ℕ, _/_, _%_}
+use mathlib.Core.Path.{_≡_, refl, ap, sym, _∙_}
+use mathlib.Core.List.{List}
+use native.Mathlib.Omega.{arith}
+use lib.ListN.{length, getD}
+use Rattle.runs.specs.Columns.{classFrom, companionFrom}
+use Rattle.runs.specs.Successors.{unless, nextOf, standsAt, successorsOf}
 use Rattle.runs.proofs.Columns.{class-of-both, companion-of-both}
-use Rattle.runs.proofs.Laws.{outside, by-columns, plainly}
+use Rattle.runs.proofs.Laws.{outside, by-columns}
 use borrow.Author.Needs.{needs}
 use Rattle.runs.proofs.successors.successors.Statement.{statement}
 use Rattle.runs.proofs.successors.successors.Tie as tie
 
-returns : tie.Need-returns
-returns c = sym (outside _ _ (c .if1 .taken))
+-- where both columns are read
+module _ (c : tie.After-both) where
+  abbrev start : tie.Start
+  start = c .before .before .before .before
+
+  abbrev words : List ℕ
+  words = start .args .words .now
+
+  by-numbers : (companion class : ℕ) → c .both .result / 16 ≡ companion → c .both .result % 16 ≡ class → unless (standsAt (companionFrom companion) words (start .args .p)) (nextOf (classFrom class) (length words) (getD words (start .args .p) 0) (start .args .p)) ≡ successorsOf words (start .args .p)
+  by-numbers companion class d e =
+      by-columns words (start .args .p) companion class (c .before .before .if1 .left)
+      (ap companionFrom (sym d) ∙ companion-of-both _ _ _ (c .both .ensures))
+      (ap classFrom (sym e) ∙ class-of-both _ _ _ (c .both .ensures))
 
 returns-2 : tie.Need-returns-2
+unfolding unless companionFrom classFrom
 returns-2 c =
-    c .one-of .ensures
-    ∙ plainly _ _ (c .before .before .before .before .if1 .left)
-    (companion-of-both _ _ 0 (sym (c .before .if2 .taken) ∙ c .before .before .both .ensures))
-    (class-of-both _ _ 0 (sym (c .before .if2 .taken) ∙ c .before .before .both .ensures))
+    let none = c .before .if2 .taken in
+    c .one-of .ensures ∙ by-numbers (c .before .before) 0 0 (omega (arith, none)) (omega (arith, none))
 
 returns-3 : tie.Need-returns-3
-returns-3 c =
-    c .successors-by .ensures
-    ∙ by-columns _ _ _ _ (c .before .before .before .before .if1 .left)
-    (companion-of-both _ _ _ (c .before .before .both .ensures))
-    (class-of-both _ _ _ (c .before .before .both .ensures))
+unfolding companionFrom classFrom
+returns-3 c = c .test .ensures ∙ by-numbers (c .before .before .before .before) 3 2 (c .before .before .if3 .taken) (c .before .if4 .taken)
 
 pub successors-spec : {M : Type 1} → statement M
 successors-spec =
     tie.close
     (tie.spec
-    returns
+    (λ c. sym (outside _ _ (c .if1 .taken)))
     (λ c. search needs)
     (λ c. search needs)
     (λ c κs. search needs)
@@ -36,4 +49,6 @@ successors-spec =
     (λ c κs. search needs)
     returns-2
     (λ c κs. search needs)
-    returns-3)
+    returns-3
+    (λ c κs. search needs)
+    (λ c. c .successors-by .ensures ∙ by-numbers (c .before .before .before) _ _ refl refl))

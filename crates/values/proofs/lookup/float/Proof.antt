@@ -1,5 +1,4 @@
 use borrow.Author.Needs.{needs}
-use lib.Ieee.{nanBits}
 use Rattle.values.specs.Values.{floatOf, choose}
 use Rattle.values.proofs.lookup.float.Statement.{statement}
 use Rattle.values.proofs.lookup.float.Tie as tie

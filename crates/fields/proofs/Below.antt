@@ -2,21 +2,20 @@
 -- Assumes nothing.
 use Prim.Native.Nat.{ℕ, zero, suc, _<_}
 use mathlib.Core.Path.{_≡_, refl, sym, subst}
-use mathlib.Core.Bool.{Bool, true, false}
+use mathlib.Core.Bool.{Bool, true, false, cond}
 use native.Mathlib.Omega.{arith}
 use lib.Dec.{T, eqb}
 use borrow.Author.Tests.{eqb-true, eqb-false}
-use Rattle.fields.specs.Table.{pick}
 
 abbrev pub all : (ℕ → Bool) → ℕ → Bool
 all f zero = true
-all f (suc n) = pick (f n) (all f n) false
+all f (suc n) = cond (f n) (all f n) false
 
-left-of : (a b : Bool) → T (pick a b false) → T a
+left-of : (a b : Bool) → T (cond a b false) → T a
 left-of true b t = tt
 left-of false b t = t
 
-right-of : (a b : Bool) → T (pick a b false) → T b
+right-of : (a b : Bool) → T (cond a b false) → T b
 right-of true b t = t
 right-of false b t = absurd t
 
