@@ -30,7 +30,7 @@ fn main() {
     println!("cargo:rustc-link-search=native={}", out.display());
     println!("cargo:rustc-link-lib=static=twin");
 
-    println!("cargo:rustc-check-cfg=cfg(rattle, rattle_records)");
+    println!("cargo:rustc-check-cfg=cfg(rattle)");
     println!("cargo:rerun-if-env-changed=RATTLE_LIBS");
     let Ok(folder) = std::env::var("RATTLE_LIBS") else { return };
     println!("cargo:rerun-if-changed={folder}");
@@ -38,10 +38,5 @@ fn main() {
     println!("cargo:rustc-link-search=native={folder}");
     for name in ["exports", "meter"] {
         println!("cargo:rustc-link-lib=static={name}");
-    }
-    // Records join in once the library exports them.
-    let symbols = Command::new("nm").arg(Path::new(&folder).join("libexports.a")).output().expect("nm");
-    if String::from_utf8_lossy(&symbols.stdout).contains(" T lawendeb_lift") {
-        println!("cargo:rustc-cfg=rattle_records");
     }
 }

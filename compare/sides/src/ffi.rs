@@ -144,14 +144,10 @@ pub mod rattle {
                     list.iter().map(|&q| u64::from(lawendeb_feed(w.as_ptr(), w.len(), m, q as usize) != 0)).sum()
                 })
             },
-            #[cfg(rattle_records)]
             lift: Some(records::lift),
-            #[cfg(not(rattle_records))]
-            lift: None,
         }
     }
 
-    #[cfg(rattle_records)]
     mod records {
         use super::*;
         use model::flat::NUMBERS;
