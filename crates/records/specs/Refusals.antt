@@ -12,6 +12,10 @@ use Rattle.records.specs.declared.refusals.Answer.{Answer}
 use Rattle.records.specs.declared.refusals.Plan.{Plan}
 
 -- "Each answer carries its number, 0 when accepted, and a place, 0 unless named"
+-- "32,769 words (32,768 pass)"
+abbrev pub mostWords : ℕ
+mostWords = 32768
+
 abbrev pub answer : ℕ → ℕ → Answer
 answer number place = record { number = number; place = place }
 
@@ -81,7 +85,7 @@ checkConstants tags payloads bytes next =
 -- 1, "more than 32,768 words"; then the others. "Checks run in this order".
 unfoldable pub answerOf : ℕ → List ℕ → List ℕ → List ℕ → ℕ → ℕ → Answer
 answerOf n tags payloads names bytes room =
-    refuseIf 1 (ltb 32768 n) (checkConstants tags payloads bytes (checkNames names bytes (checkRoom n room)))
+    refuseIf 1 (ltb mostWords n) (checkConstants tags payloads bytes (checkNames names bytes (checkRoom n room)))
 
 -- the answer, and how many records are written: all or none
 unfoldable pub planOf : ℕ → List ℕ → List ℕ → List ℕ → ℕ → ℕ → Plan

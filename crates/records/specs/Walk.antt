@@ -17,7 +17,7 @@ use Rattle.families.specs.Shapes.{operandsOf, readsOf, writesOf}
 use Rattle.records.specs.declared.lift.Lifted.{Lifted}
 use Rattle.records.specs.declared.refusals.Plan.{Plan}
 use Rattle.records.specs.Lift.{liftOf}
-use Rattle.records.specs.Refusals.{answerOf, planOf}
+use Rattle.records.specs.Refusals.{mostWords, answerOf, planOf}
 
 -- the records of the first n words, in the first n places of a list
 abbrev pub filled : List ℕ → List ℕ → List ℕ → List ℕ → ℕ → List SemanticInstruction → List SemanticInstruction
@@ -83,4 +83,4 @@ liftedOf words tags payloads names bytes pc =
 -- below its count. Past 32,768 words, or past the words, there is none.
 unfoldable pub recordAt : List ℕ → List ℕ → List ℕ → List ℕ → ℕ → SemanticInstruction
 recordAt words tags payloads names pc =
-    choose (ltb 32768 (length words)) blank (choose (ltb pc (length words)) (liftOf words tags payloads names pc) blank)
+    choose (ltb mostWords (length words)) blank (choose (ltb pc (length words)) (liftOf words tags payloads names pc) blank)

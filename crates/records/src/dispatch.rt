@@ -1,6 +1,7 @@
 // Which arm of lifter.rs an opcode takes, a group of opcodes at a time. Callers keep pc below the most words.
 ghost use mathlib.Core.Path.{_≡_};
 ghost use Prim.Native.Nat.{_<_};
+ghost use Rattle.records.specs.Refusals.{mostWords};
 ghost use Rattle.records.specs.Lift.{extendedIndex, jmpTarget, ahead, back, loads, tables, arithmetic, control, calls, bodyOf};
 use families::arithmetic::*;
 use families::builders::Body;
@@ -24,7 +25,7 @@ use values::ir::TypedOperand;
 const OFFSET_SJ: usize = fields::word::OFFSET_SJ as usize;
 
 fn extended_index(words: &[u32], pc: usize) -> usize
-    requires { ⌜ pc < 32768 ⌝ }
+    requires { ⌜ pc < mostWords ⌝ }
     ensures { λ r. ⌜ r ≡ extendedIndex (now (words .entry)) pc ⌝ }
 {
     let next = pc + 1;
@@ -42,7 +43,7 @@ fn extended_index(words: &[u32], pc: usize) -> usize
 
 // The target is worked out in numbers that are not negative: what it would be less the offset, and if that is below 0, 2^64 more.
 fn jmp_target(pc: usize, word: u32) -> usize
-    requires { ⌜ pc < 32768 ⌝ }
+    requires { ⌜ pc < mostWords ⌝ }
     ensures { λ r. ⌜ r ≡ jmpTarget pc word ⌝ }
 {
     let to = pc + 1 + ax(word) as usize;
@@ -54,7 +55,7 @@ fn jmp_target(pc: usize, word: u32) -> usize
 }
 
 fn lift_ahead(pc: usize, word: u32, raw: RawInstruction54) -> Body
-    requires { ⌜ pc < 32768 ⌝ }
+    requires { ⌜ pc < mostWords ⌝ }
     ensures { λ r. ⌜ r ≡ ahead pc word raw ⌝ }
 {
     let by = bx(word);
@@ -62,7 +63,7 @@ fn lift_ahead(pc: usize, word: u32, raw: RawInstruction54) -> Body
 }
 
 fn lift_back(pc: usize, word: u32, raw: RawInstruction54) -> Body
-    requires { ⌜ pc < 32768 ⌝ }
+    requires { ⌜ pc < mostWords ⌝ }
     ensures { λ r. ⌜ r ≡ back pc word raw ⌝ }
 {
     let by = bx(word);
@@ -78,7 +79,7 @@ fn lift_loads(
     raw: RawInstruction54,
     opcode: u8,
 ) -> Body
-    requires { ⌜ pc < 32768 ⌝ }
+    requires { ⌜ pc < mostWords ⌝ }
     ensures { λ r. ⌜ r ≡ loads (now (words .entry)) (now (tags .entry)) (now (payloads .entry)) pc raw opcode ⌝ }
 {
     match opcode {
@@ -175,7 +176,7 @@ fn lift_arithmetic(
 }
 
 fn lift_control(pc: usize, word: u32, raw: RawInstruction54, opcode: u8) -> Body
-    requires { ⌜ pc < 32768 ⌝ }
+    requires { ⌜ pc < mostWords ⌝ }
     ensures { λ r. ⌜ r ≡ control pc word raw opcode ⌝ }
 {
     if opcode == OP_CLOSE {
@@ -198,7 +199,7 @@ fn lift_control(pc: usize, word: u32, raw: RawInstruction54, opcode: u8) -> Body
 }
 
 fn lift_calls(pc: usize, word: u32, raw: RawInstruction54, opcode: u8) -> Body
-    requires { ⌜ pc < 32768 ⌝ }
+    requires { ⌜ pc < mostWords ⌝ }
     ensures { λ r. ⌜ r ≡ calls pc word raw opcode ⌝ }
 {
     match opcode {
@@ -231,7 +232,7 @@ pub(crate) fn lift_body(
     raw: RawInstruction54,
     opcode: u8,
 ) -> Body
-    requires { ⌜ pc < 32768 ⌝ }
+    requires { ⌜ pc < mostWords ⌝ }
     ensures { λ r. ⌜ r ≡ bodyOf (now (words .entry)) (now (tags .entry)) (now (payloads .entry)) (now (names .entry)) pc word raw opcode ⌝ }
 {
     if opcode <= OP_LOADNIL {

@@ -5,6 +5,7 @@ ghost use lib.ListN.{length};
 ghost use Rattle.fields.specs.Word.{opcodeOf};
 ghost use Rattle.fields.specs.Table.{fallbackOf};
 ghost use Rattle.records.specs.Lift.{fallbackBy, before, companionPc, confidenceOf, liftOf};
+ghost use Rattle.records.specs.Refusals.{mostWords};
 ghost use Rattle.records.specs.Walk.{blank, liftedOf, recordAt};
 use crate::dispatch::lift_body;
 use crate::refusals::Answer;
@@ -55,7 +56,7 @@ fn word_before(pc: usize) -> OptionalPc
 }
 
 fn companion_of(word: u32, pc: usize) -> OptionalPc
-    requires { ⌜ pc < 32768 ⌝ }
+    requires { ⌜ pc < mostWords ⌝ }
     ensures { λ r. ⌜ r ≡ companionPc (opcodeOf word) pc ⌝ }
 {
     let number = opcode(word);
@@ -92,7 +93,7 @@ pub(crate) fn lift_at<'a>(
     names: &'a [u64],
     pc: usize,
 ) -> SemanticInstruction
-    requires { ⌜ (pc < length (now words)) × (length (now words) ≤ 32768) ⌝ }
+    requires { ⌜ (pc < length (now words)) × (length (now words) ≤ mostWords) ⌝ }
     ensures { λ r. ⌜ r ≡ liftOf (now (words .entry)) (now (tags .entry)) (now (payloads .entry)) (now (names .entry)) pc ⌝ }
 {
     let raw_word = words[pc];
