@@ -11,11 +11,11 @@ use Rattle.records.specs.declared.refusals.Place.the-variants.{Nowhere, 
 use Rattle.records.specs.declared.refusals.Answer.{Answer}
 use Rattle.records.specs.declared.refusals.Plan.{Plan}
 
--- "Each answer carries its number, 0 when accepted, and a place, 0 unless named"
 -- "32,769 words (32,768 pass)"
 abbrev pub mostWords : ℕ
 mostWords = 32768
 
+-- "Each answer carries its number, 0 when accepted, and a place, 0 unless named"
 abbrev pub answer : ℕ → ℕ → Answer
 answer number place = record { number = number; place = place }
 
