@@ -23,7 +23,8 @@ use Rattle.runs.specs.declared.edges.Successors.{Successors}
 use Rattle.runs.specs.declared.edges.Successors.the-variants.{One, Two}
 use Rattle.runs.specs.Columns.{classFrom, companionFrom}
 use Rattle.runs.specs.Successors.{unless, one, ordered, two, opcodeAt, nextOf, standsAt, companionPresent, successorsOf, isInvalid, listOf}
-use Rattle.runs.specs.Lvm.{Body, still, skip, arith as arithmetic, jmp, condjump, testset, call, leave, forloop, forprep, tforprep, tforcall, tforloop, setlist, assert0, absent, fetch, dojump, waysOf, switch, vmdispatch, targetsOf, bodyAt, waysAt, goesOn, Among, integers, Alike, Agreement}
+use Rattle.runs.specs.Graph.{In}
+use Rattle.runs.specs.Lvm.{Body, still, skip, arith as arithmetic, jmp, condjump, testset, call, leave, forloop, forprep, tforprep, tforcall, tforloop, setlist, assert0, absent, fetch, dojump, waysOf, switch, vmdispatch, targetsOf, bodyAt, waysAt, goesOn, integers, Alike, Agreement}
 use Rattle.runs.proofs.Columns.{class-back, companion-back}
 
 -- The two classifications.
@@ -63,19 +64,19 @@ class-by o h =
 -- Sets of next words.
 
 abbrev Same : List ℤ → List ℤ → Type 0
-Same xs ys = (z : ℤ) → Among z xs ↔ Among z ys
+Same xs ys = (z : ℤ) → In z xs ↔ In z ys
 
-swapped : {x y z : ℤ} → Among z (x ∷ y ∷ []) → Among z (y ∷ x ∷ [])
+swapped : {x y z : ℤ} → In z (x ∷ y ∷ []) → In z (y ∷ x ∷ [])
 swapped (inl e) = inr (inl e)
 swapped (inr (inl e)) = inl e
 swapped (inr (inr e)) = absurd e
 
-doubled : {x y z : ℤ} → x ≡ y → Among z (x ∷ y ∷ []) → Among z (x ∷ [])
+doubled : {x y z : ℤ} → x ≡ y → In z (x ∷ y ∷ []) → In z (x ∷ [])
 doubled d (inl e) = inl e
 doubled d (inr (inl e)) = inl (e ∙ sym d)
 doubled d (inr (inr e)) = absurd e
 
-single : {x y z : ℤ} → Among z (x ∷ []) → Among z (x ∷ y ∷ [])
+single : {x y z : ℤ} → In z (x ∷ []) → In z (x ∷ y ∷ [])
 single (inl e) = inl e
 single (inr e) = absurd e
 

@@ -5,7 +5,7 @@
 -- Assumes nothing.
 use Prim.Native.Nat.{ℕ, _+_}
 use mathlib.Core.Path.{_≡_}
-use mathlib.Core.Logic.{_⊎_, _↔_}
+use mathlib.Core.Logic.{_↔_}
 use mathlib.Core.Bool.{false, cond}
 use mathlib.Core.List.{List, [], _∷_}
 use lib.Dec.{eqb}
@@ -13,6 +13,7 @@ use lib.IntN.{ℤ, pos, negsuc, _+ℤ_, _-ℤ_}
 use lib.ListN.{getD}
 use Rattle.fields.specs.Opcodes.{«OP_MOVE», «OP_LOADI», «OP_LOADF», «OP_LOADK», «OP_LOADKX», «OP_LOADFALSE», «OP_LFALSESKIP», «OP_LOADTRUE», «OP_LOADNIL», «OP_GETUPVAL», «OP_SETUPVAL», «OP_GETTABUP», «OP_GETTABLE», «OP_GETI», «OP_GETFIELD», «OP_SETTABUP», «OP_SETTABLE», «OP_SETI», «OP_SETFIELD», «OP_NEWTABLE», «OP_SELF», «OP_ADDI», «OP_ADDK», «OP_SUBK», «OP_MULK», «OP_MODK», «OP_POWK», «OP_DIVK», «OP_IDIVK», «OP_BANDK», «OP_BORK», «OP_BXORK», «OP_SHRI», «OP_SHLI», «OP_ADD», «OP_SUB», «OP_MUL», «OP_MOD», «OP_POW», «OP_DIV», «OP_IDIV», «OP_BAND», «OP_BOR», «OP_BXOR», «OP_SHR», «OP_SHL», «OP_MMBIN», «OP_MMBINI», «OP_MMBINK», «OP_UNM», «OP_BNOT», «OP_NOT», «OP_LEN», «OP_CONCAT», «OP_CLOSE», «OP_TBC», «OP_JMP», «OP_EQ», «OP_LT», «OP_LE», «OP_EQK», «OP_EQI», «OP_LTI», «OP_LEI», «OP_GTI», «OP_GEI», «OP_TEST», «OP_TESTSET», «OP_CALL», «OP_TAILCALL», «OP_RETURN», «OP_RETURN0», «OP_RETURN1», «OP_FORLOOP», «OP_FORPREP», «OP_TFORPREP», «OP_TFORCALL», «OP_TFORLOOP», «OP_SETLIST», «OP_CLOSURE», «OP_VARARG», «OP_VARARGPREP», «OP_EXTRAARG»}
 use Rattle.fields.specs.Lopcodes.{«GET_OPCODE», «GETARG_Bx», «GETARG_sJ», «TESTARG_k»}
+use Rattle.runs.specs.Graph.{In}
 use Rattle.runs.specs.Successors.{successorsOf, isInvalid, listOf}
 
 -- what the cases of the switch do to pc
@@ -214,10 +215,6 @@ waysAt ws p = waysOf ws (bodyAt ws p) (pos (p + 1)) (getD ws p 0)
 abbrev pub goesOn : List ℕ → ℕ → List ℤ
 goesOn ws p = targetsOf (waysAt ws p)
 
-abbrev pub Among : ℤ → List ℤ → Type 0
-Among z [] = ⊥
-Among z (x ∷ xs) = (z ≡ x) ⊎ Among z xs
-
 abbrev pub integers : List ℕ → List ℤ
 integers [] = []
 integers (q ∷ qs) = pos q ∷ integers qs
@@ -236,7 +233,7 @@ pub record Agreement : Type 0 where
   -- "for a word that is not bad, the set of next words is the same"
   pub same :
       (ws : List ℕ) (p : ℕ) → isInvalid (successorsOf ws p) ≡ false →
-      (z : ℤ) → Among z (goesOn ws p) ↔ Among z (integers (listOf (successorsOf ws p)))
+      (z : ℤ) → In z (goesOn ws p) ↔ In z (integers (listOf (successorsOf ws p)))
   -- "Where lvm.c takes the next word along without fetching it anew (JMP after a test, TFORCALL after TFORPREP, TFORLOOP after TFORCALL),
   -- going to that word is a step of its own": what is run there, and where it leads, is what a fetch of that word would run
   pub alike : (ws : List ℕ) (p : ℕ) → isInvalid (successorsOf ws p) ≡ false → Alike ws (waysAt ws p)
