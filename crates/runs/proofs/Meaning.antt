@@ -40,7 +40,7 @@ module _ (g : Graph) (law : Lawful g) (w : ℕ → ℕ) where
 
   longest-upper : (p : ℕ) → p < g .size → lengthOf g w p ≤ longest g w
   unfolding longest
-  longest-upper p l = most-upper (lengthOf g w) (g .size) p l
+  longest-upper p l = omega (arith, most-upper (lengthOf g w) (g .size) p l)
 
   longest-most : (p : ℕ) (ps : List ℕ) → Segment g p ps → weigh w (p ∷ ps) ≤ longest g w
   longest-most p ps s = omega (arith, length-most p ps s, longest-upper p (reach-in g (segment-start g s)))
@@ -63,7 +63,7 @@ module _ (g : Graph) (law : Lawful g) (w : ℕ → ℕ) where
     -- a word of that length stands somewhere, so that the first is one
     attained : (p : ℕ) × (p < g .size) × (lengthOf g w p ≡ longest g w)
     unfolding longest
-    attained = most-attained (lengthOf g w) (g .size) longest-pos
+    attained = most-attained (lengthOf g w) (g .size) (omega (arith, root-length, most-upper (lengthOf g w) (g .size) 0 some))
 
     first-in : first g w < g .size
     first-in = let a = attained in omega (arith, a .1, first-least (a .0) (a .1) (a .2))
