@@ -85,7 +85,7 @@ case({ "operands 65555" }, function()
 end)
 case({ "operands 32787" }, function() assert(grown(32787, 1) - grown(19, 0) == 256 * 16) end)
 case({ "operands 33" }, function() equal(run({ 33, op.MMBINI, give(0, 1) }, { 1 }), -254) end)
-case({ "operands 46 or 48", "touches 46, 47 or 48", "targets 34, 46" }, function()
+case({ "operands 46 or 48", "touches 46, 47 or 48", "targets 21, 47" }, function()
   local o = with { __index = function(a, b) return { a, b } end }
   local add = abc(op.ADD, 5, 0, 1)
   local r = run({ add, 46 | 1 << 16, give(0, 6) }, { o, 9 })
@@ -154,9 +154,13 @@ end)
 case({ "touches 32660" }, function()
   equal(run({ 32660, give(255, 2) }, { "len" }, { stack = 255 }), string.len, "len")
 end)
-case({ "touches 34, 46" }, function()
+case({ "touches 21, 47" }, function()
   local seen
   local o = with { __index = function() seen = select(2, debug.getlocal(2, 6)) return "m" end }
+  equal(run({ 21 | 5 << 7, 47, give(5, 1) }, { o, 1, 2, 3, 4, "before" }), "m")
+  assert(seen == "before")
+  equal(run({ 21 | 5 << 7, 47, give(5, 1) }, { 1 }), -126)
+  seen = nil
   equal(run({ abc(34, 5, 0, 1), 46, give(5, 1) }, { o, 1, 2, 3, 4, "before" }), "m")
   assert(seen == "before")
   equal(run({ abc(34, 5, 0, 1), 46, give(5, 1) }, { 1, 2 }), 3)
@@ -213,12 +217,15 @@ end)
 case({ "touches 33587012" }, function()
   equal(vrun({ VARARGS, varargs(254), 33587012, vgive(254, 1) }, { function(a, b) return a + b, 1, 2 end, 7, 8 }), 15)
 end)
-case({ "touches 16842820" }, function()
-  local r = run({ 16842820, give(0, 5) }, { function() local a, b, c, d = 1, 2, 3, 4 return end, "a", "b", "c", "d" })
+case({ "touches 16777284" }, function()
+  local function local_values() local a, b, c, d = 1, 2, 3, 4 return end
+  equal(vrun({ VARARGS, varargs(0), 16777284, vgive(1, 4) }, { local_values, "a", "b", "c", "d" }), 1, 2, 3, 4)
+  local call = abc(op.CALL, 0, 1, 1)
+  local r = run({ call, give(0, 5) }, { local_values, "a", "b", "c", "d" })
   equal({ n = 4, table.unpack(r, 2, 5) }, 1, 2, 3, 4)
   local called = function() end
   local o = with { __call = called }
-  r = run({ 16842820, give(0, 2) }, { o, "a" })
+  r = run({ call, give(0, 2) }, { o, "a" })
   assert(r[1] == called and r[2] == o)
   -- A metamethod of CONCAT is called above the operands; all other words call above the whole frame.
   o = with { __concat = function() return 1 end, __len = function() return 1 end }
@@ -443,10 +450,15 @@ local function hooked(words, args)
   debug.sethook()
   return count
 end
-case({ "along 32825, 2147483576, 71" }, function()
-  assert(hooked({ 32825, 2147483576, 71 }, { 1 }) == 2 and hooked({ 2147483576, 71 }, { 1 }) == 2)
+case({ "along 32825, 2147483704, 71, 72" }, function()
+  local words = { 32825, 2147483704, 71, 72 }
+  assert(hooked(words, { 1 }) == 2 and hooked({ jump(0), 71 }, { 1 }) == 2)
+  equal(run(words, { 1 }), 1)
 end)
-case({ "along 75, 76, 77, 71" }, function() assert(hooked({ 75, 76, 77, 71 }, { math.abs, 1, 2, false }) == 2) end)
+case({ "along 75, 76, 77, 71" }, function()
+  local called = 0
+  assert(hooked({ 75, 76, 77, 71 }, { function() called = called + 1 end, 1, 2, false, 5 }) == 2 and called == 1)
+end)
 
 -- After a yield
 case({ "yields TAILCALL" }, function()
