@@ -128,8 +128,8 @@ static void runs(void) {
     lend();
     CHECK(ran(lawendeb_longest_run(many, MANY, marks, 0, lengths, 0), LAWENDEB_TOO_MANY_WORDS, 0,
               0, 0));
-    CHECK(ran(lawendeb_longest_run(sheet, 4, marks, 3, lengths, 4), LAWENDEB_NO_ROOM, 0, 0, 0));
-    CHECK(ran(lawendeb_longest_run(sheet, 4, marks, 4, lengths, 3), LAWENDEB_NO_ROOM, 0, 0, 0));
+    CHECK(ran(lawendeb_longest_run(sheet, 4, marks, 3, lengths, 4), LAWENDEB_SHORT_SLICE, 0, 0, 0));
+    CHECK(ran(lawendeb_longest_run(sheet, 4, marks, 4, lengths, 3), LAWENDEB_SHORT_SLICE, 0, 0, 0));
     CHECK(ran(lawendeb_longest_run(sheet, 0, marks, 4, lengths, 4), LAWENDEB_NO_WORDS, 0, 0, 0));
     CHECK(lent_from(0));
 
@@ -187,13 +187,13 @@ static void meters(void) {
     CHECK(lawendeb_feed(sheet, 4, &m, 1) == LAWENDEB_ACCEPTED && shows(m, 1, 1, 1, 4294967295u));
 
     CHECK(refuses(meter(0, 0, 0, 5), sheet, 0, 0, LAWENDEB_NO_STEP));
-    CHECK(refuses(meter(1, 4, 1, 5), sheet, 4, 1, LAWENDEB_OTHER_METER));
-    CHECK(refuses(meter(1, 3, 0, 5), sheet, 4, 1, LAWENDEB_OTHER_METER));
-    CHECK(refuses(meter(1, 3, 5, 5), sheet, 4, 1, LAWENDEB_OTHER_METER));
-    CHECK(refuses(meter(0, 1, 0, 5), sheet, 4, 0, LAWENDEB_OTHER_METER));
-    CHECK(refuses(meter(0, 0, 1, 5), sheet, 4, 0, LAWENDEB_OTHER_METER));
+    CHECK(refuses(meter(1, 4, 1, 5), sheet, 4, 1, LAWENDEB_FOREIGN_METER));
+    CHECK(refuses(meter(1, 3, 0, 5), sheet, 4, 1, LAWENDEB_FOREIGN_METER));
+    CHECK(refuses(meter(1, 3, 5, 5), sheet, 4, 1, LAWENDEB_FOREIGN_METER));
+    CHECK(refuses(meter(0, 1, 0, 5), sheet, 4, 0, LAWENDEB_FOREIGN_METER));
+    CHECK(refuses(meter(0, 0, 1, 5), sheet, 4, 0, LAWENDEB_FOREIGN_METER));
     /* 11 before 10, 1 before both */
-    CHECK(refuses(meter(1, 3, 5, 5), sheet, 4, 9, LAWENDEB_OTHER_METER));
+    CHECK(refuses(meter(1, 3, 5, 5), sheet, 4, 9, LAWENDEB_FOREIGN_METER));
     CHECK(refuses(meter(1, 3, 0, 5), many, MANY, 9, LAWENDEB_TOO_MANY_WORDS));
     m = meter(1, LAWENDEB_MOST_WORDS - 2, LAWENDEB_MOST_WORDS - 1, 5);
     CHECK(lawendeb_feed(many, LAWENDEB_MOST_WORDS, &m, LAWENDEB_MOST_WORDS - 2) ==
@@ -346,9 +346,9 @@ static void refusals(void) {
     struct tables t = empty;
     size_t i;
     CHECK(lift_refuses(many, MANY, &empty, 0, LAWENDEB_TOO_MANY_WORDS, 0));
-    CHECK(lift_refuses(many, LAWENDEB_MOST_WORDS, &empty, 0, LAWENDEB_NO_ROOM, 0));
+    CHECK(lift_refuses(many, LAWENDEB_MOST_WORDS, &empty, 0, LAWENDEB_SHORT_SLICE, 0));
     t.tags = tags, t.tags_n = 3, t.payloads = payloads, t.payloads_n = 2;
-    CHECK(lift_refuses(sheet, 4, &t, 4 * N, LAWENDEB_CONSTANT_COUNTS, 0));
+    CHECK(lift_refuses(sheet, 4, &t, 4 * N, LAWENDEB_CONSTANT_COUNT, 0));
     t.payloads_n = 3;
     CHECK(lift_refuses(sheet, 4, &t, 4 * N, LAWENDEB_UNKNOWN_TAG, 1));
     t.tags = strings, t.bytes = bytes, t.bytes_n = 4;
@@ -356,20 +356,20 @@ static void refusals(void) {
     t = empty;
     t.tags = many_tags, t.tags_n = LAWENDEB_MOST_CONSTANTS + 1;
     t.payloads = many_payloads, t.payloads_n = LAWENDEB_MOST_CONSTANTS + 1;
-    CHECK(lift_refuses(sheet, 4, &t, 4 * N, LAWENDEB_CONSTANT_COUNTS, 0));
+    CHECK(lift_refuses(sheet, 4, &t, 4 * N, LAWENDEB_CONSTANT_COUNT, 0));
     t.tags_n = t.payloads_n = LAWENDEB_MOST_CONSTANTS;
     CHECK(answered(lift(sheet, 4, &t, 4 * N), LAWENDEB_ACCEPTED, 0));
     t = empty;
     t.names = names, t.names_n = 3, t.bytes = bytes, t.bytes_n = 4;
-    CHECK(lift_refuses(sheet, 4, &t, 4 * N, LAWENDEB_UPVALUE_NAMES, 2));
+    CHECK(lift_refuses(sheet, 4, &t, 4 * N, LAWENDEB_NAMES, 2));
     for (i = 0; i < LAWENDEB_MOST_NAMES + 1; i++)
         many_names[i] = LAWENDEB_UNNAMED;
     t.names = many_names, t.names_n = LAWENDEB_MOST_NAMES + 1;
-    CHECK(lift_refuses(sheet, 4, &t, 4 * N, LAWENDEB_UPVALUE_NAMES, 0));
+    CHECK(lift_refuses(sheet, 4, &t, 4 * N, LAWENDEB_NAMES, 0));
     t.names_n = LAWENDEB_MOST_NAMES;
     CHECK(answered(lift(sheet, 4, &t, 4 * N), LAWENDEB_ACCEPTED, 0));
-    CHECK(lift_refuses(sheet, 4, &t, 4 * N - 1, LAWENDEB_NO_ROOM, 0));
-    CHECK(lift_refuses(sheet, 4, &t, 3 * N, LAWENDEB_NO_ROOM, 0));
+    CHECK(lift_refuses(sheet, 4, &t, 4 * N - 1, LAWENDEB_SHORT_SLICE, 0));
+    CHECK(lift_refuses(sheet, 4, &t, 3 * N, LAWENDEB_SHORT_SLICE, 0));
 }
 
 int main(void) {

@@ -35,15 +35,15 @@ extern "C" {
 
 #define LAWENDEB_ACCEPTED 0
 #define LAWENDEB_TOO_MANY_WORDS 1    /* more than LAWENDEB_MOST_WORDS words */
-#define LAWENDEB_CONSTANT_COUNTS 2   /* tags and payloads differ in number, or are too many */
+#define LAWENDEB_CONSTANT_COUNT 2    /* tags and payloads differ in number, or are too many */
 #define LAWENDEB_UNKNOWN_TAG 3       /* of a constant; place: the lowest such index */
 #define LAWENDEB_STRING_PAST_BYTES 4 /* of a constant; place: the lowest such index */
-#define LAWENDEB_UPVALUE_NAMES 5     /* too many; or one ends past the bytes, place: the lowest */
-#define LAWENDEB_NO_ROOM 6           /* a slice for results is shorter than the words */
+#define LAWENDEB_NAMES 5             /* too many; or one ends past the bytes, place: the lowest */
+#define LAWENDEB_SHORT_SLICE 6       /* a slice for results is shorter than the words */
 #define LAWENDEB_NO_WORDS 7          /* there are none */
 #define LAWENDEB_REACHES_INVALID 8   /* control can reach a bad word; place: the lowest such word */
 #define LAWENDEB_NO_STEP 10          /* no step leads to the word fed, or the first is not 0 */
-#define LAWENDEB_OTHER_METER 11      /* the meter is not of this function */
+#define LAWENDEB_FOREIGN_METER 11    /* the meter is not of this function */
 #define LAWENDEB_MALFORMED_LINE 12   /* of a sheet; by the program alone */
 #define LAWENDEB_TOO_MANY_LINES 13   /* of a sheet; by the program alone */
 
