@@ -4,10 +4,11 @@
    Two archives, to be linked alone or side by side; both are made in target/staticlib/:
      libmeter.a     begin and feed, for controllers: `rt staticlib meter`. It needs no symbol.
      libexports.a   steps, the longest run, records: `rt staticlib exports`. It needs memset.
-   They write nothing but what a call is lent: no heap, no static data. So every call is reentrant,
-   and calls on different memory may run at once, in threads or interrupts. A begin and a feed take
-   a bounded time, whatever the number of words; a run takes time in proportion to the words, a lift
-   to words, constants and names.
+   They write nothing but what a call is lent: no heap, no static data, and as measured less than
+   1 kB of stack (docs/BENCHMARKS.md). So every call is reentrant, and calls on different memory may
+   run at once, in threads or interrupts. A begin and a feed take a bounded time, whatever the
+   number of words; a run takes time in proportion to the words, a lift to words, constants and
+   names.
 
    Each slice passes as a pointer and a length. The pointer is not null, even where the length is 0,
    and nobody writes the slice meanwhile. Slices that are written lie apart from all others. Any
