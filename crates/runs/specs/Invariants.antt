@@ -6,10 +6,10 @@ use mathlib.Core.Bool.{Bool, cond}
 use mathlib.Core.List.{List, [], _∷_}
 use Prim.Native.Nat.{ℕ, zero, suc, _+_, _≤_, _<_}
 use lib.ListN.{length, getD, drop}
+use Rattle.common.specs.Limits.{mostWords}
 use Rattle.runs.specs.Graph.{Graph, In, Reachable}
 use Rattle.runs.specs.Marks.{Search, markOf}
 use Rattle.runs.specs.Longest.{lengthOf}
-use Rattle.runs.specs.Run.{mostWords}
 
 -- how many of the first k words are marked, each mark being 0 or 1
 unfoldable pub ones : ℕ → List ℕ → ℕ
