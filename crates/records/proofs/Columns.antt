@@ -1,6 +1,6 @@
--- From the numbers in the opcode table's columns to the rules that they stand for.
+-- From the numbers in the opcode table's fallback column to the rules that they stand for.
 -- Assumes nothing.
-use Prim.Native.Nat.{ℕ, _+_, _<_}
+use Prim.Native.Nat.{ℕ, _<_}
 use mathlib.Core.Path.{_≡_, refl}
 use mathlib.Core.Bool.{Bool, true, false, cond}
 use mathlib.Core.List.{List, [], _∷_}
@@ -8,42 +8,10 @@ use native.Mathlib.Omega.{arith}
 use lib.Dec.{leb, lit<}
 use Rattle.fields.specs.Opcodes.{«OP_GETTABUP», «OP_GETFIELD», «OP_SETTABUP», «OP_SETFIELD», «OP_SELF», «OP_MMBIN», «OP_MMBINK», «OP_UNM», «OP_BNOT», «OP_LEN», «OP_CONCAT», «OP_TBC», «OP_CALL», «OP_TAILCALL»}
 use Rattle.fields.specs.Events.{«TM_INDEX», «TM_NEWINDEX», «TM_LEN», «TM_UNM», «TM_BNOT», «TM_CONCAT», «TM_CALL», «TM_CLOSE»}
-use Rattle.fields.specs.Table.{Row, row, lookup, Companion, alone, metamethodAfter, arithmeticBefore, jumpAfter, extraAfter, extraAfterIfK, callAtTarget, loopAfter, companionNumber, FallbackRule, fixed, byC, noFallback, fallbackNumber, fallbackOf}
+use Rattle.fields.specs.Table.{Row, row, lookup, FallbackRule, fixed, byC, noFallback, fallbackNumber, fallbackOf}
 use Rattle.values.specs.declared.ir.Fallback.the-variants.{NoFallback, Event}
-use Rattle.values.specs.declared.ir.OptionalPc.the-variants.{NoPc, Pc}
 use Rattle.families.specs.Parts.{eventOf}
-use Rattle.records.specs.Lift.{fallbackBy, before, companionBy}
-
-module _ (pc : ℕ) where
-  pub wants-extra : (w : Companion) → companionNumber w ≡ 4 → Pc (pc + 1) ≡ companionBy w pc
-  wants-extra alone e = absurd (omega arith)
-  wants-extra metamethodAfter e = absurd (omega arith)
-  wants-extra arithmeticBefore e = absurd (omega arith)
-  wants-extra jumpAfter e = absurd (omega arith)
-  wants-extra extraAfter e = refl
-  wants-extra extraAfterIfK e = absurd (omega arith)
-  wants-extra callAtTarget e = absurd (omega arith)
-  wants-extra loopAfter e = absurd (omega arith)
-
-  pub wants-arithmetic : (w : Companion) → companionNumber w ≡ 2 → before pc ≡ companionBy w pc
-  wants-arithmetic alone e = absurd (omega arith)
-  wants-arithmetic metamethodAfter e = absurd (omega arith)
-  wants-arithmetic arithmeticBefore e = refl
-  wants-arithmetic jumpAfter e = absurd (omega arith)
-  wants-arithmetic extraAfter e = absurd (omega arith)
-  wants-arithmetic extraAfterIfK e = absurd (omega arith)
-  wants-arithmetic callAtTarget e = absurd (omega arith)
-  wants-arithmetic loopAfter e = absurd (omega arith)
-
-  pub wants-neither : (w : Companion) → (companionNumber w ≡ 4 → ⊥) → (companionNumber w ≡ 2 → ⊥) → NoPc ≡ companionBy w pc
-  wants-neither alone e f = refl
-  wants-neither metamethodAfter e f = refl
-  wants-neither arithmeticBefore e f = absurd (f refl)
-  wants-neither jumpAfter e f = refl
-  wants-neither extraAfter e f = absurd (e refl)
-  wants-neither extraAfterIfK e f = refl
-  wants-neither callAtTarget e f = refl
-  wants-neither loopAfter e f = refl
+use Rattle.records.specs.Lift.{fallbackBy}
 
 -- a rule whose event, if it has one, is below the numbers of the other rules
 abbrev pub Small : FallbackRule → Type 0

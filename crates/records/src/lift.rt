@@ -1,4 +1,4 @@
-// The record of a word: its arm's operands and effects, with what the opcode table decides.
+// The record of a word: its arm's operands and effects, with fallback, companion and confidence.
 ghost use mathlib.Core.Path.{_≡_};
 ghost use Prim.Native.Nat.{_<_, _≤_};
 ghost use lib.ListN.{length};
@@ -14,7 +14,6 @@ use crate::refusals::planned;
 use families::builders::*;
 use families::parts::event_of;
 use fields::columns::*;
-use fields::lookup::companion;
 use fields::lookup::fallback;
 use fields::opcodes::*;
 use fields::word::decode;
@@ -55,24 +54,17 @@ fn word_before(pc: usize) -> OptionalPc
     }
 }
 
-fn companion_of(word: u32, pc: usize) -> OptionalPc
+fn companion_of(opcode: u8, pc: usize) -> OptionalPc
     requires { ⌜ pc < mostWords ⌝ }
-    ensures { λ r. ⌜ r ≡ companionPc (opcodeOf word) pc ⌝ }
+    ensures { λ r. ⌜ r ≡ companionPc opcode pc ⌝ }
 {
-    let number = opcode(word);
-    if number == OP_NEWTABLE {
-        return OptionalPc::NoPc;
-    }
-    if number == OP_EXTRAARG {
-        return word_before(pc);
-    }
-    let wanted = companion(word);
-    if wanted == EXTRA_AFTER {
-        OptionalPc::Pc(pc + 1)
-    } else if wanted == ARITHMETIC_BEFORE {
-        word_before(pc)
-    } else {
-        OptionalPc::NoPc
+    match opcode {
+        OP_LOADKX => OptionalPc::Pc(pc + 1),
+        OP_MMBIN => word_before(pc),
+        OP_MMBINI => word_before(pc),
+        OP_MMBINK => word_before(pc),
+        OP_EXTRAARG => word_before(pc),
+        _ => OptionalPc::NoPc,
     }
 }
 
@@ -115,7 +107,7 @@ pub(crate) fn lift_at<'a>(
         implicit_effect,
         metamethod_fallback: fallback_of(raw_word, raw.c),
         jump_target,
-        companion_pc: companion_of(raw_word, pc),
+        companion_pc: companion_of(number, pc),
         confidence: confidence_of(number),
     }
 }
