@@ -10,7 +10,7 @@ use Rattle.values.specs.declared.ir.Operands.{Operands}
 use Rattle.values.specs.declared.ir.Reads.{Reads}
 use Rattle.values.specs.declared.ir.Writes.{Writes}
 use Rattle.values.specs.declared.ir.SemanticInstruction.{SemanticInstruction}
-use Rattle.values.specs.Values.{choose}
+use Rattle.common.specs.Chain.{choose}
 use Rattle.records.specs.Lift.{liftOf}
 use Rattle.records.specs.Refusals.{planOf}
 use Rattle.records.specs.Walk.{recordAt}

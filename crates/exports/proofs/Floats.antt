@@ -9,7 +9,7 @@ use lib.IntN.{ℤ, pos, negsuc}
 use lib.Ieee.{Float, nan, inf, fin, Format, binary64, prec, emax, low, up, down, odd, units, round, ofInt, eq, isNan, ofBits, toBits, nanBits}
 use lib.Ieee.Bits.{nanBits-is, toBits-ofBits}
 use borrow.Author.Tests.{eq-eqb}
-use Rattle.values.specs.Values.{choose}
+use Rattle.common.specs.Chain.{choose}
 use Rattle.exports.specs.Record.{floatBits}
 
 beq-self : (s : Bool) → Bool·beq s s ≡ true

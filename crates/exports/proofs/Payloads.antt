@@ -20,7 +20,8 @@ use Rattle.values.specs.declared.ir.TypedOperand.{TypedOperand}
 use Rattle.values.specs.declared.ir.TypedOperand.the-variants as operand
 use Rattle.values.specs.declared.ir.EffectTarget.{EffectTarget}
 use Rattle.values.specs.declared.ir.EffectTarget.the-variants as target
-use Rattle.values.specs.Values.{choose, spanOf, signed64, floatOf, valueOf, constantOf, nameOf}
+use Rattle.common.specs.Chain.{choose}
+use Rattle.values.specs.Values.{spanOf, signed64, floatOf, valueOf, constantOf, nameOf}
 use Rattle.records.specs.Lift.{liftOf}
 use Rattle.records.specs.Sources.{operandIn, targetIn, immediateFloat, Sources}
 use Rattle.records.proofs.Sources.{sources}

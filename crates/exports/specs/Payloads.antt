@@ -8,7 +8,8 @@ use mathlib.Core.List.{List}
 use lib.Dec.{eqb, ltb}
 use lib.ListN.{length, getD}
 use lib.Ieee.{binary64, toBits}
-use Rattle.values.specs.Values.{choose, «TAG_FALSE», «TAG_TRUE», «TAG_INTEGER», «TAG_FLOAT», «TAG_SHORT_STRING», «TAG_LONG_STRING», unnamed, valueOf, constantOf, nameOf}
+use Rattle.common.specs.Chain.{choose}
+use Rattle.values.specs.Values.{«TAG_FALSE», «TAG_TRUE», «TAG_INTEGER», «TAG_FLOAT», «TAG_SHORT_STRING», «TAG_LONG_STRING», unnamed, valueOf, constantOf, nameOf}
 use Rattle.records.specs.Lift.{liftOf}
 use Rattle.records.specs.Sources.{operandIn, targetIn, immediateFloat}
 use Rattle.exports.specs.declared.parts.FlatSlot.{FlatSlot}

@@ -10,7 +10,7 @@ use lib.ListN.{length, getD, take, drop}
 use lib.Ieee.{Float, binary64, eq, toBits}
 use mir.Syntax.{w64}
 use mir.Val.{ofZ}
-use Rattle.values.specs.Values.{choose}
+use Rattle.common.specs.Chain.{choose}
 use Rattle.values.specs.declared.model.Span.{Span}
 use Rattle.values.specs.declared.model.Name.{Name}
 use Rattle.values.specs.declared.model.Name.the-variants.{Unnamed, Named}

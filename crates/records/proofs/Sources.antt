@@ -18,7 +18,8 @@ use Rattle.values.specs.declared.ir.OperandSlot.{OperandSlot}
 use Rattle.values.specs.declared.ir.TargetSlot.{TargetSlot}
 use Rattle.values.specs.declared.ir.ImplicitEffect.{ImplicitEffect}
 use Rattle.values.specs.declared.ir.OptionalPc.{OptionalPc}
-use Rattle.values.specs.Values.{choose, constantOf, nameOf}
+use Rattle.common.specs.Chain.{choose}
+use Rattle.values.specs.Values.{constantOf, nameOf}
 use Rattle.families.specs.declared.builders.Body.{Body}
 use Rattle.families.specs.Shapes.{operandsOf, readsOf, writesOf, body}
 use Rattle.families.specs.Parts.{constant, upvalue, upvalueTarget, rk, rkTarget, countLess, arguments, results}

@@ -23,7 +23,7 @@ use Rattle.values.specs.declared.ir.OptionalPc.the-variants.{NoPc, Pc}
 use Rattle.values.specs.declared.ir.Confidence.{Confidence}
 use Rattle.values.specs.declared.ir.Confidence.the-variants.{Reviewed, Unverified}
 use Rattle.values.specs.declared.ir.SemanticInstruction.{SemanticInstruction}
-use Rattle.values.specs.Values.{choose}
+use Rattle.common.specs.Chain.{choose}
 use Rattle.families.specs.declared.builders.Body.{Body}
 use Rattle.families.specs.Parts.{eventOf}
 use Rattle.families.specs.Families as F
