@@ -1,6 +1,6 @@
 pub mod Counted
 pub mod Floats
-pub mod Overlay
 pub mod Payloads
+pub mod RecordWise
 pub mod Signed
-pub mod Whole
+pub mod Stored

@@ -12,20 +12,20 @@ use borrow.Author.Tests.{eq-eqb, eqb-true, eqb-false}
 use Rattle.common.specs.Chain.{choose}
 use Rattle.records.specs.Lift.{liftOf}
 use Rattle.records.specs.Refusals.{answerOf, planOf}
-use Rattle.records.proofs.Plan.{within}
+use Rattle.records.proofs.Laws.{plan-laws}
 use Rattle.exports.specs.Record.{numbersOf, recordsNumbers, roomIn, numbersAfter, RecordWise}
-use Rattle.exports.proofs.Overlay.{length-put, put-start}
+use Rattle.common.proofs.Put.{put-laws}
 use Rattle.exports.proofs.Counted.{length-numbers, length-records}
 
 module _ (words tags payloads names : List ℕ) where
   -- the numbers of record i, of n records and whatever stands behind them
-  record-at : (n i : ℕ) (rest : List ℕ) → i < n
+  nth-record : (n i : ℕ) (rest : List ℕ) → i < n
       → take 53 (drop (53 * i) (recordsNumbers words tags payloads names n ++ rest)) ≡ numbersOf (liftOf words tags payloads names i)
   unfolding recordsNumbers
-  record-at zero i rest h = absurd (omega arith)
-  record-at (suc n) i rest h =
+  nth-record zero i rest h = absurd (omega arith)
+  nth-record (suc n) i rest h =
       rw (append-assoc (recordsNumbers words tags payloads names n) (numbersOf (liftOf words tags payloads names n)) rest)
-      (go (eqb i n) refl (λ k. record-at n i (numbersOf (liftOf words tags payloads names n) ++ rest) k))
+      (go (eqb i n) refl (λ k. nth-record n i (numbersOf (liftOf words tags payloads names n) ++ rest) k))
     where
       all : List ℕ
       all = recordsNumbers words tags payloads names n ++ (numbersOf (liftOf words tags payloads names n) ++ rest)
@@ -56,7 +56,7 @@ module _ (words tags payloads names : List ℕ) where
     all-lifted : (i : ℕ) → i < length words
         → take 53 (drop (53 * i) (after (choose true (length words) 0))) ≡ numbersOf (liftOf words tags payloads names i)
     unfolding choose
-    all-lifted i h = record-at (length words) i (drop (53 * length words) numbers) h
+    all-lifted i h = nth-record (length words) i (drop (53 * length words) numbers) h
 
     past : (t : Bool) → drop (53 * length words) (after (choose t (length words) 0)) ≡ drop (53 * length words) numbers
     unfolding choose recordsNumbers
@@ -66,9 +66,9 @@ module _ (words tags payloads names : List ℕ) where
     kept : length (numbersAfter words tags payloads names bytes numbers) ≡ length numbers
     kept =
         let n = planOf (length words) tags payloads names bytes (roomIn numbers) .count in
-        let w = within (length words) tags payloads names bytes (roomIn numbers) in
+        let w = plan-laws words tags payloads names bytes (roomIn numbers) in
         let k : length (recordsNumbers words tags payloads names n) ≡ 53 * n = length-records words tags payloads names n in
-        rw (← k) (ap length (sym (put-start numbers (recordsNumbers words tags payloads names n))) ∙ length-put numbers 0 (recordsNumbers words tags payloads names n) (omega (arith, w .1 .0, k)))
+        rw (← k) (ap length (sym (put-laws .start numbers (recordsNumbers words tags payloads names n))) ∙ put-laws .length-put numbers 0 (recordsNumbers words tags payloads names n) (omega (arith, w .within-room, k)))
 
     pub record-wise : RecordWise words tags payloads names bytes numbers
     record-wise =
