@@ -1,9 +1,7 @@
 -- What the bench program writes for what it reads: document 01, "Bench program".
 -- Assumes nothing.
-use mathlib.Core.Bool.{cond}
 use mathlib.Core.List.{List, [], _++_}
 use Prim.Native.Nat.{ℕ, zero, suc}
-use lib.Dec.{ltb}
 use lib.ListN.{length, getD, replicate}
 use Rattle.fields.specs.Word.{opcodeOf}
 use Rattle.runs.specs.declared.edges.Successors.{Successors}
@@ -69,12 +67,3 @@ reply text TooLong = refusalLineOf (numberOf TooLong) (placeOf TooLong)
 -- what is written for a text. The word table has 4,096 places
 unfoldable pub answerOf : List ℕ → List ℕ
 answerOf text = reply text (sheetOf mostLines text)
-
--- the longest answer: 4,096 lines of 31 bytes, and the last one of 13
-abbrev pub pageLength : ℕ
-pageLength = 126989
-
--- what is put on a page of so many bytes: the answer, and nothing where the page is too short for the longest one. The
--- program's page is that long
-abbrev pub writtenOf : ℕ → List ℕ → List ℕ
-writtenOf room text = cond (ltb room pageLength) [] (answerOf text)

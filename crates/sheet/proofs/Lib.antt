@@ -3,4 +3,5 @@ pub mod Overlay
 pub mod Compare
 pub mod Round
 pub mod Scanned
-pub mod Whole
+pub mod Claims
+pub mod Laws
