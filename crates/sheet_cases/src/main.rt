@@ -1,24 +1,23 @@
 // Sheets at the edges of the format, each named, with what the program writes for it.
-use libc::STDOUT_FILENO;
 
 // The first n bytes of a buffer as a sheet.
 fn show_part(name: &[u8], buffer: &[u8; 65536], n: usize) {
-    io::write_all(STDOUT_FILENO, name);
+    print_cases::text(name);
     let mut page = listing::page();
     let r = listing::answer(buffer, n, &mut page);
-    io::write_all(STDOUT_FILENO, &page[..r]);
+    print_cases::text(&page[..r]);
 }
 
 // Of a large sheet the answer's count of bytes, and its last 75: two words' lines and the last line.
 fn show_end(name: &[u8], buffer: &[u8; 65536], n: usize) {
-    io::write_all(STDOUT_FILENO, name);
+    print_cases::text(name);
     let mut page = listing::page();
     let r = listing::answer(buffer, n, &mut page);
-    io::print_decimal(STDOUT_FILENO, r as u64);
-    io::write_all(STDOUT_FILENO, b"\n");
+    print_cases::decimal(r as u64);
+    print_cases::end();
     if 75 <= r {
         let start = r - 75;
-        io::write_all(STDOUT_FILENO, &page[start..r]);
+        print_cases::text(&page[start..r]);
     }
 }
 
