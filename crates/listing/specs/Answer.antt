@@ -30,8 +30,8 @@ secondCell Stop = Dash
 secondCell (One q) = Dash
 secondCell (Two q r) = Number r
 
--- the line of word p: its steps as the step table has them, its stretch as the work slice of lengths has it, also where the
--- word is bad or unreachable
+-- the line of word p: its steps as the step table has them, its stretch as the work slice of lengths has it, also where
+-- the word is bad or unreachable
 unfoldable pub lineAt : List ℕ → List ℕ → ℕ → List ℕ
 lineAt words lengths p =
     rowOf p (opcodeOf (getD words p 0)) (firstCell (successorsOf words p)) (secondCell (successorsOf words p)) (getD lengths p 0)

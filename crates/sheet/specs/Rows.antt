@@ -6,12 +6,12 @@ use Prim.Native.Nat.{ℕ, _+_}
 use lib.ListN.{length, take, drop}
 use Rattle.sheet.specs.declared.writing.Cell.{Cell}
 use Rattle.sheet.specs.declared.writing.Cell.the-variants.{Number, Dash}
-use Rattle.sheet.specs.Columns.{blank, newline, hyphen, columns}
+use Rattle.sheet.specs.Columns.{space, newline, hyphen, columns}
 
 -- a successor's column: its number, or `-` if there is none
 unfoldable pub cellOf : Cell → List ℕ
 cellOf (Number v) = columns 6 v
-cellOf Dash = blank ∷ blank ∷ blank ∷ blank ∷ blank ∷ hyphen ∷ []
+cellOf Dash = space ∷ space ∷ space ∷ space ∷ space ∷ hyphen ∷ []
 
 -- the line of word p
 unfoldable pub rowOf : ℕ → ℕ → Cell → Cell → ℕ → List ℕ

@@ -132,6 +132,11 @@ fn sizes() {
         &text,
         65537,
     );
+}
+
+fn sizes_with_junk() {
+    let mut text = io::large_buffer();
+    fill(&mut text, b"        71\n");
     text[45056] = b'x';
     show_part(b"# line 4,097 is junk: 13\n", &text, 45067);
     text[45054] = b'x';
@@ -177,6 +182,7 @@ fn main() {
     malformed_columns();
     malformed_lines();
     sizes();
+    sizes_with_junk();
     longest();
     junk();
 }
