@@ -5,11 +5,13 @@ use Prim.Native.Nat.{ℕ, _+_, _-_, _*_, _≤_}
 use native.Mathlib.Omega.{arith}
 use lib.ListN.{length, take}
 use lib.Seq.{length-take-le, take-all}
+use Rattle.common.specs.Limits.{mostLines}
+use Rattle.common.specs.Numbers.{«MALFORMED_LINE», «TOO_MANY_LINES»}
+use Rattle.common.specs.Lists.{put}
+use Rattle.common.proofs.Put.{put-laws}
 use Rattle.sheet.specs.declared.reading.Sheet.{Sheet}
 use Rattle.sheet.specs.declared.reading.Sheet.the-variants.{Words, Malformed, TooLong}
-use Rattle.sheet.specs.Format.{mostLines, sheetOf, wordsOf}
-use Rattle.sheet.specs.Rows.{put}
-use Rattle.sheet.proofs.Overlay.{length-put}
+use Rattle.sheet.specs.Format.{sheetOf, wordsOf}
 use Rattle.sheet.proofs.Claims.{claims as sheet-claims}
 use Rattle.sheet.proofs.Laws.{laws}
 use Rattle.listing.specs.Answer.{runText, reply, answerOf}
@@ -20,8 +22,8 @@ use Rattle.listing.proofs.Lines.{length-run, replied}
 
 fits-reply : (text : List ℕ) (s : Sheet) → sheetOf mostLines text ≡ s → length (reply text s) ≤ pageLength
 fits-reply text (Words n) e = omega (arith, length-run (wordsOf text n), laws .words text n, laws .fits mostLines text n e)
-fits-reply text (Malformed line) e = omega (arith, laws .pair 12 line)
-fits-reply text TooLong e = omega (arith, laws .pair 13 0)
+fits-reply text (Malformed line) e = omega (arith, laws .pair «MALFORMED_LINE» line)
+fits-reply text TooLong e = omega (arith, laws .pair «TOO_MANY_LINES» 0)
 
 fits : (text : List ℕ) → length (answerOf text) ≤ pageLength
 unfolding answerOf
@@ -61,6 +63,6 @@ pub counted : (text page out : List ℕ) (r : ℕ) → length page ≡ pageLengt
     → out ≡ put page 0 (answerOf text) → Counted r out
 counted text page out r l k e =
     let f : length (answerOf text) ≤ length page = omega (arith, claims .fits text) in
-    let m : length out ≡ length page = ap length e ∙ length-put page 0 (answerOf text) (omega arith) in
+    let m : length out ≡ length page = ap length e ∙ put-laws .length-put page 0 (answerOf text) (omega arith) in
     let h : r ≤ length out = omega arith in
     (h, sym (length-take-le r out h))

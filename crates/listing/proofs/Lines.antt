@@ -5,14 +5,16 @@ use Prim.Native.Nat.{ℕ, zero, suc, _+_, _*_, _≤_}
 use native.Mathlib.Numerals.{add-one}
 use native.Mathlib.Omega.{arith}
 use lib.ListN.{length, take, replicate, length-append}
+use Rattle.common.specs.Limits.{mostLines}
+use Rattle.common.specs.Lists.{put}
+use Rattle.common.proofs.Put.{put-laws}
 use Rattle.runs.specs.declared.longest.Run.{Run}
 use Rattle.runs.specs.declared.longest.Run.the-variants.{Accepted, Refused}
 use Rattle.runs.specs.Run.{runOf}
 use Rattle.sheet.specs.declared.reading.Sheet.{Sheet}
 use Rattle.sheet.specs.declared.reading.Sheet.the-variants.{Words, Malformed, TooLong}
-use Rattle.sheet.specs.Format.{mostLines, sheetOf, wordsOf, numberOf, placeOf}
-use Rattle.sheet.specs.Rows.{put, lastLineOf, refusalLineOf}
-use Rattle.sheet.proofs.Overlay.{and-then}
+use Rattle.sheet.specs.Format.{sheetOf, wordsOf, numberOf, placeOf}
+use Rattle.sheet.specs.Rows.{lastLineOf, refusalLineOf}
 use Rattle.sheet.proofs.Laws.{laws}
 use Rattle.listing.specs.Answer.{lineAt, linesOf, listingOf, lengthsOf, tell, runText, reply, answerOf}
 
@@ -52,7 +54,7 @@ module _ (words lengths l o o′ : List ℕ) where
   one-line-more p e h f =
       let z : 31 * p ≡ 0 + 31 * p = omega arith in
       let k : length (lineAt words lengths p) ≡ 31 = length-at words lengths p in
-      rw (add-one p) (and-then l o o′ 0 (31 * p) (linesOf words lengths p) (lineAt words lengths p) e (length-lines words lengths p) (rw k (omega arith)) (rw z at f))
+      rw (add-one p) (put-laws .and-then l o o′ 0 (31 * p) (linesOf words lengths p) (lineAt words lengths p) e (length-lines words lengths p) (rw k (omega arith)) (rw z at f))
 
   pub last-line : (longest first : ℕ) → o ≡ put l 0 (linesOf words lengths (length words))
       → 31 * length words + 13 ≤ length l → o′ ≡ put o (31 * length words) (lastLineOf longest first)
@@ -61,7 +63,7 @@ module _ (words lengths l o o′ : List ℕ) where
   last-line longest first e h f =
       let z : 31 * length words ≡ 0 + 31 * length words = omega arith in
       let k : length (lastLineOf longest first) ≡ 13 = laws .pair longest first in
-      and-then l o o′ 0 (31 * length words) (linesOf words lengths (length words)) (lastLineOf longest first) e (length-lines words lengths (length words)) (rw k (omega arith)) (rw z at f)
+      put-laws .and-then l o o′ 0 (31 * length words) (linesOf words lengths (length words)) (lastLineOf longest first) e (length-lines words lengths (length words)) (rw k (omega arith)) (rw z at f)
 
 -- ---- what is said
 

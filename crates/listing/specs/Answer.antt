@@ -3,6 +3,7 @@
 use mathlib.Core.List.{List, [], _++_}
 use Prim.Native.Nat.{ℕ, zero, suc}
 use lib.ListN.{length, getD, replicate}
+use Rattle.common.specs.Limits.{mostLines}
 use Rattle.fields.specs.Word.{opcodeOf}
 use Rattle.runs.specs.declared.edges.Successors.{Successors}
 use Rattle.runs.specs.declared.edges.Successors.the-variants.{Invalid, Stop, One, Two}
@@ -12,7 +13,7 @@ use Rattle.runs.specs.declared.longest.Run.the-variants.{Accepted, Refused}
 use Rattle.runs.specs.Run.{runOf, lengthsAfter}
 use Rattle.sheet.specs.declared.reading.Sheet.{Sheet}
 use Rattle.sheet.specs.declared.reading.Sheet.the-variants.{Words, Malformed, TooLong}
-use Rattle.sheet.specs.Format.{mostLines, sheetOf, wordsOf, numberOf, placeOf}
+use Rattle.sheet.specs.Format.{sheetOf, wordsOf, numberOf, placeOf}
 use Rattle.sheet.specs.declared.writing.Cell.{Cell}
 use Rattle.sheet.specs.declared.writing.Cell.the-variants.{Number, Dash}
 use Rattle.sheet.specs.Rows.{rowOf, lastLineOf, refusalLineOf}

@@ -2,7 +2,8 @@
 ghost use mathlib.Core.Path.{_≡_};
 ghost use Prim.Native.Nat.{_+_, _≤_};
 ghost use lib.ListN.{length};
-ghost use Rattle.sheet.specs.Rows.{put};
+ghost use Rattle.common.specs.Lists.{put};
+ghost use Rattle.listing.specs.Claims.{pageLength};
 
 // Of an input 45,057 bytes decide, 4,096 lines of 11 and one byte more, so a longer one is not read to its end.
 pub(crate) const BUFFER: usize = 65536;
@@ -12,7 +13,7 @@ pub(crate) const PAGE: usize = 126989;
 
 // A page for any answer.
 pub fn page() -> [u8; PAGE]
-    ensures { λ r. ⌜ 126989 ≡ length r ⌝ }
+    ensures { λ r. ⌜ pageLength ≡ length r ⌝ }
 {
     [0; PAGE]
 }

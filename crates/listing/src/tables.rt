@@ -2,9 +2,11 @@
 ghost use mathlib.Core.Path.{_≡_};
 ghost use Prim.Native.Nat.{_≤_};
 ghost use lib.ListN.{length, take};
-ghost use Rattle.sheet.specs.Rows.{put, refusalLineOf};
+ghost use Rattle.common.specs.Limits.{mostLines};
+ghost use Rattle.common.specs.Lists.{put};
+ghost use Rattle.sheet.specs.Rows.{refusalLineOf};
 ghost use Rattle.listing.specs.Answer.{runText, answerOf};
-ghost use Rattle.listing.specs.Claims.{Enough, Counted};
+ghost use Rattle.listing.specs.Claims.{pageLength, Enough, Counted};
 use crate::paper::BUFFER;
 use crate::paper::PAGE;
 use crate::paper::put_text;
@@ -26,7 +28,7 @@ fn put_refusal(number: u8, place: usize, page: &mut [u8]) -> usize
 // words are below 32,768 (1), the parts that are lent have a place for each word (6), and no run is longer than the
 // words (9).
 fn put_run(words: &[u32], page: &mut [u8]) -> usize
-    requires { ⌜ (length (now words) ≤ 4096) × (126989 ≤ length (now page)) ⌝ }
+    requires { ⌜ (length (now words) ≤ mostLines) × (pageLength ≤ length (now page)) ⌝ }
     ensures { λ r. ⌜ r ≡ length (runText (now (words .entry))) ⌝ }
     ensures { λ _. ⌜ now (page .exit) ≡ put (now (page .entry)) 0 (runText (now (words .entry))) ⌝ }
 {
@@ -46,7 +48,7 @@ fn put_run(words: &[u32], page: &mut [u8]) -> usize
 
 // Puts what is to be written for a sheet's text, and answers how long it is.
 fn put_answer(text: &[u8], page: &mut [u8]) -> usize
-    requires { ⌜ 126989 ≤ length (now page) ⌝ }
+    requires { ⌜ pageLength ≤ length (now page) ⌝ }
     ensures { λ r. ⌜ r ≡ length (answerOf (now (text .entry))) ⌝ }
     ensures { λ _. ⌜ now (page .exit) ≡ put (now (page .entry)) 0 (answerOf (now (text .entry))) ⌝ }
 {
@@ -67,7 +69,7 @@ fn put_answer(text: &[u8], page: &mut [u8]) -> usize
 
 // Puts what is to be written for the first n bytes of a buffer, or for all of them if there are fewer.
 fn put_held(buffer: &[u8], n: usize, page: &mut [u8]) -> usize
-    requires { ⌜ 126989 ≤ length (now page) ⌝ }
+    requires { ⌜ pageLength ≤ length (now page) ⌝ }
     ensures { λ r. ⌜ r ≡ length (answerOf (take n (now (buffer .entry)))) ⌝ }
     ensures { λ _. ⌜ now (page .exit) ≡ put (now (page .entry)) 0 (answerOf (take n (now (buffer .entry)))) ⌝ }
 {

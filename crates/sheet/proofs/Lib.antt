@@ -1,5 +1,5 @@
 pub mod Widths
-pub mod Overlay
+pub mod Columns
 pub mod Compare
 pub mod Round
 pub mod Scanned

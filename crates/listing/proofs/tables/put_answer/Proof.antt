@@ -5,8 +5,9 @@ use Prim.Native.Nat.{ℕ, _≤_}
 use native.Mathlib.Omega.{arith}
 use lib.ListN.{replicate, length, take}
 use borrow.Author.Needs.{needs}
+use Rattle.common.specs.Limits.{mostLines}
 use Rattle.sheet.specs.declared.reading.Sheet.the-variants.{Words, Malformed, TooLong}
-use Rattle.sheet.specs.Format.{mostLines, sheetOf, wordsOf}
+use Rattle.sheet.specs.Format.{sheetOf, wordsOf}
 use Rattle.sheet.proofs.Laws.{laws}
 use Rattle.listing.proofs.Lines.{words-text, rejected-text}
 use Rattle.listing.proofs.tables.put_answer.Statement.{statement}
