@@ -20,8 +20,7 @@ use Rattle.runs.proofs.Lists.{zeros-tabulate}
 abbrev pub decided : List ℕ → Run
 decided ws =
     refuseRun (ltb (lowestInvalid ws) (length ws)) 8 (lowestInvalid ws)
-    (refuseRun (ltb mostWords (longest (graphOf ws) unitWeight)) 9 0
-    (Accepted (longest (graphOf ws) unitWeight) (first (graphOf ws) unitWeight)))
+    (Accepted (longest (graphOf ws) unitWeight) (first (graphOf ws) unitWeight))
 
 -- the checks before any word is read
 module _ (ws : List ℕ) (a b : ℕ) where
@@ -72,14 +71,8 @@ module _ (ws m l : List ℕ) where
           (sym r, (simp r marks, simp r (zeros e)))
 
       module _ (valid : length ws ≤ lowestInvalid ws) where
-        pub outcome-9 : mostWords < longest (graphOf ws) unitWeight → l′ ≡ replicate (length ws) 0 ++ drop (length ws) l → Outcome (Refused 9 0) m′ l′
+        pub outcome-0 : {v a : ℕ} → v ≡ longest (graphOf ws) unitWeight → a ≡ first (graphOf ws) unitWeight → l′ ≡ over (lengthOf (graphOf ws) unitWeight) (length ws) l → Outcome (Accepted v a) m′ l′
         unfolding marksAfter lengthsAfter
-        outcome-9 h e =
-            let r : runOf ws (length m) (length l) ≡ Refused 9 0 = run-is ∙ simp (le-ltb _ _ valid, lt-ltb _ _ h) in
-            (sym r, (simp r marks, simp r (zeros e)))
-
-        pub outcome-0 : {v a : ℕ} → v ≡ longest (graphOf ws) unitWeight → a ≡ first (graphOf ws) unitWeight → v ≤ mostWords → l′ ≡ over (lengthOf (graphOf ws) unitWeight) (length ws) l → Outcome (Accepted v a) m′ l′
-        unfolding marksAfter lengthsAfter
-        outcome-0 {v} {a} q f h e =
-            let r : runOf ws (length m) (length l) ≡ Accepted v a = run-is ∙ simp (le-ltb _ _ valid, ← q, ← f, le-ltb mostWords v h) in
+        outcome-0 {v} {a} q f e =
+            let r : runOf ws (length m) (length l) ≡ Accepted v a = run-is ∙ simp (le-ltb _ _ valid, ← q, ← f) in
             (sym r, (simp r marks, simp r e))

@@ -14,7 +14,7 @@ pub enum Run {
     Refused { number: u8, place: usize },
 }
 
-// Document 01, number 1: at most so many words. Number 9: no longest run has more.
+// Document 01, number 1: at most so many words.
 pub const MOST_WORDS: usize = 32768;
 
 // The run of words that pass the checks of their number and of the slices.
@@ -36,13 +36,6 @@ fn run_of_words(words: &[u32], marks: &mut [u8], lengths: &mut [u32]) -> Run
         };
     }
     let longest = find_longest(lengths, n);
-    if MOST_WORDS < longest as usize {
-        clear_lengths(lengths, n);
-        return Run::Refused {
-            number: 9,
-            place: 0,
-        };
-    }
     let first = find_first(lengths, n, longest);
     Run::Accepted { longest, first }
 }
