@@ -25,8 +25,7 @@ fn put_refusal(number: u8, place: usize, page: &mut [u8]) -> usize
 }
 
 // Puts what is to be written for words, and answers how long it is. Of the run's refusals only 7 and 8 can come: 4,096
-// words are below 32,768 (1), the parts that are lent have a place for each word (6), and no run is longer than the
-// words (9).
+// words are below 32,768 (1), and the parts that are lent have a place for each word (6).
 fn put_run(words: &[u32], page: &mut [u8]) -> usize
     requires { ⌜ (length (now words) ≤ mostLines) × (pageLength ≤ length (now page)) ⌝ }
     ensures { λ r. ⌜ r ≡ length (runText (now (words .entry))) ⌝ }

@@ -53,8 +53,13 @@ module _ (g : Graph) (law : Lawful g) (w : ℕ → ℕ) where
   unfolding heaviest
   heaviest-bound b h p = le-trans (within-bound g w b h (g .size - p) p) (mul-le-mul-left b (omega arith))
 
-  pub length-bound : (b : ℕ) → ((p : ℕ) → w p ≤ b) → (p : ℕ) → p < g .size → lengthOf g w p ≤ b * g .size
-  length-bound b h p l = ⊎-elim (λ e. omega (arith, length-unmarked p e)) (λ e. omega (arith, length-of-reach p (reach-of-mark g law p l e), heaviest-bound b h p)) (bit (mark-bit g law p l))
+  pub length-bound : (b : ℕ) → ((p : ℕ) → w p ≤ b) → (p : ℕ) → lengthOf g w p ≤ b * g .size
+  unfolding lengthOf
+  length-bound b h p = go (eqb (markOf g p) 1)
+    where
+      go : (t : Bool) → cond t (heaviest g w p) 0 ≤ b * g .size
+      go true = heaviest-bound b h p
+      go false = zero-le
 
 -- word p, where the words above it have their lengths
 module _ (g : Graph) (law : Lawful g) (w : ℕ → ℕ) (m l : List ℕ) (p : ℕ) (h : p < g .size) (k : Filled g w m l (p + 1)) where

@@ -1,5 +1,6 @@
 pub mod Backward
 pub mod Bounds
+pub mod Ceiling
 pub mod Columns
 pub mod Demand
 pub mod Heaviest

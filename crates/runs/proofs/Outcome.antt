@@ -8,7 +8,7 @@ use borrow.Author.Tests.{lt-ltb, le-ltb, eq-eqb, ne-eqb}
 use lib.Dec.{ltb}
 use lib.ListN.{length, drop, replicate}
 use Rattle.common.specs.Limits.{mostWords}
-use Rattle.common.specs.Numbers.{«TOO_MANY_WORDS», «SHORT_SLICE», «NO_WORDS», «REACHES_INVALID», «RUN_TOO_LONG»}
+use Rattle.common.specs.Numbers.{«TOO_MANY_WORDS», «SHORT_SLICE», «NO_WORDS», «REACHES_INVALID»}
 use Rattle.common.specs.Chain.{refuseIf}
 use Rattle.common.specs.Lists.{over}
 use Rattle.runs.specs.declared.longest.Run.{Run}
@@ -24,8 +24,7 @@ use Rattle.common.proofs.Over.{over-laws}
 abbrev pub decided : List ℕ → Run
 decided ws =
     refuseIf (ltb (lowestInvalid ws) (length ws)) (Refused «REACHES_INVALID» (lowestInvalid ws))
-    (refuseIf (ltb mostWords (longest (graphOf ws) unitWeight)) (Refused «RUN_TOO_LONG» 0)
-    (Accepted (longest (graphOf ws) unitWeight) (first (graphOf ws) unitWeight)))
+    (Accepted (longest (graphOf ws) unitWeight) (first (graphOf ws) unitWeight))
 
 -- the checks before any word is read
 module _ (ws : List ℕ) (a b : ℕ) where
@@ -76,14 +75,8 @@ module _ (ws m l : List ℕ) where
           (sym r, (simp r marks, simp r (zeros e)))
 
       module _ (valid : length ws ≤ lowestInvalid ws) where
-        pub outcome-long : mostWords < longest (graphOf ws) unitWeight → l′ ≡ replicate (length ws) 0 ++ drop (length ws) l → Outcome (Refused «RUN_TOO_LONG» 0) m′ l′
+        pub outcome-accepted : {v a : ℕ} → v ≡ longest (graphOf ws) unitWeight → a ≡ first (graphOf ws) unitWeight → l′ ≡ over (lengthOf (graphOf ws) unitWeight) (length ws) l → Outcome (Accepted v a) m′ l′
         unfolding marksAfter lengthsAfter
-        outcome-long h e =
-            let r : runOf ws (length m) (length l) ≡ Refused «RUN_TOO_LONG» 0 = run-is ∙ simp (le-ltb _ _ valid, lt-ltb _ _ h) in
-            (sym r, (simp r marks, simp r (zeros e)))
-
-        pub outcome-accepted : {v a : ℕ} → v ≡ longest (graphOf ws) unitWeight → a ≡ first (graphOf ws) unitWeight → v ≤ mostWords → l′ ≡ over (lengthOf (graphOf ws) unitWeight) (length ws) l → Outcome (Accepted v a) m′ l′
-        unfolding marksAfter lengthsAfter
-        outcome-accepted {v} {a} q f h e =
-            let r : runOf ws (length m) (length l) ≡ Accepted v a = run-is ∙ simp (le-ltb _ _ valid, ← q, ← f, le-ltb mostWords v h) in
+        outcome-accepted {v} {a} q f e =
+            let r : runOf ws (length m) (length l) ≡ Accepted v a = run-is ∙ simp (le-ltb _ _ valid, ← q, ← f) in
             (sym r, (simp r marks, simp r e))

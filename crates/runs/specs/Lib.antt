@@ -8,6 +8,7 @@ pub mod Longest
 pub mod Instance
 pub mod Run
 pub mod Meaning
+pub mod Ceiling
 pub mod Demand
 pub mod Slices
 pub mod Laws

@@ -6,7 +6,7 @@ use Prim.Native.Nat.{ℕ}
 use lib.Dec.{ltb, eqb}
 use lib.ListN.{length}
 use Rattle.common.specs.Limits.{mostWords}
-use Rattle.common.specs.Numbers.{«ACCEPTED», «TOO_MANY_WORDS», «SHORT_SLICE», «NO_WORDS», «REACHES_INVALID», «RUN_TOO_LONG»}
+use Rattle.common.specs.Numbers.{«ACCEPTED», «TOO_MANY_WORDS», «SHORT_SLICE», «NO_WORDS», «REACHES_INVALID»}
 use Rattle.common.specs.Chain.{refuseIf}
 use Rattle.common.specs.Lowest.{lowest}
 use Rattle.common.specs.Lists.{over}
@@ -54,13 +54,11 @@ runOf ws marks lengths =
     (refuseIf (eqb (length ws) 0) (Refused «NO_WORDS» 0)
     -- "a reachable bad word; place: the lowest"
     (refuseIf (ltb (lowestInvalid ws) (length ws)) (Refused «REACHES_INVALID» (lowestInvalid ws))
-    -- "L over 32,768"
-    (refuseIf (ltb mostWords (longest (graphOf ws) unitWeight)) (Refused «RUN_TOO_LONG» 0)
-    (Accepted (longest (graphOf ws) unitWeight) (first (graphOf ws) unitWeight))))))
+    (Accepted (longest (graphOf ws) unitWeight) (first (graphOf ws) unitWeight)))))
 
--- "Nothing lent is altered, except that 8 and 9 leave the reachable marks and n zero lengths."
+-- "Nothing lent is altered, except that 8 .. leave[s] the reachable marks and n zero lengths."
 abbrev pub untouched : ℕ → Bool
-untouched number = not (eqb number «ACCEPTED» || eqb number «REACHES_INVALID» || eqb number «RUN_TOO_LONG»)
+untouched number = not (eqb number «ACCEPTED» || eqb number «REACHES_INVALID»)
 
 module _ (ws marks lengths : List ℕ) where
   abbrev pub numberIs : ℕ

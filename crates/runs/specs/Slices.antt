@@ -3,11 +3,11 @@
 -- contract of `longest_run` cites. proofs/Slices.antt proves `Slices` for any words and any two slices.
 -- Assumes nothing.
 use mathlib.Core.Path.{_≡_}
-use mathlib.Core.Logic.{_↔_, _⊎_}
+use mathlib.Core.Logic.{_↔_}
 use mathlib.Core.List.{List}
 use Prim.Native.Nat.{ℕ, _≤_, _<_}
 use lib.ListN.{length, getD, drop}
-use Rattle.common.specs.Numbers.{«ACCEPTED», «REACHES_INVALID», «RUN_TOO_LONG»}
+use Rattle.common.specs.Numbers.{«ACCEPTED», «REACHES_INVALID»}
 use Rattle.runs.specs.Graph.{Reachable}
 use Rattle.runs.specs.Instance.{graphOf}
 use Rattle.runs.specs.Run.{numberIs, marksAfter, lengthsAfter}
@@ -38,11 +38,11 @@ pub record ZeroLengths (ws before after : List ℕ) : Type 0 where
   pub kept : Kept (length ws) before after
 
 module _ (ws marks lengths : List ℕ) where
-  -- the two numbers that are given after the search
+  -- the number that is given after the search
   abbrev pub RefusedLate : Type 0
-  RefusedLate = (numberIs ws marks lengths ≡ «REACHES_INVALID») ⊎ (numberIs ws marks lengths ≡ «RUN_TOO_LONG»)
+  RefusedLate = numberIs ws marks lengths ≡ «REACHES_INVALID»
 
-  -- the numbers that are given before it: neither acceptance nor one of those
+  -- the numbers that are given before it: neither acceptance nor that one
   abbrev pub RefusedEarly : Type 0
   RefusedEarly = (numberIs ws marks lengths ≡ «ACCEPTED» → ⊥) × (RefusedLate → ⊥)
 
@@ -50,7 +50,7 @@ module _ (ws marks lengths : List ℕ) where
     -- an accepted run
     pub marks-accepted : numberIs ws marks lengths ≡ «ACCEPTED» → ReachableMarks ws marks (marksAfter ws marks lengths)
     pub lengths-accepted : numberIs ws marks lengths ≡ «ACCEPTED» → SegmentLengths ws lengths (lengthsAfter ws marks lengths)
-    -- "8 and 9 leave the reachable marks and n zero lengths"
+    -- "8 .. leave[s] the reachable marks and n zero lengths"
     pub marks-late : RefusedLate → ReachableMarks ws marks (marksAfter ws marks lengths)
     pub lengths-late : RefusedLate → ZeroLengths ws lengths (lengthsAfter ws marks lengths)
     -- "Nothing lent is altered, except ..": after any other refusal

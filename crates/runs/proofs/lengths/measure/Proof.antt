@@ -51,7 +51,7 @@ module _ (c : tie.After-successors-in) where
     found =
         let s = enter c in (
           measured (graph s) (lawful (s .args .words .now)) unitWeight (s .args .marks .now) (s .args .lengths .now) (s .args .p) (s .pre .1) (s .pre .2) (c .before .if1 .left) steps,
-          omega (arith, length-bound (graph s) (lawful (s .args .words .now)) unitWeight 1 (λ q. omega arith) (s .args .p) (s .pre .1), s .pre .2 .few),
+          omega (arith, length-bound (graph s) (lawful (s .args .words .now)) unitWeight 1 (λ q. omega arith) (s .args .p), s .pre .2 .few),
         )
 
     inside : (q : ℕ) → In q l → q < length (enter c .args .lengths .now)

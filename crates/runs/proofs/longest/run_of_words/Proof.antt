@@ -12,7 +12,7 @@ use Rattle.runs.specs.Run.{lowestInvalid}
 use Rattle.runs.specs.Invariants.{at}
 use Rattle.common.proofs.Over.{over-laws}
 use Rattle.runs.proofs.Meaning.{longest-found, first-found}
-use Rattle.runs.proofs.Outcome.{outcome-invalid, outcome-long, outcome-accepted}
+use Rattle.runs.proofs.Outcome.{outcome-invalid, outcome-accepted}
 use Rattle.runs.proofs.longest.run_of_words.Statement.{statement}
 use Rattle.runs.proofs.longest.run_of_words.Tie as tie
 
@@ -79,17 +79,10 @@ returns c =
 
 returns-2 : tie.Need-returns-2
 returns-2 c =
-    let k = c .before .before in
-    let h = k .before .before .before in
-    let d = sought (fill h) in
-    outcome-long _ _ _ (start d .pre) (marks-are d) (valid h) (omega (arith, k .before .before .if2 .taken, found h)) (cleared (fill h) (k .clear-lengths2 .ensures))
-
-returns-3 : tie.Need-returns-3
-returns-3 c =
-    let h = c .before .before .before in
+    let h = c .before .before in
     let d = sought (fill h) in
     let first-is = first-found (graphOf (words d)) unitWeight (at (lengths (fill h))) (fill h .fill-lengths .ensures .0 .each) (found h) (c .find-first .ensures) in
-    outcome-accepted _ _ _ (start d .pre) (marks-are d) (valid h) (found h) first-is (c .before .before .if2 .left) (lengths-are (fill h))
+    outcome-accepted _ _ _ (start d .pre) (marks-are d) (valid h) (found h) first-is (lengths-are (fill h))
 
 pub run-of-words-spec : {M : Type 1} → statement M
 run-of-words-spec =
@@ -103,12 +96,7 @@ run-of-words-spec =
     (λ c. search needs)
     returns
     (λ c κs. search needs)
-    (λ c. search needs)
     (λ c κs. search needs)
     (λ c. search needs)
     (λ c. search needs)
-    returns-2
-    (λ c κs. search needs)
-    (λ c. search needs)
-    (λ c. search needs)
-    returns-3)
+    returns-2)
