@@ -2,20 +2,18 @@
 -- Assumes nothing.
 use Prim.Native.Nat.{ℕ, _+_, _<_}
 use mathlib.Core.Path.{_≡_, refl}
-use mathlib.Core.Bool.{Bool, true, false, cond, _||_}
+use mathlib.Core.Bool.{Bool, true, false, cond}
 use mathlib.Core.List.{List}
-use lib.Dec.{ltb, leb, eqb}
+use lib.Dec.{ltb, eqb}
 use lib.IntN.{ℤ, pos, negsuc}
 use lib.ListN.{length, getD}
 use borrow.Author.Tests.{ltb-true, leb-false}
-use Rattle.fields.specs.Opcodes.{«OP_CALL», «OP_TFORCALL»}
 use Rattle.fields.specs.Word.{kOf}
 use Rattle.fields.specs.Table.{StepClass, following, returning, branching, skipping, skippingIfK, jumping, looping, preparing, entering, invalid, classOf}
 use Rattle.runs.specs.declared.edges.Successors.{Successors}
 use Rattle.runs.specs.declared.edges.Successors.the-variants.{One, Two}
 use Rattle.runs.specs.Successors.{unless, one, ordered, two, opcodeAt, nextOf, companionPresent, successorsOf, servesOf}
 use Rattle.runs.specs.Laws.{Below}
-use Rattle.runs.proofs.Tests.{neither}
 
 -- a test, and what it says where it holds
 by-test : (n : ℕ) (t : Bool) (s : Successors) → (t ≡ true → Below n s) → Below n (unless t s)
@@ -59,6 +57,6 @@ below ws p =
     by-test (length ws) (ltb p (length ws)) _ λ e. by-test (length ws) (companionPresent ws p) _ λ d.
     next-below (classOf (opcodeAt ws p)) (length ws) (getD ws p 0) p
 
-pub forward : (ws : List ℕ) (p q : ℕ) → servesOf ws p q ≡ false → p < q
+pub forward : (p q : ℕ) → servesOf p q ≡ false → p < q
 unfolding servesOf
-forward ws p q e = leb-false q p (neither (eqb (opcodeAt ws p) «OP_CALL» || eqb (opcodeAt ws p) «OP_TFORCALL») (leb q p) e .1)
+forward p q e = leb-false q p e
