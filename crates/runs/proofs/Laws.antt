@@ -12,7 +12,8 @@ use Rattle.runs.proofs.Bounds.{below, forward}
 use Rattle.runs.proofs.Lawful.{lawful}
 use Rattle.runs.proofs.Lvm.{agreement-holds}
 use Rattle.runs.proofs.Paths.{along-in}
-use Rattle.runs.proofs.Demand.{demand}
+use Rattle.runs.proofs.Ceiling.{ceiling}
+use Rattle.runs.proofs.Demand.{demand, refused-exactly}
 use Rattle.runs.proofs.Slices.{enough, slices}
 
 in-of-member : (q : ℕ) (xs : List ℕ) → member q xs ≡ true → In q xs
@@ -39,5 +40,7 @@ laws =
       along-inside = along-in;
       enough = enough;
       demand = λ ws a b e. demand ws a b (e .few) (e .marks-long) (e .lengths-long);
+      refused-exactly = refused-exactly;
       slices = slices;
+      ceiling = ceiling;
     }

@@ -13,7 +13,9 @@ use Rattle.runs.specs.Successors.{successorsOf, servesOf}
 use Rattle.runs.specs.Lvm.{Agreement}
 use Rattle.runs.specs.Instance.{graphOf}
 use Rattle.runs.specs.Run.{mostWords, runOf, numberOf}
-use Rattle.runs.specs.Demand.{Demand}
+use Rattle.runs.specs.declared.longest.Run.{Run}
+use Rattle.runs.specs.Ceiling.{Ceiling}
+use Rattle.runs.specs.Demand.{Demand, RefusedExactly}
 use Rattle.runs.specs.Slices.{Slices}
 
 -- the steps are below n, the lower first
@@ -46,4 +48,7 @@ pub record Laws : Type 0 where
   pub enough : (ws : List ℕ) (marks lengths : ℕ) → numberOf (runOf ws marks lengths) ≡ 0 → Enough (length ws) marks lengths
   -- demand 3, first half
   pub demand : (ws : List ℕ) (marks lengths : ℕ) → Enough (length ws) marks lengths → Demand ws (runOf ws marks lengths)
+  pub refused-exactly : (ws : List ℕ) (r : Run) → Demand ws r → RefusedExactly ws r
   pub slices : (ws marks lengths : List ℕ) → Slices ws marks lengths
+  -- of any graph: no run is longer than its words
+  pub ceiling : Ceiling
