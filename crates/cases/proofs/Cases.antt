@@ -4,7 +4,8 @@ use mathlib.Core.Path.{refl}
 use Rattle.fields.specs.Table.{classOf, companionOf, fallbackOf}
 use Rattle.runs.specs.Successors.{unless, one, ordered, two, opcodeAt, isBetween, companionPresent, successorsOf, servesOf}
 use Rattle.runs.specs.Marks.{markOf}
-use Rattle.runs.specs.Longest.{within, heaviest, lengthOf, most, lowestFrom, longest, first}
+use Rattle.common.specs.Lowest.{lowestFrom}
+use Rattle.runs.specs.Longest.{within, heaviest, lengthOf, most, longest, first}
 use Rattle.runs.specs.Run.{lowestInvalid, runOf}
 use Rattle.values.specs.Values.{choose, constantOf}
 use Rattle.families.specs.Parts.{plus, eventOf, constant, arguments, results}

@@ -1,7 +1,6 @@
 pub mod Backward
 pub mod Bounds
 pub mod Ceiling
-pub mod Clearing
 pub mod Columns
 pub mod Demand
 pub mod Heaviest
@@ -12,10 +11,8 @@ pub mod Lvm
 pub mod Marks
 pub mod Meaning
 pub mod Moves
-pub mod Order
 pub mod Outcome
 pub mod Paths
 pub mod Slices
 pub mod Steps
-pub mod Tests
 pub mod Turn

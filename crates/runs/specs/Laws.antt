@@ -6,13 +6,15 @@ use mathlib.Core.Logic.{_↔_}
 use mathlib.Core.Bool.{true, false}
 use mathlib.Core.List.{List}
 use lib.ListN.{length}
+use Rattle.common.specs.Limits.{mostWords}
+use Rattle.common.specs.Numbers.{«ACCEPTED»}
 use Rattle.runs.specs.declared.edges.Successors.{Successors}
 use Rattle.runs.specs.declared.edges.Successors.the-variants.{Invalid, Stop, One, Two}
 use Rattle.runs.specs.Graph.{In, member, Graph, Lawful, Along}
 use Rattle.runs.specs.Successors.{successorsOf, servesOf}
 use Rattle.runs.specs.Lvm.{Agreement}
 use Rattle.runs.specs.Instance.{graphOf}
-use Rattle.runs.specs.Run.{mostWords, runOf, numberOf}
+use Rattle.runs.specs.Run.{runOf, numberOf}
 use Rattle.runs.specs.declared.longest.Run.{Run}
 use Rattle.runs.specs.Ceiling.{Ceiling}
 use Rattle.runs.specs.Demand.{Demand, RefusedExactly}
@@ -45,7 +47,7 @@ pub record Laws : Type 0 where
   -- of any graph: words along its edges are below n
   pub along-inside : (g : Graph) (p : ℕ) (ps : List ℕ) → Along g p ps → p < g .size
   -- an accepted run passed the checks of the sizes
-  pub enough : (ws : List ℕ) (marks lengths : ℕ) → numberOf (runOf ws marks lengths) ≡ 0 → Enough (length ws) marks lengths
+  pub enough : (ws : List ℕ) (marks lengths : ℕ) → numberOf (runOf ws marks lengths) ≡ «ACCEPTED» → Enough (length ws) marks lengths
   -- demand 3, first half
   pub demand : (ws : List ℕ) (marks lengths : ℕ) → Enough (length ws) marks lengths → Demand ws (runOf ws marks lengths)
   pub refused-exactly : (ws : List ℕ) (r : Run) → Demand ws r → RefusedExactly ws r

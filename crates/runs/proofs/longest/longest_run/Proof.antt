@@ -1,21 +1,22 @@
 use mathlib.Core.Path.{refl}
 use native.Mathlib.Nat.{pos-of-ne-zero}
 use borrow.Author.Needs.{needs}
-use Rattle.runs.proofs.Outcome.{run-1, run-6-marks, run-6-lengths, run-7, outcome-kept}
+use Rattle.common.specs.Numbers.{«TOO_MANY_WORDS», «SHORT_SLICE», «NO_WORDS»}
+use Rattle.runs.proofs.Outcome.{run-many, run-short-marks, run-short-lengths, run-none, outcome-kept}
 use Rattle.runs.proofs.longest.longest_run.Statement.{statement}
 use Rattle.runs.proofs.longest.longest_run.Tie as tie
 
 returns : tie.Need-returns
-returns c = outcome-kept _ _ _ 1 (run-1 _ _ _ (c .if1 .taken)) refl
+returns c = outcome-kept _ _ _ «TOO_MANY_WORDS» (run-many _ _ _ (c .if1 .taken)) refl
 
 returns-2 : tie.Need-returns-2
-returns-2 c = outcome-kept _ _ _ 6 (run-6-marks _ _ _ (c .before .if1 .left) (c .if2 .taken)) refl
+returns-2 c = outcome-kept _ _ _ «SHORT_SLICE» (run-short-marks _ _ _ (c .before .if1 .left) (c .if2 .taken)) refl
 
 returns-3 : tie.Need-returns-3
-returns-3 c = outcome-kept _ _ _ 6 (run-6-lengths _ _ _ (c .before .before .if1 .left) (c .if3 .taken)) refl
+returns-3 c = outcome-kept _ _ _ «SHORT_SLICE» (run-short-lengths _ _ _ (c .before .before .if1 .left) (c .if3 .taken)) refl
 
 returns-4 : tie.Need-returns-4
-returns-4 c = outcome-kept _ _ _ 7 (run-7 _ _ _ (c .before .before .before .if1 .left) (c .before .before .if2 .left) (c .before .if3 .left) (c .if4 .taken)) refl
+returns-4 c = outcome-kept _ _ _ «NO_WORDS» (run-none _ _ _ (c .before .before .before .if1 .left) (c .before .before .if2 .left) (c .before .if3 .left) (c .if4 .taken)) refl
 
 run-of-words-requires : tie.Need-run-of-words-requires
 run-of-words-requires c κs =
