@@ -80,7 +80,7 @@ pub extern "C" fn lawendeb_successors(words: &[u32], p: usize) -> FlatSuccessors
 }
 
 #[no_mangle]
-pub extern "C" fn lawendeb_longest_run(
+pub extern "C" fn lawendeb_longest_run_2(
     words: &[u32],
     marks: &mut [u8],
     lengths: &mut [u32],
