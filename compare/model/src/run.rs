@@ -49,10 +49,6 @@ pub fn run(words: &[u32], marks: &mut [u8], lengths: &mut [u32]) -> RunAnswer {
         lengths[p] = 1 + on.unwrap_or(0);
     }
     let longest = lengths[..n].iter().copied().max().unwrap_or(0);
-    if longest as usize > WORDS {
-        lengths[..n].fill(0);
-        return refused(9, 0);
-    }
     let first = lengths[..n].iter().position(|&l| l == longest).unwrap_or(0);
     RunAnswer { number: 0, place: 0, longest: u64::from(longest), first: first as u64 }
 }
