@@ -59,7 +59,7 @@ static size_t mark(const uint32_t *w, size_t n, uint8_t *marks, uint32_t *queue)
     }
     return lowest;
 }
-static inline uint32_t on(const uint32_t *w, const uint32_t *lengths, size_t p, size_t q) {
+static inline uint32_t on(const uint32_t *lengths, size_t p, size_t q) {
     return serves(p, q) ? 0 : lengths[q];
 }
 struct twin_run twin_longest_run(const uint32_t *w, size_t n, uint8_t *marks, size_t marks_n, uint32_t *lengths, size_t lengths_n) {
@@ -73,8 +73,8 @@ struct twin_run twin_longest_run(const uint32_t *w, size_t n, uint8_t *marks, si
         if (!marks[p]) continue;
         struct twin_successors s = successors(w, n, p);
         uint32_t most = 0;
-        if (s.kind >= 2) most = on(w, lengths, p, s.first);
-        if (s.kind == 3) { uint32_t other = on(w, lengths, p, s.second); if (other > most) most = other; }
+        if (s.kind >= 2) most = on(lengths, p, s.first);
+        if (s.kind == 3) { uint32_t other = on(lengths, p, s.second); if (other > most) most = other; }
         lengths[p] = most + 1;
     }
     size_t first = 0;
