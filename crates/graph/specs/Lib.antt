@@ -1,0 +1,7 @@
+-- The argument about runs, over any graph.
+pub mod Graph
+pub mod Marks
+pub mod Longest
+pub mod Meaning
+pub mod Laws
+pub mod Ceiling
