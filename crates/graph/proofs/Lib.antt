@@ -6,3 +6,5 @@ pub mod Lengths
 pub mod Meaning
 pub mod Laws
 pub mod Ceiling
+pub mod Monotone
+pub mod Unreachable

@@ -5,3 +5,5 @@ pub mod Longest
 pub mod Meaning
 pub mod Laws
 pub mod Ceiling
+pub mod Monotone
+pub mod Unreachable
