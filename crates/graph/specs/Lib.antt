@@ -7,3 +7,4 @@ pub mod Laws
 pub mod Ceiling
 pub mod Monotone
 pub mod Unreachable
+pub mod Distance
