@@ -1,18 +1,12 @@
 -- Document 01, "Meter": begin and feed, over any graph of words. The contracts give the graph of the words lent.
 -- Assumes nothing.
-use mathlib.Core.Bool.{Bool, false, cond, not, _||_}
-use mathlib.Core.List.{List, [], _∷_}
+use mathlib.Core.Bool.{Bool, cond, not, _||_}
 use Prim.Native.Nat.{ℕ, _+_}
 use lib.Dec.{ltb, leb, eqb}
-use Rattle.runs.specs.Graph.{Graph}
+use Rattle.runs.specs.Graph.{member, Graph}
 use Rattle.runs.specs.Run.{mostWords}
 use Rattle.meter.specs.declared.step.Meter.{Meter}
 use Rattle.meter.specs.declared.step.Fed.{Fed}
-
--- a number stands in a list: the test of `In`
-abbrev pub member : ℕ → List ℕ → Bool
-member q [] = false
-member q (x ∷ xs) = eqb x q || member q xs
 
 -- q is "a step from" p
 abbrev pub follows : Graph → ℕ → ℕ → Bool

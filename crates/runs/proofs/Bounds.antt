@@ -14,7 +14,7 @@ use Rattle.fields.specs.Table.{StepClass, following, returning, branching, skip
 use Rattle.runs.specs.declared.edges.Successors.{Successors}
 use Rattle.runs.specs.declared.edges.Successors.the-variants.{One, Two}
 use Rattle.runs.specs.Successors.{unless, one, ordered, two, opcodeAt, nextOf, companionPresent, successorsOf, servesOf}
-use Rattle.runs.specs.Laws.{Below, Laws}
+use Rattle.runs.specs.Laws.{Below}
 use Rattle.runs.proofs.Tests.{neither}
 
 -- a test, and what it says where it holds
@@ -62,6 +62,3 @@ below ws p =
 pub forward : (ws : List ℕ) (p q : ℕ) → servesOf ws p q ≡ false → p < q
 unfolding servesOf
 forward ws p q e = leb-false q p (neither (eqb (opcodeAt ws p) «OP_CALL» || eqb (opcodeAt ws p) «OP_TFORCALL») (leb q p) e .1)
-
-pub laws : Laws
-laws = record { below = below; forward = forward }

@@ -25,7 +25,7 @@ use Rattle.runs.proofs.Meaning.{meaning}
 use Rattle.runs.proofs.Outcome.{run-7, run-words}
 use Rattle.runs.proofs.Lawful.{lawful}
 
-weigh-counts : (ps : List ℕ) → weigh unitWeight ps ≡ length ps
+pub weigh-counts : (ps : List ℕ) → weigh unitWeight ps ≡ length ps
 weigh-counts [] = refl
 weigh-counts (p ∷ ps) = let h = weigh-counts ps in omega arith
 
@@ -33,10 +33,10 @@ module _ (ws : List ℕ) where
   abbrev graph : Graph
   graph = graphOf ws
 
-  means : Meaning graph unitWeight
+  pub means : Meaning graph unitWeight
   means = meaning graph (lawful ws) unitWeight (λ p. omega arith)
 
-  inside : {p : ℕ} → Reachable graph p → p < length ws
+  pub inside : {p : ℕ} → Reachable graph p → p < length ws
   inside r = reach-in graph (reach-of graph r)
 
   -- the lowest reachable invalid word is met by a path, and none below it is

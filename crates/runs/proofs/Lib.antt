@@ -14,5 +14,7 @@ pub mod Moves
 pub mod Order
 pub mod Outcome
 pub mod Paths
+pub mod Slices
+pub mod Steps
 pub mod Tests
 pub mod Turn

@@ -7,10 +7,10 @@ use Prim.Native.Nat.{ℕ, zero, suc, _+_, _-_, _≤_, _<_, max}
 use native.Mathlib.Nat.{not-suc-le-zero, le-of-suc-le-suc, le-antisymm, add-zero}
 use native.Mathlib.Numerals.{add-one}
 use native.Mathlib.Omega.{arith}
-use lib.ListN.{length, getD, take, drop, replicate, take-append-drop}
-use lib.Seq.{ext-getD, getD-take, length-take-le}
+use lib.ListN.{length, getD, take, drop, replicate, take-append-drop, length-append, length-drop, List·getD-append}
+use lib.Seq.{ext-getD, getD-take, length-take-le, drop-at}
 use Rattle.runs.specs.Longest.{most, lowestFrom}
-use Rattle.runs.specs.Run.{table, over}
+use Rattle.runs.specs.Run.{tabulate, over}
 use Rattle.runs.proofs.Order.{split, same-or-not, past}
 
 -- the lowest of the numbers from i up to n, as i goes down
@@ -101,23 +101,35 @@ lowest-same t u i zero e = refl
 lowest-same t u i (suc k) e = ap₂ (λ (b : Bool) (x : ℕ). cond b i x) (e i (omega arith)) (lowest-same t u (i + 1) k (λ p l. e p (omega arith)))
 
 -- lists by their first elements and the rest
-length-table : (f : ℕ → ℕ) (i k : ℕ) → length (table f i k) ≡ k
-length-table f i zero = refl
-length-table f i (suc k) = ap suc (length-table f (suc i) k)
+length-tabulate : (f : ℕ → ℕ) (i k : ℕ) → length (tabulate f i k) ≡ k
+length-tabulate f i zero = refl
+length-tabulate f i (suc k) = ap suc (length-tabulate f (suc i) k)
 
-getD-table : (f : ℕ → ℕ) (i k p : ℕ) → p < k → getD (table f i k) p 0 ≡ f (i + p)
-getD-table f i zero p l = absurd (not-suc-le-zero l)
-getD-table f i (suc k) zero l = ap f (sym (add-zero i))
-getD-table f i (suc k) (suc p) l = getD-table f (suc i) k p (le-of-suc-le-suc l) ∙ ap f (omega arith)
+getD-tabulate : (f : ℕ → ℕ) (i k p : ℕ) → p < k → getD (tabulate f i k) p 0 ≡ f (i + p)
+getD-tabulate f i zero p l = absurd (not-suc-le-zero l)
+getD-tabulate f i (suc k) zero l = ap f (sym (add-zero i))
+getD-tabulate f i (suc k) (suc p) l = getD-tabulate f (suc i) k p (le-of-suc-le-suc l) ∙ ap f (omega arith)
 
 pub over-is : (f : ℕ → ℕ) (k : ℕ) (l₀ l : List ℕ) → k ≤ length l → ((p : ℕ) → p < k → getD l p 0 ≡ f p) → drop k l ≡ drop k l₀ → l ≡ over f k l₀
 over-is f k l₀ l h e d = sym (take-append-drop k l) ∙ ap₂ (λ (a b : List ℕ). a ++ b) front d
   where
-    front : take k l ≡ table f 0 k
+    front : take k l ≡ tabulate f 0 k
     front =
-        ext-getD 0 (take k l) (table f 0 k) (length-take-le k l h ∙ sym (length-table f 0 k))
-        (λ p j. let q : p < k = omega (arith, j, length-take-le k l h) in getD-take k l p 0 q ∙ e p q ∙ sym (getD-table f 0 k p q ∙ ap f (omega arith)))
+        ext-getD 0 (take k l) (tabulate f 0 k) (length-take-le k l h ∙ sym (length-tabulate f 0 k))
+        (λ p j. let q : p < k = omega (arith, j, length-take-le k l h) in getD-take k l p 0 q ∙ e p q ∙ sym (getD-tabulate f 0 k p q ∙ ap f (omega arith)))
 
-pub zeros-table : (i k : ℕ) → replicate k 0 ≡ table (λ p. 0) i k
-zeros-table i zero = refl
-zeros-table i (suc k) = ap (λ (l : List ℕ). 0 ∷ l) (zeros-table (suc i) k)
+-- and what such a list holds
+module _ (f : ℕ → ℕ) (k : ℕ) (l : List ℕ) where
+  pub over-at : (p : ℕ) → p < k → getD (over f k l) p 0 ≡ f p
+  over-at p h =
+      List·getD-append (tabulate f 0 k) (drop k l) 0 p (omega (arith, length-tabulate f 0 k)) ∙ (getD-tabulate f 0 k p h ∙ ap f (omega arith))
+
+  pub over-past : drop k (over f k l) ≡ drop k l
+  over-past = drop-at (tabulate f 0 k) (drop k l) k (length-tabulate f 0 k)
+
+  pub over-length : k ≤ length l → length (over f k l) ≡ length l
+  over-length h = omega (arith, length-append (tabulate f 0 k) (drop k l), length-tabulate f 0 k, length-drop k l)
+
+pub zeros-tabulate : (i k : ℕ) → replicate k 0 ≡ tabulate (λ p. 0) i k
+zeros-tabulate i zero = refl
+zeros-tabulate i (suc k) = ap (λ (l : List ℕ). 0 ∷ l) (zeros-tabulate (suc i) k)

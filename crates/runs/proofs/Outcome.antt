@@ -14,7 +14,7 @@ use Rattle.runs.specs.Longest.{lengthOf, longest, first}
 use Rattle.runs.specs.Instance.{graphOf, unitWeight}
 use Rattle.runs.specs.Run.{mostWords, lowestInvalid, refuseRun, runOf, untouched, over, marksAfter, lengthsAfter}
 use Rattle.runs.specs.Invariants.{Lent}
-use Rattle.runs.proofs.Lists.{zeros-table}
+use Rattle.runs.proofs.Lists.{zeros-tabulate}
 
 -- what the checks after the search say
 abbrev pub decided : List ℕ → Run
@@ -63,7 +63,7 @@ module _ (ws m l : List ℕ) where
 
     module _ {m′ l′ : List ℕ} (marks : m′ ≡ over (markOf (graphOf ws)) (length ws) m) where
       zeros : l′ ≡ replicate (length ws) 0 ++ drop (length ws) l → l′ ≡ over (λ p. 0) (length ws) l
-      zeros e = e ∙ ap (λ (x : List ℕ). x ++ drop (length ws) l) (zeros-table 0 (length ws))
+      zeros e = e ∙ ap (λ (x : List ℕ). x ++ drop (length ws) l) (zeros-tabulate 0 (length ws))
 
       pub outcome-8 : {p : ℕ} → p ≡ lowestInvalid ws → p < length ws → l′ ≡ replicate (length ws) 0 ++ drop (length ws) l → Outcome (Refused 8 p) m′ l′
       unfolding marksAfter lengthsAfter

@@ -62,13 +62,13 @@ runOf ws marks lengths =
     (Accepted (longest (graphOf ws) unitWeight) (first (graphOf ws) unitWeight))))))
 
 -- f i, f (i + 1), .. : k of them
-abbrev pub table : (ℕ → ℕ) → ℕ → ℕ → List ℕ
-table f i zero = []
-table f i (suc k) = f i ∷ table f (suc i) k
+abbrev pub tabulate : (ℕ → ℕ) → ℕ → ℕ → List ℕ
+tabulate f i zero = []
+tabulate f i (suc k) = f i ∷ tabulate f (suc i) k
 
 -- a slice whose first n elements are those of f. "Elements past n are untouched"
 abbrev pub over : (ℕ → ℕ) → ℕ → List ℕ → List ℕ
-over f n l = table f 0 n ++ drop n l
+over f n l = tabulate f 0 n ++ drop n l
 
 -- "Nothing lent is altered, except that 8 and 9 leave the reachable marks and n zero lengths." 0 is acceptance
 abbrev pub untouched : ℕ → Bool

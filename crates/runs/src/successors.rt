@@ -6,7 +6,8 @@ ghost use lib.ListN.{length, getD};
 ghost use Rattle.fields.specs.Word.{bxOf, sjOf};
 ghost use Rattle.fields.specs.Table.{opcodeTable, jumpAfter, metamethodAfter, arithmeticBefore};
 ghost use Rattle.runs.specs.Columns.{classFrom, companionFrom};
-ghost use Rattle.runs.specs.Successors.{one, two, opcodeAt, isBetween, nextOf, standsAt, unless, successorsOf, hasSuccessor, isSuccessor, servesOf};
+ghost use Rattle.runs.specs.Successors.{one, two, opcodeAt, isBetween, nextOf, standsAt, unless, listOf, successorsOf, isSuccessor, servesOf};
+ghost use Rattle.runs.specs.Graph.{member};
 use crate::edges::Successors;
 use fields::columns::*;
 use fields::opcodes::*;
@@ -242,7 +243,7 @@ pub fn successors(words: &[u32], p: usize) -> Successors
 }
 
 fn has_successor(s: Successors, q: usize) -> bool
-    ensures { λ r. ⌜ r ≡ hasSuccessor s q ⌝ }
+    ensures { λ r. ⌜ r ≡ member q (listOf s) ⌝ }
 {
     match s {
         Successors::Invalid => false,

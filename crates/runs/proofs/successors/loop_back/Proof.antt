@@ -1,7 +1,7 @@
 -- `runs::successors::loop_back` meets its contract: a distance back, by its size.
 -- Assumes nothing.
 use mathlib.Core.Path.{_∙_}
-use Rattle.runs.proofs.Laws.{back-in, back-below, back-none}
+use Rattle.runs.proofs.Steps.{back-in, back-below, back-none}
 use borrow.Author.Needs.{needs}
 use Rattle.runs.proofs.successors.loop_back.Statement.{statement}
 use Rattle.runs.proofs.successors.loop_back.Tie as tie

@@ -8,7 +8,7 @@ use lib.ListN.{length, getD}
 use Rattle.runs.specs.Columns.{classFrom, companionFrom}
 use Rattle.runs.specs.Successors.{unless, nextOf, standsAt, successorsOf}
 use Rattle.runs.proofs.Columns.{class-of-both, companion-of-both}
-use Rattle.runs.proofs.Laws.{outside, by-columns}
+use Rattle.runs.proofs.Steps.{outside, by-columns}
 use borrow.Author.Needs.{needs}
 use Rattle.runs.proofs.successors.successors.Statement.{statement}
 use Rattle.runs.proofs.successors.successors.Tie as tie

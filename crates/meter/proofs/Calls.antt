@@ -9,13 +9,14 @@ use lib.Dec.{ltb, eqb}
 use borrow.Author.Tests.{ltb-true, ltb-false, eqb-true, le-ltb, lt-leb, le-leb, ne-eqb}
 use Rattle.runs.specs.Graph.{Graph, Lawful}
 use Rattle.runs.specs.Run.{mostWords}
+use Rattle.runs.proofs.Laws.{laws}
 use Rattle.runs.proofs.Tests.{both}
 use Rattle.meter.specs.declared.step.Meter.{Meter}
 use Rattle.meter.specs.declared.step.Fed.{Fed}
 use Rattle.meter.specs.Feed.{follows, ceiling, oneService, movedTo, isForeign, isStray, beginOf, feedOf}
 use Rattle.meter.specs.Model.{Call, begin, feed, Model, emptyModel, lastFrom, writes, fed, called, answerTo, modelAfter, modelAnswers, hasWord, lastOr0, wordsSince}
 use Rattle.meter.specs.Calls.{meterAfter, meterAnswers, FollowsModel}
-use Rattle.meter.proofs.Paths.{in-of-member, last-more, words-more}
+use Rattle.meter.proofs.Paths.{last-more, words-more}
 
 -- The ceiling.
 
@@ -34,7 +35,7 @@ shows g start b =
 
 module _ (g : Graph) (law : Lawful g) where
   step-inside : (p q : ℕ) → follows g p q ≡ true → q < g .size
-  step-inside p q h = law .inside p q (in-of-member q (g .successors p) h)
+  step-inside p q h = law .inside p q (laws .member-in q (g .successors p) .0 h)
 
   -- The invariant: the path's last word is a word, and the count is from 1 to that word's number and one more.
 
@@ -47,7 +48,7 @@ module _ (g : Graph) (law : Lawful g) where
 
   fits-next : (p q k : ℕ) (t : Bool) → g .serves p q ≡ t → follows g p q ≡ true → k ≤ p + 1 → Fits q (cond t 1 (k + 1))
   fits-next p q k true e h l = (step-inside p q h, (omega arith, omega arith))
-  fits-next p q k false e h l = (step-inside p q h, (omega arith, omega (arith, law .forward p q (in-of-member q (g .successors p) h) e)))
+  fits-next p q k false e h l = (step-inside p q h, (omega arith, omega (arith, law .forward p q (laws .member-in q (g .successors p) .0 h) e)))
 
   pub first-word : (q : ℕ) → writes g [] q ≡ true → (q ≡ 0) × (0 < g .size)
   first-word q h =
