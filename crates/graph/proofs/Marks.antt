@@ -13,7 +13,9 @@ use lib.Dec.{eqb}
 use lib.ListN.{length, getD, set, replicate, length-set, length-replicate, getD-replicate}
 use lib.Seq.{getD-set-same}
 use Rattle.graph.specs.Graph.{Graph, In, Lawful}
-use Rattle.graph.proofs.Numbers.{ones, at-set, mark-stays, ones-set, ones-le}
+use Rattle.graph.specs.Laws.{ones}
+use Rattle.common.proofs.Stores.{at-set, stays}
+use Rattle.graph.proofs.Numbers.{ones-set, ones-le}
 use Rattle.graph.specs.Marks.{someOf, leads, markOf}
 use Rattle.graph.proofs.Paths.{Reach, start, next, some-word}
 use Rattle.common.proofs.Order.{one-of, bit, same-or-not, past}
@@ -156,7 +158,7 @@ module _ (g : Graph) where
             record {
               long = simp length-set (w .long);
               bits = λ p h. ⊎-elim (λ x. omega arith) (λ x. omega (arith, w .bits p h)) (at-set m (o .to) 1 p in-m);
-              root = mark-stays m (o .to) 0 in-m (w .root);
+              root = stays m (o .to) 1 0 in-m (w .root);
               near = λ p h e. subst (λ (k : ℕ). leads g k 0 p ≡ true) (sym more) (⊎-elim
                   (λ x. subst (λ (y : ℕ). leads g (suc (ones (g .size) m)) 0 y ≡ true) (sym (x .0)) (leads-last (ones (g .size) m) 0 (o .from) (o .to) (w .near (o .from) (o .inside) (o .marked)) (o .edge)))
                   (λ x. leads-more (ones (g .size) m) 0 p (w .near p h (sym (x .1) ∙ e)))

@@ -1,4 +1,4 @@
--- The largest of some numbers, what a list has after a store, and marks counted. Assumes nothing.
+-- The largest of some numbers, and marks counted. Assumes nothing.
 use mathlib.Core.Path.{_≡_, refl, sym, ap, ap₂, _∙_}
 use mathlib.Core.Logic.{_⊎_, inl, inr, ⊎-elim}
 use mathlib.Core.List.{List}
@@ -7,9 +7,11 @@ use native.Mathlib.Nat.{not-suc-le-zero}
 use native.Mathlib.Numerals.{add-one}
 use native.Mathlib.Omega.{arith}
 use lib.ListN.{length, getD, set}
-use lib.Seq.{getD-set-same, getD-set-other}
+use lib.Seq.{getD-set-other}
 use Rattle.common.proofs.Order.{split, same-or-not, past}
+use Rattle.common.proofs.Stores.{at-set}
 use Rattle.graph.specs.Longest.{most}
+use Rattle.graph.specs.Laws.{ones}
 
 -- the largest of the numbers f p below k
 pub most-upper : (f : ℕ → ℕ) (k p : ℕ) → p < k → f p ≤ most f k
@@ -43,22 +45,7 @@ unfolding most
 most-same f h zero e = refl
 most-same f h (suc k) e = ap₂ max (most-same f h k (λ p l. e p (omega arith))) (e k (omega arith))
 
--- what a list has at x after a store at q
-abbrev pub AtSet : List ℕ → ℕ → ℕ → ℕ → Type 0
-AtSet l q v x = ((x ≡ q) × (getD (set l q v) x 0 ≡ v)) ⊎ ((x ≡ q → ⊥) × (getD (set l q v) x 0 ≡ getD l x 0))
-
-pub at-set : (l : List ℕ) (q v x : ℕ) → q < length l → AtSet l q v x
-at-set l q v x h = ⊎-elim (λ e. inl (e, ap (λ (y : ℕ). getD (set l q v) y 0) e ∙ getD-set-same l q v 0 h)) (λ n. inr (n, getD-set-other l q x v 0 n)) (same-or-not x q)
-
--- a mark stays
-pub mark-stays : (m : List ℕ) (q x : ℕ) → q < length m → getD m x 0 ≡ 1 → getD (set m q 1) x 0 ≡ 1
-mark-stays m q x h e = ⊎-elim (λ w. w .1) (λ w. w .1 ∙ e) (at-set m q 1 x h)
-
--- how many of the first k words are marked, each mark being 0 or 1
-unfoldable pub ones : ℕ → List ℕ → ℕ
-ones zero m = 0
-ones (suc k) m = getD m k 0 + ones k m
-
+-- marks counted
 ones-out : (k : ℕ) (m : List ℕ) (q v : ℕ) → k ≤ q → q < length m → ones k (set m q v) ≡ ones k m
 unfolding ones
 ones-out zero m q v h l = refl
