@@ -1,27 +1,30 @@
 -- Demand 3, first half, of the definition that the contract of `longest_run` cites. Assumes nothing.
 use mathlib.Core.Path.{_≡_, refl, sym, subst, _∙_}
 use mathlib.Core.Logic.{_↔_, _⊎_, inl, inr, ⊎-elim}
-use mathlib.Core.Bool.{true}
+use mathlib.Core.Bool.{true, true≢false}
 use mathlib.Core.List.{List, [], _∷_}
 use Prim.Native.Nat.{ℕ, _≤_, _<_}
 use native.Mathlib.Nat.{pos-of-ne-zero}
 use native.Mathlib.Omega.{arith}
 use borrow.Author.Tests.{eqb-true, eq-eqb, lt-ltb, le-ltb}
 use lib.ListN.{length}
+use Rattle.common.specs.Limits.{mostWords}
+use Rattle.common.specs.Lowest.{lowestFrom}
+use Rattle.common.proofs.Order.{split, same-or-not}
+use Rattle.common.proofs.Lowest.{lowest-laws}
+use Rattle.graph.specs.Graph.{Graph, Reachable, weigh}
+use Rattle.graph.specs.Marks.{markOf}
+use Rattle.graph.specs.Longest.{longest, first}
+use Rattle.graph.specs.Meaning.{Meaning}
+use Rattle.graph.proofs.Laws.{laws}
+use Rattle.graph.proofs.Meaning.{meaning}
 use Rattle.runs.specs.declared.longest.Run.{Run}
 use Rattle.runs.specs.declared.longest.Run.the-variants.{Accepted, Refused}
-use Rattle.runs.specs.Graph.{Graph, Reachable, weigh}
-use Rattle.runs.specs.Marks.{markOf}
-use Rattle.runs.specs.Longest.{lowestFrom, longest, first}
-use Rattle.runs.specs.Instance.{graphOf, unitWeight}
-use Rattle.runs.specs.Run.{mostWords, reachesInvalid, lowestInvalid, runOf}
-use Rattle.runs.specs.Meaning.{Meaning}
+use Rattle.runs.specs.Steps.{unitWeight}
+use Rattle.runs.specs.Instance.{graphOf}
+use Rattle.runs.specs.Run.{reachesInvalid, lowestInvalid, runOf}
 use Rattle.runs.specs.Demand.{MeetsInvalidAt, MeetsInvalid, Passes, RunsTooLong, Demand}
-use Rattle.runs.proofs.Order.{split, same-or-not}
 use Rattle.runs.proofs.Tests.{both}
-use Rattle.runs.proofs.Paths.{reach-in, reach-of, segment-start}
-use Rattle.runs.proofs.Lists.{lowest-first, apart}
-use Rattle.runs.proofs.Meaning.{meaning}
 use Rattle.runs.proofs.Outcome.{run-7, run-words}
 use Rattle.runs.proofs.Lawful.{lawful}
 
@@ -37,13 +40,13 @@ module _ (ws : List ℕ) where
   means = meaning graph (lawful ws) unitWeight (λ p. omega arith)
 
   pub inside : {p : ℕ} → Reachable graph p → p < length ws
-  inside r = reach-in graph (reach-of graph r)
+  inside {p} r = laws .reaching graph (lawful ws) .below p r
 
   -- the lowest reachable invalid word is met by a path, and none below it is
   met : lowestInvalid ws < length ws → MeetsInvalidAt ws (lowestInvalid ws)
   unfolding lowestInvalid
   met h =
-      let e = both _ _ (lowest-first (reachesInvalid ws) 0 (length ws) .holds (omega arith)) in
+      let e = both _ _ (lowest-laws .first (reachesInvalid ws) 0 (length ws) .holds (omega arith)) in
       record { reachable = means .mark-one (lowestFrom (reachesInvalid ws) 0 (length ws)) h .0 (eqb-true _ _ (e .0)); invalid = e .1 }
 
   least-met : (p : ℕ) → MeetsInvalidAt ws p → lowestInvalid ws ≤ p
@@ -51,7 +54,7 @@ module _ (ws : List ℕ) where
   least-met p m =
       let y : reachesInvalid ws p ≡ true = simp (eq-eqb (markOf graph p) 1 (means .mark-one p (inside (m .reachable)) .1 (m .reachable)), m .invalid) in
       ⊎-elim (λ d. d)
-      (λ d. absurd (apart (reachesInvalid ws) p y (lowest-first (reachesInvalid ws) 0 (length ws) .not-before p (omega arith) d)))
+      (λ d. absurd (true≢false (sym y ∙ lowest-laws .first (reachesInvalid ws) 0 (length ws) .not-before p (omega arith) d)))
       (split (lowestFrom (reachesInvalid ws) 0 (length ws)) p)
 
   unmet : length ws ≤ lowestInvalid ws → MeetsInvalid ws → ⊥
@@ -65,8 +68,12 @@ module _ (ws : List ℕ) where
       let a = means .first-some z in
       record { rest = a .0; segment = a .1; count = sym (weigh-counts (first graph unitWeight ∷ a .0)) ∙ a .2 }
 
+  -- a segment starts at a word
+  pub starts : {p k : ℕ} → Passes ws p k → p < length ws
+  starts {p} s = inside (laws .reaching graph (lawful ws) .segment p (s .rest) (s .segment))
+
   passes-some : {p k : ℕ} → Passes ws p k → 0 < length ws
-  passes-some s = omega (arith, reach-in graph (segment-start graph (s .segment)))
+  passes-some {p} s = omega (arith, starts s)
 
   -- Each number in turn.
 

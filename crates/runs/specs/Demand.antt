@@ -7,11 +7,13 @@ use mathlib.Core.Bool.{true}
 use mathlib.Core.List.{List, _∷_}
 use Prim.Native.Nat.{ℕ, _≤_, _<_}
 use lib.ListN.{length}
+use Rattle.common.specs.Limits.{mostWords}
+use Rattle.graph.specs.Graph.{Reachable, Segment}
 use Rattle.runs.specs.declared.longest.Run.{Run}
-use Rattle.runs.specs.Graph.{Reachable, Segment}
-use Rattle.runs.specs.Successors.{successorsOf, isInvalid}
+use Rattle.runs.specs.Steps.{isInvalid}
+use Rattle.runs.specs.Successors.{successorsOf}
 use Rattle.runs.specs.Instance.{graphOf}
-use Rattle.runs.specs.Run.{numberOf, placeOf, longestOf, firstOf, mostWords}
+use Rattle.runs.specs.Run.{numberOf, placeOf, longestOf, firstOf}
 
 -- some course meets word p, and it is bad
 pub record MeetsInvalidAt (ws : List ℕ) (p : ℕ) : Type 0 where

@@ -1,16 +1,20 @@
 -- The whole outcome of `longest_run`: its answer and the two lent slices, refusals included.
 -- Assumes nothing.
 use mathlib.Core.Bool.{Bool, cond, not, _&&_, _||_}
-use mathlib.Core.List.{List, [], _∷_, _++_}
-use Prim.Native.Nat.{ℕ, zero, suc}
+use mathlib.Core.List.{List}
+use Prim.Native.Nat.{ℕ}
 use lib.Dec.{ltb, eqb}
-use lib.ListN.{length, drop}
+use lib.ListN.{length}
+use Rattle.common.specs.Limits.{mostWords}
+use Rattle.common.specs.Lists.{over}
+use Rattle.common.specs.Lowest.{lowestFrom}
+use Rattle.graph.specs.Marks.{markOf}
+use Rattle.graph.specs.Longest.{lengthOf, longest, first}
 use Rattle.runs.specs.declared.longest.Run.{Run}
 use Rattle.runs.specs.declared.longest.Run.the-variants.{Accepted, Refused}
-use Rattle.runs.specs.Marks.{markOf}
-use Rattle.runs.specs.Longest.{lengthOf, lowestFrom, longest, first}
-use Rattle.runs.specs.Successors.{successorsOf, isInvalid}
-use Rattle.runs.specs.Instance.{graphOf, unitWeight}
+use Rattle.runs.specs.Steps.{isInvalid, unitWeight}
+use Rattle.runs.specs.Successors.{successorsOf}
+use Rattle.runs.specs.Instance.{graphOf}
 
 -- "Each answer carries its number, 0 when accepted, and a place, 0 unless named. On refusal L and its first word are 0."
 abbrev pub numberOf : Run → ℕ
@@ -29,10 +33,6 @@ longestOf (Refused k p) = 0
 abbrev pub firstOf : Run → ℕ
 firstOf (Accepted l f) = f
 firstOf (Refused k p) = 0
-
--- "32,769 words (32,768 pass)"
-abbrev pub mostWords : ℕ
-mostWords = 32768
 
 -- "a reachable bad word"
 abbrev pub reachesInvalid : List ℕ → ℕ → Bool
@@ -60,15 +60,6 @@ runOf ws marks lengths =
     -- "L over 32,768"
     (refuseRun (ltb mostWords (longest (graphOf ws) unitWeight)) 9 0
     (Accepted (longest (graphOf ws) unitWeight) (first (graphOf ws) unitWeight))))))
-
--- f i, f (i + 1), .. : k of them
-abbrev pub tabulate : (ℕ → ℕ) → ℕ → ℕ → List ℕ
-tabulate f i zero = []
-tabulate f i (suc k) = f i ∷ tabulate f (suc i) k
-
--- a slice whose first n elements are those of f. "Elements past n are untouched"
-abbrev pub over : (ℕ → ℕ) → ℕ → List ℕ → List ℕ
-over f n l = tabulate f 0 n ++ drop n l
 
 -- "Nothing lent is altered, except that 8 and 9 leave the reachable marks and n zero lengths." 0 is acceptance
 abbrev pub untouched : ℕ → Bool

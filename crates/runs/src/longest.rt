@@ -2,36 +2,36 @@
 ghost use mathlib.Core.Path.{_≡_};
 ghost use lib.ListN.{length};
 ghost use Rattle.runs.specs.Run.{runOf, marksAfter, lengthsAfter};
-ghost use Rattle.runs.specs.Invariants.{Lent};
+ghost use Rattle.runs.specs.SearchInvariants.{Lent};
+ghost use Rattle.runs.specs.Outcome.{Decided};
 use crate::lengths::clear_lengths;
 use crate::lengths::fill_lengths;
 use crate::lengths::find_first;
 use crate::lengths::find_longest;
 use crate::search::mark_reachable;
+use crate::settling::settle_edges;
+use common::limits::MOST_WORDS;
+use common::numbers::*;
 
 pub enum Run {
     Accepted { longest: u32, first: usize },
     Refused { number: u8, place: usize },
 }
 
-// Document 01, number 1: at most so many words. Number 9: no longest run has more.
-pub const MOST_WORDS: usize = 32768;
-
 // The run of words that pass the checks of their number and of the slices.
 fn run_of_words(words: &[u32], marks: &mut [u8], lengths: &mut [u32]) -> Run
     requires { ⌜ Lent (length (now words)) (now marks) (now lengths) ⌝ }
-    ensures { λ r. ⌜ r ≡ runOf (now (words .entry)) (length (now (marks .entry))) (length (now (lengths .entry))) ⌝ }
-    ensures { λ _. ⌜ now (marks .exit) ≡ marksAfter (now (words .entry)) (now (marks .entry)) (now (lengths .entry)) ⌝ }
-    ensures { λ _. ⌜ now (lengths .exit) ≡ lengthsAfter (now (words .entry)) (now (marks .entry)) (now (lengths .entry)) ⌝ }
+    ensures { λ r. ⌜ Decided (now (words .entry)) r (now (marks .exit)) (now (lengths .exit)) ⌝ }
 {
     let n = words.len();
     let table = fields::lookup::table();
-    mark_reachable(&table, words, marks, lengths);
-    let invalid = fill_lengths(&table, words, marks, lengths);
+    settle_edges(&table, words, lengths);
+    mark_reachable(marks, lengths);
+    let invalid = fill_lengths(marks, lengths);
     if invalid < n {
         clear_lengths(lengths, n);
         return Run::Refused {
-            number: 8,
+            number: REACHES_INVALID,
             place: invalid,
         };
     }
@@ -39,7 +39,7 @@ fn run_of_words(words: &[u32], marks: &mut [u8], lengths: &mut [u32]) -> Run
     if MOST_WORDS < longest as usize {
         clear_lengths(lengths, n);
         return Run::Refused {
-            number: 9,
+            number: RUN_TOO_LONG,
             place: 0,
         };
     }
@@ -57,27 +57,27 @@ pub fn longest_run(words: &[u32], marks: &mut [u8], lengths: &mut [u32]) -> Run
     let n = words.len();
     if MOST_WORDS < n {
         return Run::Refused {
-            number: 1,
+            number: TOO_MANY_WORDS,
             place: 0,
         };
     }
     if marks.len() < n {
         return Run::Refused {
-            number: 6,
+            number: SHORT_SLICE,
             place: 0,
         };
     }
     if lengths.len() < n {
         return Run::Refused {
-            number: 6,
+            number: SHORT_SLICE,
             place: 0,
         };
     }
     if n == 0 {
         return Run::Refused {
-            number: 7,
+            number: NO_WORDS,
             place: 0,
         };
     }
-    run_of_words(words, marks, lengths)
+    run_of_words(words, &mut marks[..n], &mut lengths[..n])
 }

@@ -1,0 +1,35 @@
+-- What the run promises of words that pass the checks of their number and of the slices, lent slices of as many elements. No exported
+-- contract cites it: that of `longest_run` is over the whole slices.
+-- Assumes nothing.
+use mathlib.Core.Path.{_≡_}
+use mathlib.Core.Bool.{cond}
+use mathlib.Core.List.{List}
+use Prim.Native.Nat.{ℕ}
+use lib.Dec.{ltb, eqb}
+use lib.ListN.{length}
+use Rattle.common.specs.Limits.{mostWords}
+use Rattle.common.specs.Lists.{tabulate}
+use Rattle.graph.specs.Marks.{markOf}
+use Rattle.graph.specs.Longest.{lengthOf, longest, first}
+use Rattle.runs.specs.declared.longest.Run.{Run}
+use Rattle.runs.specs.declared.longest.Run.the-variants.{Accepted}
+use Rattle.runs.specs.Steps.{unitWeight}
+use Rattle.runs.specs.Instance.{graphOf}
+use Rattle.runs.specs.Run.{numberOf, refuseRun, lowestInvalid}
+
+-- what the checks after the search say
+abbrev pub decided : List ℕ → Run
+decided ws =
+    refuseRun (ltb (lowestInvalid ws) (length ws)) 8 (lowestInvalid ws)
+    (refuseRun (ltb mostWords (longest (graphOf ws) unitWeight)) 9 0
+    (Accepted (longest (graphOf ws) unitWeight) (first (graphOf ws) unitWeight)))
+
+-- the answer, and what the marks m and the lengths l hold
+pub record Decided (ws : List ℕ) (r : Run) (m l : List ℕ) : Type 0 where
+  pub answer : r ≡ decided ws
+  pub marks : m ≡ tabulate (markOf (graphOf ws)) 0 (length ws)
+  pub lengths :
+      l
+      ≡ cond (eqb (numberOf r) 0)
+      (tabulate (lengthOf (graphOf ws) unitWeight) 0 (length ws))
+      (tabulate (λ p. 0) 0 (length ws))
