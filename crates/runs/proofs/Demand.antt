@@ -18,12 +18,13 @@ use Rattle.graph.specs.Longest.{longest, first}
 use Rattle.graph.specs.Meaning.{Meaning}
 use Rattle.graph.proofs.Laws.{laws}
 use Rattle.graph.proofs.Meaning.{meaning}
+use Rattle.graph.proofs.Ceiling.{ceiling}
 use Rattle.runs.specs.declared.longest.Run.{Run}
 use Rattle.runs.specs.declared.longest.Run.the-variants.{Accepted, Refused}
 use Rattle.runs.specs.Steps.{unitWeight}
 use Rattle.runs.specs.Instance.{graphOf}
 use Rattle.runs.specs.Run.{reachesInvalid, lowestInvalid, runOf}
-use Rattle.runs.specs.Demand.{MeetsInvalidAt, MeetsInvalid, Passes, RunsTooLong, Demand}
+use Rattle.runs.specs.Demand.{MeetsInvalidAt, MeetsInvalid, Passes, RunsTooLong, Demand, RefusedExactly}
 use Rattle.runs.proofs.Tests.{both}
 use Rattle.runs.proofs.Outcome.{run-7, run-words}
 use Rattle.runs.proofs.Lawful.{lawful}
@@ -72,64 +73,52 @@ module _ (ws : List ℕ) where
   pub starts : {p k : ℕ} → Passes ws p k → p < length ws
   starts {p} s = inside (laws .reaching graph (lawful ws) .segment p (s .rest) (s .segment))
 
-  passes-some : {p k : ℕ} → Passes ws p k → 0 < length ws
-  passes-some {p} s = omega (arith, starts s)
-
   -- Each number in turn.
 
-  abbrev Ground : Type 0
-  Ground = (length ws ≡ 0) ⊎ (MeetsInvalid ws ⊎ RunsTooLong ws)
+  -- no run is longer than the words
+  short : length ws ≤ mostWords → RunsTooLong ws → ⊥
+  short few t = omega (arith, t .over, passes-most (t .passes), ceiling .longest-run graph (lawful ws) unitWeight 1 (λ p. omega arith))
 
-  -- a refusal that names no place
-  unplaced : (number : ℕ) → 0 < number → (number ≡ 8 → ⊥) → Ground → (number ≡ 7) ↔ (length ws ≡ 0) → (MeetsInvalid ws → ⊥) → (number ≡ 9) ↔ RunsTooLong ws → Demand ws (Refused number 0)
-  unplaced number h other ground seven valid nine =
-      record {
-        refused = (λ k. ground, λ k. h);
-        seven = seven;
-        eight = (λ e. absurd (other e), λ m. absurd (valid m));
-        nine = (λ e. (valid, nine .0 e), λ t. nine .1 (t .1));
-        place = λ e. absurd (other e);
-        place-lowest = λ e. absurd (other e);
-        no-place = λ n. refl;
-        bounded = λ z. absurd (omega arith);
-        reached = λ z. absurd (omega arith);
-        first-lowest = λ z. absurd (omega arith);
-      }
-
-  none : length ws ≡ 0 → Demand ws (Refused 7 0)
-  none z =
-      unplaced 7 (omega arith) (λ e. omega arith) (inl z) (λ e. z, λ e. refl)
-      (λ m. omega (arith, inside (m .met .reachable))) (λ e. absurd (omega arith), λ t. absurd (omega (arith, passes-some (t .passes))))
-
-  invalid : lowestInvalid ws < length ws → Demand ws (Refused 8 (lowestInvalid ws))
-  invalid h =
-      let m : MeetsInvalid ws = record { word = lowestInvalid ws; met = met h } in
-      record {
-        refused = (λ k. inr (inl m), λ k. omega arith);
-        seven = (λ e. absurd (omega arith), λ z. absurd (omega arith));
-        eight = (λ e. m, λ e. refl);
-        nine = (λ e. absurd (omega arith), λ t. absurd (t .0 m));
-        place = λ e. met h;
-        place-lowest = λ e. least-met;
-        no-place = λ n. absurd (n refl);
-        bounded = λ z. absurd (omega arith);
-        reached = λ z. absurd (omega arith);
-        first-lowest = λ z. absurd (omega arith);
-      }
-
-  module _ (some : 0 < length ws) (valid : length ws ≤ lowestInvalid ws) where
-    long : mostWords < longest graph unitWeight → Demand ws (Refused 9 0)
-    long h =
-        let t : RunsTooLong ws = record { start = first graph unitWeight; count = longest graph unitWeight; over = h; passes = passes-first some } in
-        unplaced 9 (omega arith) (λ e. omega arith) (inr (inr t)) (λ e. absurd (omega arith), λ z. absurd (omega arith)) (unmet valid) (λ e. t, λ e. refl)
-
-    accepted : longest graph unitWeight ≤ mostWords → Demand ws (Accepted (longest graph unitWeight) (first graph unitWeight))
-    accepted h =
+  module _ (few : length ws ≤ mostWords) where
+    none : length ws ≡ 0 → Demand ws (Refused 7 0)
+    none z =
+        let unmet-here : MeetsInvalid ws → ⊥ = λ m. omega (arith, inside (m .met .reachable)) in
         record {
-          refused = (λ k. absurd (omega arith), λ k. absurd (groundless k));
+          refused = (λ k. inl z, λ k. omega arith);
+          never-long = short few;
+          seven = (λ e. z, λ e. refl);
+          eight = (λ e. absurd (omega arith), λ m. absurd (unmet-here m));
+          place = λ e. absurd (omega arith);
+          place-lowest = λ e. absurd (omega arith);
+          no-place = λ n. refl;
+          bounded = λ e. absurd (omega arith);
+          reached = λ e. absurd (omega arith);
+          first-lowest = λ e. absurd (omega arith);
+        }
+
+    invalid : lowestInvalid ws < length ws → Demand ws (Refused 8 (lowestInvalid ws))
+    invalid h =
+        let m : MeetsInvalid ws = record { word = lowestInvalid ws; met = met h } in
+        record {
+          refused = (λ k. inr m, λ k. omega arith);
+          never-long = short few;
+          seven = (λ e. absurd (omega arith), λ z. absurd (omega arith));
+          eight = (λ e. m, λ e. refl);
+          place = λ e. met h;
+          place-lowest = λ e. least-met;
+          no-place = λ n. absurd (n refl);
+          bounded = λ z. absurd (omega arith);
+          reached = λ z. absurd (omega arith);
+          first-lowest = λ z. absurd (omega arith);
+        }
+
+    accepted : 0 < length ws → length ws ≤ lowestInvalid ws → Demand ws (Accepted (longest graph unitWeight) (first graph unitWeight))
+    accepted some valid =
+        record {
+          refused = (λ k. absurd (omega arith), ⊎-elim (λ z. omega arith) (λ m. absurd (unmet valid m)));
+          never-long = short few;
           seven = (λ e. absurd (omega arith), λ z. absurd (omega arith));
           eight = (λ e. absurd (omega arith), λ m. absurd (unmet valid m));
-          nine = (λ e. absurd (omega arith), λ t. absurd (short (t .1)));
           place = λ e. absurd (omega arith);
           place-lowest = λ e. absurd (omega arith);
           no-place = λ n. refl;
@@ -137,14 +126,6 @@ module _ (ws : List ℕ) where
           reached = λ z. passes-first some;
           first-lowest = λ z p s. means .first-lowest p (s .rest) (s .segment) (weigh-counts (p ∷ s .rest) ∙ s .count);
         }
-      where
-        short : RunsTooLong ws → ⊥
-        short t = omega (arith, t .over, passes-most (t .passes))
-
-        groundless : Ground → ⊥
-        groundless (inl z) = omega arith
-        groundless (inr (inl m)) = unmet valid m
-        groundless (inr (inr t)) = short t
 
   module _ (a b : ℕ) (few : length ws ≤ mostWords) (h : length ws ≤ a) (k : length ws ≤ b) where
     of-run : {r : Run} → Demand ws r → runOf ws a b ≡ r → Demand ws (runOf ws a b)
@@ -153,13 +134,14 @@ module _ (ws : List ℕ) where
     pub demand : Demand ws (runOf ws a b)
     demand =
         ⊎-elim
-        (λ z. of-run (none z) (run-7 ws a b few h k z))
+        (λ z. of-run (none few z) (run-7 ws a b few h k z))
         (λ n. let some = pos-of-ne-zero n in let r = run-words ws a b few h k some in
         ⊎-elim
-        (λ valid. ⊎-elim
-        (λ l. of-run (accepted some valid l) (r ∙ simp (le-ltb (lowestInvalid ws) (length ws) valid, le-ltb mostWords (longest graph unitWeight) l)))
-        (λ l. of-run (long some valid l) (r ∙ simp (le-ltb (lowestInvalid ws) (length ws) valid, lt-ltb mostWords (longest graph unitWeight) l)))
-        (split (longest graph unitWeight) mostWords))
-        (λ l. of-run (invalid l) (r ∙ simp (lt-ltb (lowestInvalid ws) (length ws) l)))
+        (λ valid. of-run (accepted few some valid) (r ∙ simp (le-ltb (lowestInvalid ws) (length ws) valid)))
+        (λ l. of-run (invalid few l) (r ∙ simp (lt-ltb (lowestInvalid ws) (length ws) l)))
         (split (length ws) (lowestInvalid ws)))
         (same-or-not (length ws) 0)
+
+-- demand 3's own sentence, with its third ground
+pub refused-exactly : (ws : List ℕ) (r : Run) → Demand ws r → RefusedExactly ws r
+refused-exactly ws r d = (λ k. ⊎-elim inl (λ m. inr (inl m)) (d .refused .0 k), ⊎-elim (λ z. d .refused .1 (inl z)) (⊎-elim (λ m. d .refused .1 (inr m)) (λ t. absurd (d .never-long t))))

@@ -58,20 +58,16 @@ module _ (ws : List ℕ) {m l : List ℕ} (marks : m ≡ tabulate (markOf (graph
   decided-8 {p} q h e = record { answer = simp (← q, lt-ltb p (length ws) h); marks = marks; lengths = e }
 
   module _ (valid : length ws ≤ lowestInvalid ws) where
-    pub decided-9 : mostWords < longest (graphOf ws) unitWeight → l ≡ tabulate (λ p. 0) 0 (length ws) → Decided ws (Refused 9 0) m l
-    decided-9 h e = record { answer = simp (le-ltb _ _ valid, lt-ltb _ _ h); marks = marks; lengths = e }
-
-    pub decided-0 : {v a : ℕ} → v ≡ longest (graphOf ws) unitWeight → a ≡ first (graphOf ws) unitWeight → v ≤ mostWords → l ≡ tabulate (lengthOf (graphOf ws) unitWeight) 0 (length ws) → Decided ws (Accepted v a) m l
-    decided-0 {v} {a} q f h e = record { answer = simp (le-ltb _ _ valid, ← q, ← f, le-ltb mostWords v h); marks = marks; lengths = e }
+    pub decided-0 : {v a : ℕ} → v ≡ longest (graphOf ws) unitWeight → a ≡ first (graphOf ws) unitWeight → l ≡ tabulate (lengthOf (graphOf ws) unitWeight) 0 (length ws) → Decided ws (Accepted v a) m l
+    decided-0 {v} {a} q f e = record { answer = simp (le-ltb _ _ valid, ← q, ← f); marks = marks; lengths = e }
 
 -- and of the slices whose first parts they were lent
 decided-touches : (ws : List ℕ) → untouched (numberOf (decided ws)) ≡ false
-decided-touches ws = go (ltb (lowestInvalid ws) (length ws)) (ltb mostWords (longest (graphOf ws) unitWeight))
+decided-touches ws = go (ltb (lowestInvalid ws) (length ws))
   where
-    go : (a b : Bool) → untouched (numberOf (refuseRun a 8 (lowestInvalid ws) (refuseRun b 9 0 (Accepted (longest (graphOf ws) unitWeight) (first (graphOf ws) unitWeight))))) ≡ false
-    go true b = refl
-    go false true = refl
-    go false false = refl
+    go : (a : Bool) → untouched (numberOf (refuseRun a 8 (lowestInvalid ws) (Accepted (longest (graphOf ws) unitWeight) (first (graphOf ws) unitWeight)))) ≡ false
+    go true = refl
+    go false = refl
 
 module _ (ws m l : List ℕ) (few : length ws ≤ mostWords) (h : length ws ≤ length m) (k : length ws ≤ length l) (some : 0 < length ws) where
   pub outcome-words : {r : Run} {m′ l′ : List ℕ} → Decided ws r m′ l′ → Outcome ws m l r (m′ ++ drop (length ws) m) (l′ ++ drop (length ws) l)

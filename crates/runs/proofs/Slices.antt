@@ -1,6 +1,6 @@
 -- What the two lent slices hold after a run, by the meaning of the computed marks and lengths. Assumes nothing.
 use mathlib.Core.Path.{_≡_, refl, sym, ap, subst, _∙_}
-use mathlib.Core.Logic.{_↔_, _⊎_, inl, inr, ⊎-elim}
+use mathlib.Core.Logic.{_↔_, ⊎-elim}
 use mathlib.Core.Bool.{Bool, true, false, cond, true≢false}
 use mathlib.Core.List.{List, _∷_}
 use Prim.Native.Nat.{ℕ, _≤_, _<_}
@@ -93,11 +93,10 @@ module _ (ws m l : List ℕ) where
   number = numberIs ws m l
 
   late : RefusedLate ws m l → untouched number ≡ false
-  late (inl e) = ap untouched e
-  late (inr e) = ap untouched e
+  late e = ap untouched e
 
   early : RefusedEarly ws m l → untouched number ≡ true
-  early n = rw (ne-eqb number 0 (n .0), ne-eqb number 8 (λ e. n .1 (inl e)), ne-eqb number 9 (λ e. n .1 (inr e)))
+  early n = rw (ne-eqb number 0 (n .0), ne-eqb number 8 (n .1))
 
   marks-are : untouched number ≡ false → ReachableMarks ws m (marksAfter ws m l)
   unfolding marksAfter
@@ -109,8 +108,7 @@ module _ (ws m l : List ℕ) where
 
   lengths-zero : RefusedLate ws m l → ZeroLengths ws l (lengthsAfter ws m l)
   unfolding lengthsAfter
-  lengths-zero (inl e) = rw e (zeros ws l (enough-looked ws (length m) (length l) (ap untouched e) .lengths-long))
-  lengths-zero (inr e) = rw e (zeros ws l (enough-looked ws (length m) (length l) (ap untouched e) .lengths-long))
+  lengths-zero e = rw e (zeros ws l (enough-looked ws (length m) (length l) (ap untouched e) .lengths-long))
 
   marks-kept : untouched number ≡ true → marksAfter ws m l ≡ m
   unfolding marksAfter

@@ -40,14 +40,15 @@ pub record RunsTooLong (ws : List ℕ) : Type 0 where
 
 -- r is the answer
 pub record Demand (ws : List ℕ) (r : Run) : Type 0 where
-  -- "it is refused exactly if it has no words, some course meets a bad word, or the longest run is over 32,768"
-  pub refused : (0 < numberOf r) ↔ ((length ws ≡ 0) ⊎ (MeetsInvalid ws ⊎ RunsTooLong ws))
+  -- "it is refused exactly if it has no words, some course meets a bad word ..": the third ground is never met
+  pub refused : (0 < numberOf r) ↔ ((length ws ≡ 0) ⊎ MeetsInvalid ws)
+  -- request C-13: "Inside a stretch every step goes to a higher word, so L cannot pass the number of words", and so no course passes more
+  -- than 32,768 words without a service
+  pub never-long : RunsTooLong ws → ⊥
   -- "Checks run in this order": "no words"
   pub seven : (numberOf r ≡ 7) ↔ (length ws ≡ 0)
   -- "a reachable bad word"; where there are no words, none is met
   pub eight : (numberOf r ≡ 8) ↔ MeetsInvalid ws
-  -- "L over 32,768"
-  pub nine : (numberOf r ≡ 9) ↔ ((MeetsInvalid ws → ⊥) × RunsTooLong ws)
   -- number 8's "place: the lowest"
   pub place : numberOf r ≡ 8 → MeetsInvalidAt ws (placeOf r)
   pub place-lowest : numberOf r ≡ 8 → (p : ℕ) → MeetsInvalidAt ws p → placeOf r ≤ p
@@ -59,3 +60,8 @@ pub record Demand (ws : List ℕ) (r : Run) : Type 0 where
   pub reached : numberOf r ≡ 0 → Passes ws (firstOf r) (longestOf r)
   -- "and the lowest word at which an L-word stretch begins"
   pub first-lowest : numberOf r ≡ 0 → (p : ℕ) → Passes ws p (longestOf r) → firstOf r ≤ p
+
+-- Demand 3's own sentence, with its third ground: "it is refused exactly if it has no words, some course meets a bad word, or the longest run
+-- is over 32,768". proofs/Demand.antt takes it from `Demand` in a line.
+abbrev pub RefusedExactly : List ℕ → Run → Type 0
+RefusedExactly ws r = (0 < numberOf r) ↔ ((length ws ≡ 0) ⊎ (MeetsInvalid ws ⊎ RunsTooLong ws))

@@ -7,7 +7,6 @@ use mathlib.Core.List.{List}
 use Prim.Native.Nat.{ℕ}
 use lib.Dec.{ltb, eqb}
 use lib.ListN.{length}
-use Rattle.common.specs.Limits.{mostWords}
 use Rattle.common.specs.Lists.{tabulate}
 use Rattle.graph.specs.Marks.{markOf}
 use Rattle.graph.specs.Longest.{lengthOf, longest, first}
@@ -21,8 +20,7 @@ use Rattle.runs.specs.Run.{numberOf, refuseRun, lowestInvalid}
 abbrev pub decided : List ℕ → Run
 decided ws =
     refuseRun (ltb (lowestInvalid ws) (length ws)) 8 (lowestInvalid ws)
-    (refuseRun (ltb mostWords (longest (graphOf ws) unitWeight)) 9 0
-    (Accepted (longest (graphOf ws) unitWeight) (first (graphOf ws) unitWeight)))
+    (Accepted (longest (graphOf ws) unitWeight) (first (graphOf ws) unitWeight))
 
 -- the answer, and what the marks m and the lengths l hold
 pub record Decided (ws : List ℕ) (r : Run) (m l : List ℕ) : Type 0 where

@@ -57,13 +57,11 @@ runOf ws marks lengths =
     (refuseRun (eqb (length ws) 0) 7 0
     -- "a reachable bad word; place: the lowest"
     (refuseRun (ltb (lowestInvalid ws) (length ws)) 8 (lowestInvalid ws)
-    -- "L over 32,768"
-    (refuseRun (ltb mostWords (longest (graphOf ws) unitWeight)) 9 0
-    (Accepted (longest (graphOf ws) unitWeight) (first (graphOf ws) unitWeight))))))
+    (Accepted (longest (graphOf ws) unitWeight) (first (graphOf ws) unitWeight)))))
 
--- "Nothing lent is altered, except that 8 and 9 leave the reachable marks and n zero lengths." 0 is acceptance
+-- "Nothing lent is altered, except that 8 .. leave[s] the reachable marks and n zero lengths." 0 is acceptance
 abbrev pub untouched : ℕ → Bool
-untouched number = not (eqb number 0 || eqb number 8 || eqb number 9)
+untouched number = not (eqb number 0 || eqb number 8)
 
 module _ (ws marks lengths : List ℕ) where
   abbrev pub numberIs : ℕ

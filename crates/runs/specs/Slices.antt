@@ -3,7 +3,7 @@
 -- contract of `longest_run` cites. proofs/Slices.antt proves `Slices` for any words and any two slices.
 -- Assumes nothing.
 use mathlib.Core.Path.{_≡_}
-use mathlib.Core.Logic.{_↔_, _⊎_}
+use mathlib.Core.Logic.{_↔_}
 use mathlib.Core.List.{List}
 use Prim.Native.Nat.{ℕ, _≤_, _<_}
 use lib.ListN.{length, getD, drop}
@@ -37,11 +37,11 @@ pub record ZeroLengths (ws before after : List ℕ) : Type 0 where
   pub kept : Kept (length ws) before after
 
 module _ (ws marks lengths : List ℕ) where
-  -- the two numbers that are given after the search
+  -- the number that is given after the search
   abbrev pub RefusedLate : Type 0
-  RefusedLate = (numberIs ws marks lengths ≡ 8) ⊎ (numberIs ws marks lengths ≡ 9)
+  RefusedLate = numberIs ws marks lengths ≡ 8
 
-  -- the numbers that are given before it: neither acceptance nor one of those
+  -- the numbers that are given before it: neither acceptance nor that one
   abbrev pub RefusedEarly : Type 0
   RefusedEarly = (numberIs ws marks lengths ≡ 0 → ⊥) × (RefusedLate → ⊥)
 
@@ -49,7 +49,7 @@ module _ (ws marks lengths : List ℕ) where
     -- an accepted run
     pub marks-accepted : numberIs ws marks lengths ≡ 0 → ReachableMarks ws marks (marksAfter ws marks lengths)
     pub lengths-accepted : numberIs ws marks lengths ≡ 0 → SegmentLengths ws lengths (lengthsAfter ws marks lengths)
-    -- "8 and 9 leave the reachable marks and n zero lengths"
+    -- "8 .. leave[s] the reachable marks and n zero lengths"
     pub marks-late : RefusedLate → ReachableMarks ws marks (marksAfter ws marks lengths)
     pub lengths-late : RefusedLate → ZeroLengths ws lengths (lengthsAfter ws marks lengths)
     -- "Nothing lent is altered, except ..": after any other refusal

@@ -44,7 +44,7 @@ listOf Stop = []
 listOf (One a) = a ∷ []
 listOf (Two a b) = a ∷ b ∷ []
 
--- request C-16: "only a step that does not go forward does"
+-- request C-16: "From this release the steps after CALL and TFORCALL do not serve; only a step that does not go forward does."
 unfoldable pub servesOf : ℕ → ℕ → Bool
 servesOf p q = leb q p
 

@@ -36,13 +36,6 @@ fn run_of_words(words: &[u32], marks: &mut [u8], lengths: &mut [u32]) -> Run
         };
     }
     let longest = find_longest(lengths, n);
-    if MOST_WORDS < longest as usize {
-        clear_lengths(lengths, n);
-        return Run::Refused {
-            number: RUN_TOO_LONG,
-            place: 0,
-        };
-    }
     let first = find_first(lengths, n, longest);
     Run::Accepted { longest, first }
 }

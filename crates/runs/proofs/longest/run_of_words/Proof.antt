@@ -24,7 +24,7 @@ use Rattle.runs.specs.PassInvariants.{Lengths, FillAsks, at}
 use Rattle.runs.proofs.Entries.{carries}
 use Rattle.runs.proofs.Held.{held-of, held-on}
 use Rattle.runs.proofs.Lawful.{lawful}
-use Rattle.runs.proofs.Outcome.{decided-8, decided-9, decided-0}
+use Rattle.runs.proofs.Outcome.{decided-8, decided-0}
 use Rattle.runs.proofs.longest.run_of_words.Statement.{statement}
 use Rattle.runs.proofs.longest.run_of_words.Tie as tie
 
@@ -118,17 +118,10 @@ returns c =
 
 returns-2 : tie.Need-returns-2
 returns-2 c =
-    let k = c .before .before in
-    let h = k .before .before .before in
-    let f = fill h in
-    decided-9 (ws f) (marks-are (sought f)) (valid h) (omega (arith, k .before .before .if2 .taken, found h)) (cleared f (k .clear-lengths2 .ensures))
-
-returns-3 : tie.Need-returns-3
-returns-3 c =
-    let h = c .before .before .before in
+    let h = c .before .before in
     let f = fill h in
     let first-is = c .find-first .ensures ∙ ap (λ (v : ℕ). lowestFrom (λ p. eqb (at (filled f) p) v) 0 (length (ws f))) (found h) ∙ passing f .first-found (at (filled f)) (each f) in
-    decided-0 (ws f) (marks-are (sought f)) (valid h) (found h) first-is (c .before .before .if2 .left)
+    decided-0 (ws f) (marks-are (sought f)) (valid h) (found h) first-is
     (over-laws .whole (lengthOf (graphOf (ws f)) unitWeight) (length (ws f)) (filled f) (filled-length f) (each f))
 
 pub run-of-words-spec : {M : Type 1} → statement M
@@ -144,12 +137,7 @@ run-of-words-spec =
     (λ c. search needs)
     returns
     (λ c κs. let f = c .before .before .before .before in omega (arith, filled-length f))
-    (λ c. search needs)
-    (λ c κs. let f = fill (c .before .before) in omega (arith, filled-length f))
-    (λ c. search needs)
-    (λ c. search needs)
-    returns-2
-    (λ c κs. let f = fill (c .before .before) in omega (arith, filled-length f))
+    (λ c κs. let f = fill (c .before) in omega (arith, filled-length f))
     (λ c. search needs)
     (λ c. search needs)
-    returns-3)
+    returns-2)
