@@ -38,9 +38,9 @@ module _ (g h : Graph) (w v : ℕ → ℕ) (lg : Lawful g) (lh : Lawful h) (s : 
   mark-same p l =
       ⊎-elim
       (λ z. ⊎-elim
-        (λ y. z ∙ sym y)
-        (λ y. absurd (omega (arith, z, marking g lg .one p (back p (marking h lh .reachable p (omega (arith, s .size)) y)))))
-        (bit (marking h lh .bit p)))
+      (λ y. z ∙ sym y)
+      (λ y. absurd (omega (arith, z, marking g lg .one p (back p (marking h lh .reachable p (omega (arith, s .size)) y)))))
+      (bit (marking h lh .bit p)))
       (λ o. o ∙ sym (marking h lh .one p (there p (marking g lg .reachable p l o))))
       (bit (marking g lg .bit p))
 
