@@ -8,3 +8,4 @@ pub mod Ceiling
 pub mod Monotone
 pub mod Unreachable
 pub mod Distance
+pub mod Crossing
