@@ -7,8 +7,8 @@ use mathlib.Core.List.{List, [], _∷_, _++_, append-assoc, append-nil}
 use native.Mathlib.Omega.{arith}
 use lib.ListN.{length, replicate, length-append}
 use borrow.Author.Tests.{eq-eqb, lt-ltb}
-use Rattle.graph.specs.Graph.{In, Graph, Lawful, Along, Path, Unserved, Segment}
 use Rattle.common.specs.Limits.{mostWords}
+use Rattle.graph.specs.Graph.{In, Graph, Lawful, Along, Path, Unserved, Segment}
 use Rattle.graph.proofs.Laws.{laws}
 use Rattle.meter.specs.declared.step.Meter.{Meter}
 use Rattle.meter.specs.Feed.{follows, ceiling, beginOf}

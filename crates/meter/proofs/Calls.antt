@@ -1,16 +1,15 @@
 -- Demand 3, its second half: a meter just begun shows what the reference model holds, whatever calls follow.
 -- Assumes nothing.
 use Prim.Native.Nat.{ℕ, _+_, _<_, _≤_, min}
-use mathlib.Core.Bool.{Bool, true, false, cond, not, or-true}
+use mathlib.Core.Bool.{Bool, true, false, cond, not, _&&_, or-true, false≢true}
 use mathlib.Core.Path.{_≡_, refl, ap}
 use mathlib.Core.List.{List, [], _∷_, _++_}
 use native.Mathlib.Omega.{arith}
 use lib.Dec.{ltb, eqb}
 use borrow.Author.Tests.{ltb-true, ltb-false, eqb-true, le-ltb, lt-leb, le-leb, ne-eqb}
-use Rattle.graph.specs.Graph.{Graph, Lawful}
 use Rattle.common.specs.Limits.{mostWords}
+use Rattle.graph.specs.Graph.{Graph, Lawful}
 use Rattle.graph.proofs.Laws.{laws}
-use Rattle.runs.proofs.Tests.{both}
 use Rattle.meter.specs.declared.step.Meter.{Meter}
 use Rattle.meter.specs.declared.step.Fed.{Fed}
 use Rattle.meter.specs.Feed.{follows, ceiling, oneService, movedTo, isForeign, isStray, beginOf, feedOf}
@@ -51,9 +50,11 @@ module _ (g : Graph) (law : Lawful g) where
   fits-next p q k false e h l = (step-inside p q h, (omega arith, omega (arith, law .forward p q (laws .member-in q (g .successors p) .0 h) e)))
 
   pub first-word : (q : ℕ) → writes g [] q ≡ true → (q ≡ 0) × (0 < g .size)
-  first-word q h =
-      let a : (eqb q 0 ≡ true) × (ltb 0 (g .size) ≡ true) = both (eqb q 0) (ltb 0 (g .size)) h in
-      (eqb-true q 0 (a .0), ltb-true 0 (g .size) (a .1))
+  first-word q h = go (eqb q 0) refl h
+    where
+      go : (t : Bool) → eqb q 0 ≡ t → t && ltb 0 (g .size) ≡ true → (q ≡ 0) × (0 < g .size)
+      go true e d = (eqb-true q 0 e, ltb-true 0 (g .size) d)
+      go false e d = absurd (false≢true d)
 
   sound-more : (ps : List ℕ) (q : ℕ) → Sound ps → writes g ps q ≡ true → Sound (ps ++ (q ∷ []))
   sound-more [] q s h = let f : (q ≡ 0) × (0 < g .size) = first-word q h in (omega arith, (omega arith, omega arith))

@@ -4,10 +4,10 @@ use Prim.Native.Nat.{ℕ, _≤_}
 use mathlib.Core.Path.{_≡_, refl}
 use mathlib.Core.List.{List, _∷_}
 use lib.ListN.{length}
+use Rattle.common.specs.Limits.{mostWords}
 use Rattle.runs.specs.declared.longest.Run.{Run}
 use Rattle.runs.specs.Demand.{Demand, Passes}
 use Rattle.runs.specs.Instance.{graphOf}
-use Rattle.common.specs.Limits.{mostWords}
 use Rattle.runs.specs.Run.{runOf, numberOf, longestOf, firstOf}
 use Rattle.runs.specs.Laws.{Enough}
 use Rattle.runs.proofs.Laws.{laws}

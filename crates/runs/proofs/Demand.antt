@@ -1,7 +1,7 @@
 -- Demand 3, first half, of the definition that the contract of `longest_run` cites. Assumes nothing.
 use mathlib.Core.Path.{_≡_, refl, sym, subst, _∙_}
 use mathlib.Core.Logic.{_↔_, _⊎_, inl, inr, ⊎-elim}
-use mathlib.Core.Bool.{true, true≢false}
+use mathlib.Core.Bool.{Bool, true, false, _&&_, true≢false, false≢true}
 use mathlib.Core.List.{List, [], _∷_}
 use Prim.Native.Nat.{ℕ, _≤_, _<_}
 use native.Mathlib.Nat.{pos-of-ne-zero}
@@ -9,25 +9,30 @@ use native.Mathlib.Omega.{arith}
 use borrow.Author.Tests.{eqb-true, eq-eqb, lt-ltb, le-ltb}
 use lib.ListN.{length}
 use Rattle.common.specs.Limits.{mostWords}
-use Rattle.common.specs.Lowest.{lowestFrom}
-use Rattle.common.proofs.Order.{split, same-or-not}
+use Rattle.common.specs.Numbers.{«NO_WORDS», «REACHES_INVALID»}
+use Rattle.common.specs.Lowest.{lowest}
 use Rattle.common.proofs.Lowest.{lowest-laws}
+use Rattle.runs.specs.declared.longest.Run.{Run}
+use Rattle.runs.specs.declared.longest.Run.the-variants.{Accepted, Refused}
 use Rattle.graph.specs.Graph.{Graph, Reachable, weigh}
 use Rattle.graph.specs.Marks.{markOf}
 use Rattle.graph.specs.Longest.{longest, first}
-use Rattle.graph.specs.Meaning.{Meaning}
-use Rattle.graph.proofs.Laws.{laws}
-use Rattle.graph.proofs.Meaning.{meaning}
-use Rattle.graph.proofs.Ceiling.{ceiling}
-use Rattle.runs.specs.declared.longest.Run.{Run}
-use Rattle.runs.specs.declared.longest.Run.the-variants.{Accepted, Refused}
 use Rattle.runs.specs.Steps.{unitWeight}
 use Rattle.runs.specs.Instance.{graphOf}
 use Rattle.runs.specs.Run.{reachesInvalid, lowestInvalid, runOf}
+use Rattle.graph.specs.Meaning.{Meaning}
 use Rattle.runs.specs.Demand.{MeetsInvalidAt, MeetsInvalid, Passes, RunsTooLong, Demand, RefusedExactly}
-use Rattle.runs.proofs.Tests.{both}
-use Rattle.runs.proofs.Outcome.{run-7, run-words}
+use Rattle.common.proofs.Order.{split, same-or-not}
+use Rattle.graph.proofs.Laws.{laws}
+use Rattle.graph.proofs.Meaning.{meaning}
+use Rattle.graph.proofs.Ceiling.{ceiling}
+use Rattle.runs.proofs.Outcome.{run-none, run-words}
 use Rattle.runs.proofs.Lawful.{lawful}
+
+-- two tests that both hold
+both : (t u : Bool) → t && u ≡ true → (t ≡ true) × (u ≡ true)
+both true u e = (refl, e)
+both false u e = absurd (false≢true e)
 
 pub weigh-counts : (ps : List ℕ) → weigh unitWeight ps ≡ length ps
 weigh-counts [] = refl
@@ -43,12 +48,16 @@ module _ (ws : List ℕ) where
   pub inside : {p : ℕ} → Reachable graph p → p < length ws
   inside {p} r = laws .reaching graph (lawful ws) .below p r
 
+  -- a segment starts at a word
+  pub starts : {p k : ℕ} → Passes ws p k → p < length ws
+  starts {p} s = inside (laws .reaching graph (lawful ws) .segment p (s .rest) (s .segment))
+
   -- the lowest reachable invalid word is met by a path, and none below it is
   met : lowestInvalid ws < length ws → MeetsInvalidAt ws (lowestInvalid ws)
   unfolding lowestInvalid
   met h =
       let e = both _ _ (lowest-laws .first (reachesInvalid ws) 0 (length ws) .holds (omega arith)) in
-      record { reachable = means .mark-one (lowestFrom (reachesInvalid ws) 0 (length ws)) h .0 (eqb-true _ _ (e .0)); invalid = e .1 }
+      record { reachable = means .mark-one (lowest (reachesInvalid ws) (length ws)) h .0 (eqb-true _ _ (e .0)); invalid = e .1 }
 
   least-met : (p : ℕ) → MeetsInvalidAt ws p → lowestInvalid ws ≤ p
   unfolding lowestInvalid
@@ -56,7 +65,7 @@ module _ (ws : List ℕ) where
       let y : reachesInvalid ws p ≡ true = simp (eq-eqb (markOf graph p) 1 (means .mark-one p (inside (m .reachable)) .1 (m .reachable)), m .invalid) in
       ⊎-elim (λ d. d)
       (λ d. absurd (true≢false (sym y ∙ lowest-laws .first (reachesInvalid ws) 0 (length ws) .not-before p (omega arith) d)))
-      (split (lowestFrom (reachesInvalid ws) 0 (length ws)) p)
+      (split (lowest (reachesInvalid ws) (length ws)) p)
 
   unmet : length ws ≤ lowestInvalid ws → MeetsInvalid ws → ⊥
   unmet h m = omega (arith, least-met (m .word) (m .met), inside (m .met .reachable))
@@ -69,18 +78,14 @@ module _ (ws : List ℕ) where
       let a = means .first-some z in
       record { rest = a .0; segment = a .1; count = sym (weigh-counts (first graph unitWeight ∷ a .0)) ∙ a .2 }
 
-  -- a segment starts at a word
-  pub starts : {p k : ℕ} → Passes ws p k → p < length ws
-  starts {p} s = inside (laws .reaching graph (lawful ws) .segment p (s .rest) (s .segment))
-
-  -- Each number in turn.
-
   -- no run is longer than the words
   short : length ws ≤ mostWords → RunsTooLong ws → ⊥
   short few t = omega (arith, t .over, passes-most (t .passes), ceiling .longest-run graph (lawful ws) unitWeight 1 (λ p. omega arith))
 
+  -- Each number in turn.
+
   module _ (few : length ws ≤ mostWords) where
-    none : length ws ≡ 0 → Demand ws (Refused 7 0)
+    none : length ws ≡ 0 → Demand ws (Refused «NO_WORDS» 0)
     none z =
         let unmet-here : MeetsInvalid ws → ⊥ = λ m. omega (arith, inside (m .met .reachable)) in
         record {
@@ -96,7 +101,7 @@ module _ (ws : List ℕ) where
           first-lowest = λ e. absurd (omega arith);
         }
 
-    invalid : lowestInvalid ws < length ws → Demand ws (Refused 8 (lowestInvalid ws))
+    invalid : lowestInvalid ws < length ws → Demand ws (Refused «REACHES_INVALID» (lowestInvalid ws))
     invalid h =
         let m : MeetsInvalid ws = record { word = lowestInvalid ws; met = met h } in
         record {
@@ -134,7 +139,7 @@ module _ (ws : List ℕ) where
     pub demand : Demand ws (runOf ws a b)
     demand =
         ⊎-elim
-        (λ z. of-run (none few z) (run-7 ws a b few h k z))
+        (λ z. of-run (none few z) (run-none ws a b few h k z))
         (λ n. let some = pos-of-ne-zero n in let r = run-words ws a b few h k some in
         ⊎-elim
         (λ valid. of-run (accepted few some valid) (r ∙ simp (le-ltb (lowestInvalid ws) (length ws) valid)))

@@ -10,6 +10,5 @@ pub mod Moves
 pub mod Outcome
 pub mod Slices
 pub mod Steps
-pub mod Tests
 pub mod Turn
 pub mod Words

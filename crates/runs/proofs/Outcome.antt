@@ -8,6 +8,8 @@ use borrow.Author.Tests.{lt-ltb, le-ltb, eq-eqb, ne-eqb}
 use lib.Dec.{ltb, eqb}
 use lib.ListN.{length, drop}
 use Rattle.common.specs.Limits.{mostWords}
+use Rattle.common.specs.Numbers.{«TOO_MANY_WORDS», «SHORT_SLICE», «NO_WORDS», «REACHES_INVALID»}
+use Rattle.common.specs.Chain.{refuseIf}
 use Rattle.common.specs.Lists.{tabulate, over}
 use Rattle.graph.specs.Marks.{markOf}
 use Rattle.graph.specs.Longest.{lengthOf, longest, first}
@@ -15,27 +17,27 @@ use Rattle.runs.specs.declared.longest.Run.{Run}
 use Rattle.runs.specs.declared.longest.Run.the-variants.{Accepted, Refused}
 use Rattle.runs.specs.Steps.{unitWeight}
 use Rattle.runs.specs.Instance.{graphOf}
-use Rattle.runs.specs.Run.{numberOf, lowestInvalid, refuseRun, runOf, untouched, marksAfter, lengthsAfter}
+use Rattle.runs.specs.Run.{numberOf, lowestInvalid, runOf, untouched, marksAfter, lengthsAfter}
 use Rattle.runs.specs.Outcome.{decided, Decided}
 
 -- the checks before any word is read
 module _ (ws : List ℕ) (a b : ℕ) where
-  pub run-1 : mostWords < length ws → runOf ws a b ≡ Refused 1 0
+  pub run-many : mostWords < length ws → runOf ws a b ≡ Refused «TOO_MANY_WORDS» 0
   unfolding runOf
-  run-1 h = simp (lt-ltb mostWords (length ws) h)
+  run-many h = simp (lt-ltb mostWords (length ws) h)
 
   module _ (few : length ws ≤ mostWords) where
-    pub run-6-marks : a < length ws → runOf ws a b ≡ Refused 6 0
+    pub run-short-marks : a < length ws → runOf ws a b ≡ Refused «SHORT_SLICE» 0
     unfolding runOf
-    run-6-marks h = simp (le-ltb mostWords (length ws) few, lt-ltb a (length ws) h)
+    run-short-marks h = simp (le-ltb mostWords (length ws) few, lt-ltb a (length ws) h)
 
-    pub run-6-lengths : b < length ws → runOf ws a b ≡ Refused 6 0
+    pub run-short-lengths : b < length ws → runOf ws a b ≡ Refused «SHORT_SLICE» 0
     unfolding runOf
-    run-6-lengths h = simp (le-ltb mostWords (length ws) few, lt-ltb b (length ws) h, or-true (ltb a (length ws)))
+    run-short-lengths h = simp (le-ltb mostWords (length ws) few, lt-ltb b (length ws) h, or-true (ltb a (length ws)))
 
-    pub run-7 : length ws ≤ a → length ws ≤ b → length ws ≡ 0 → runOf ws a b ≡ Refused 7 0
+    pub run-none : length ws ≤ a → length ws ≤ b → length ws ≡ 0 → runOf ws a b ≡ Refused «NO_WORDS» 0
     unfolding runOf
-    run-7 h k z = simp (le-ltb mostWords (length ws) few, le-ltb a (length ws) h, le-ltb b (length ws) k, eq-eqb (length ws) 0 z)
+    run-none h k z = simp (le-ltb mostWords (length ws) few, le-ltb a (length ws) h, le-ltb b (length ws) k, eq-eqb (length ws) 0 z)
 
     -- the checks after the search
     module _ (h : length ws ≤ a) (k : length ws ≤ b) (some : 0 < length ws) where
@@ -54,18 +56,18 @@ module _ (ws m l : List ℕ) where
 
 -- the outcome of words that pass the checks of their number and of the slices
 module _ (ws : List ℕ) {m l : List ℕ} (marks : m ≡ tabulate (markOf (graphOf ws)) 0 (length ws)) where
-  pub decided-8 : {p : ℕ} → p ≡ lowestInvalid ws → p < length ws → l ≡ tabulate (λ p. 0) 0 (length ws) → Decided ws (Refused 8 p) m l
-  decided-8 {p} q h e = record { answer = simp (← q, lt-ltb p (length ws) h); marks = marks; lengths = e }
+  pub decided-invalid : {p : ℕ} → p ≡ lowestInvalid ws → p < length ws → l ≡ tabulate (λ p. 0) 0 (length ws) → Decided ws (Refused «REACHES_INVALID» p) m l
+  decided-invalid {p} q h e = record { answer = simp (← q, lt-ltb p (length ws) h); marks = marks; lengths = e }
 
   module _ (valid : length ws ≤ lowestInvalid ws) where
-    pub decided-0 : {v a : ℕ} → v ≡ longest (graphOf ws) unitWeight → a ≡ first (graphOf ws) unitWeight → l ≡ tabulate (lengthOf (graphOf ws) unitWeight) 0 (length ws) → Decided ws (Accepted v a) m l
-    decided-0 {v} {a} q f e = record { answer = simp (le-ltb _ _ valid, ← q, ← f); marks = marks; lengths = e }
+    pub decided-accepted : {v a : ℕ} → v ≡ longest (graphOf ws) unitWeight → a ≡ first (graphOf ws) unitWeight → l ≡ tabulate (lengthOf (graphOf ws) unitWeight) 0 (length ws) → Decided ws (Accepted v a) m l
+    decided-accepted {v} {a} q f e = record { answer = simp (le-ltb _ _ valid, ← q, ← f); marks = marks; lengths = e }
 
 -- and of the slices whose first parts they were lent
 decided-touches : (ws : List ℕ) → untouched (numberOf (decided ws)) ≡ false
 decided-touches ws = go (ltb (lowestInvalid ws) (length ws))
   where
-    go : (a : Bool) → untouched (numberOf (refuseRun a 8 (lowestInvalid ws) (Accepted (longest (graphOf ws) unitWeight) (first (graphOf ws) unitWeight)))) ≡ false
+    go : (a : Bool) → untouched (numberOf (refuseIf a (Refused «REACHES_INVALID» (lowestInvalid ws)) (Accepted (longest (graphOf ws) unitWeight) (first (graphOf ws) unitWeight)))) ≡ false
     go true = refl
     go false = refl
 

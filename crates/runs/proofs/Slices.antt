@@ -8,20 +8,21 @@ use native.Mathlib.Omega.{arith}
 use borrow.Author.Tests.{ne-eqb}
 use lib.ListN.{length, getD}
 use Rattle.common.specs.Limits.{mostWords}
+use Rattle.common.specs.Numbers.{«ACCEPTED», «REACHES_INVALID»}
 use Rattle.common.specs.Lists.{over}
-use Rattle.common.proofs.Order.{split}
-use Rattle.common.proofs.Over.{over-laws}
+use Rattle.runs.specs.declared.longest.Run.{Run}
 use Rattle.graph.specs.Graph.{Reachable}
 use Rattle.graph.specs.Marks.{markOf}
 use Rattle.graph.specs.Longest.{lengthOf}
-use Rattle.runs.specs.declared.longest.Run.{Run}
 use Rattle.runs.specs.Steps.{unitWeight}
 use Rattle.runs.specs.Instance.{graphOf}
 use Rattle.runs.specs.Run.{numberOf, runOf, untouched, numberIs, marksAfter, lengthsAfter}
 use Rattle.runs.specs.Demand.{Passes}
 use Rattle.runs.specs.Slices.{Kept, ReachableMarks, SegmentLengths, ZeroLengths, RefusedLate, RefusedEarly, Slices}
 use Rattle.runs.specs.Laws.{Enough}
-use Rattle.runs.proofs.Outcome.{run-1, run-6-marks, run-6-lengths}
+use Rattle.common.proofs.Order.{split}
+use Rattle.common.proofs.Over.{over-laws}
+use Rattle.runs.proofs.Outcome.{run-many, run-short-marks, run-short-lengths}
 use Rattle.runs.proofs.Demand.{weigh-counts, means, inside, starts}
 
 -- A number that is given after the search: the checks of the sizes were passed.
@@ -31,17 +32,17 @@ module _ (ws : List ℕ) (a b : ℕ) (looked : untouched (numberOf (runOf ws a b
   never e u = true≢false (sym u ∙ (sym (ap (λ (r : Run). untouched (numberOf r)) e) ∙ looked))
 
   few : length ws ≤ mostWords
-  few = ⊎-elim (λ d. d) (λ d. absurd (never (run-1 ws a b d) refl)) (split (length ws) mostWords)
+  few = ⊎-elim (λ d. d) (λ d. absurd (never (run-many ws a b d) refl)) (split (length ws) mostWords)
 
   pub enough-looked : Enough (length ws) a b
   enough-looked =
       record {
         few = few;
-        marks-long = ⊎-elim (λ d. d) (λ d. absurd (never (run-6-marks ws a b few d) refl)) (split (length ws) a);
-        lengths-long = ⊎-elim (λ d. d) (λ d. absurd (never (run-6-lengths ws a b few d) refl)) (split (length ws) b);
+        marks-long = ⊎-elim (λ d. d) (λ d. absurd (never (run-short-marks ws a b few d) refl)) (split (length ws) a);
+        lengths-long = ⊎-elim (λ d. d) (λ d. absurd (never (run-short-lengths ws a b few d) refl)) (split (length ws) b);
       }
 
-pub enough : (ws : List ℕ) (a b : ℕ) → numberOf (runOf ws a b) ≡ 0 → Enough (length ws) a b
+pub enough : (ws : List ℕ) (a b : ℕ) → numberOf (runOf ws a b) ≡ «ACCEPTED» → Enough (length ws) a b
 enough ws a b e = enough-looked ws a b (ap untouched e)
 
 -- The lists by themselves.
@@ -96,13 +97,13 @@ module _ (ws m l : List ℕ) where
   late e = ap untouched e
 
   early : RefusedEarly ws m l → untouched number ≡ true
-  early n = rw (ne-eqb number 0 (n .0), ne-eqb number 8 (n .1))
+  early n = rw (ne-eqb number «ACCEPTED» (n .0), ne-eqb number «REACHES_INVALID» (n .1))
 
   marks-are : untouched number ≡ false → ReachableMarks ws m (marksAfter ws m l)
   unfolding marksAfter
   marks-are u = rw u (marked ws m (enough-looked ws (length m) (length l) u .marks-long))
 
-  lengths-are : number ≡ 0 → SegmentLengths ws l (lengthsAfter ws m l)
+  lengths-are : number ≡ «ACCEPTED» → SegmentLengths ws l (lengthsAfter ws m l)
   unfolding lengthsAfter
   lengths-are e = rw e (measured ws l (enough ws (length m) (length l) e .lengths-long))
 

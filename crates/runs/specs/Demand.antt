@@ -8,8 +8,9 @@ use mathlib.Core.List.{List, _∷_}
 use Prim.Native.Nat.{ℕ, _≤_, _<_}
 use lib.ListN.{length}
 use Rattle.common.specs.Limits.{mostWords}
-use Rattle.graph.specs.Graph.{Reachable, Segment}
+use Rattle.common.specs.Numbers.{«ACCEPTED», «NO_WORDS», «REACHES_INVALID»}
 use Rattle.runs.specs.declared.longest.Run.{Run}
+use Rattle.graph.specs.Graph.{Reachable, Segment}
 use Rattle.runs.specs.Steps.{isInvalid}
 use Rattle.runs.specs.Successors.{successorsOf}
 use Rattle.runs.specs.Instance.{graphOf}
@@ -41,27 +42,27 @@ pub record RunsTooLong (ws : List ℕ) : Type 0 where
 -- r is the answer
 pub record Demand (ws : List ℕ) (r : Run) : Type 0 where
   -- "it is refused exactly if it has no words, some course meets a bad word ..": the third ground is never met
-  pub refused : (0 < numberOf r) ↔ ((length ws ≡ 0) ⊎ MeetsInvalid ws)
+  pub refused : («ACCEPTED» < numberOf r) ↔ ((length ws ≡ 0) ⊎ MeetsInvalid ws)
   -- request C-13: "Inside a stretch every step goes to a higher word, so L cannot pass the number of words", and so no course passes more
   -- than 32,768 words without a service
   pub never-long : RunsTooLong ws → ⊥
   -- "Checks run in this order": "no words"
-  pub seven : (numberOf r ≡ 7) ↔ (length ws ≡ 0)
+  pub seven : (numberOf r ≡ «NO_WORDS») ↔ (length ws ≡ 0)
   -- "a reachable bad word"; where there are no words, none is met
-  pub eight : (numberOf r ≡ 8) ↔ MeetsInvalid ws
+  pub eight : (numberOf r ≡ «REACHES_INVALID») ↔ MeetsInvalid ws
   -- number 8's "place: the lowest"
-  pub place : numberOf r ≡ 8 → MeetsInvalidAt ws (placeOf r)
-  pub place-lowest : numberOf r ≡ 8 → (p : ℕ) → MeetsInvalidAt ws p → placeOf r ≤ p
+  pub place : numberOf r ≡ «REACHES_INVALID» → MeetsInvalidAt ws (placeOf r)
+  pub place-lowest : numberOf r ≡ «REACHES_INVALID» → (p : ℕ) → MeetsInvalidAt ws p → placeOf r ≤ p
   -- "a place, 0 unless named"
-  pub no-place : (numberOf r ≡ 8 → ⊥) → placeOf r ≡ 0
+  pub no-place : (numberOf r ≡ «REACHES_INVALID» → ⊥) → placeOf r ≡ 0
   -- "If accepted, no course passes more than L words without a service between them"
-  pub bounded : numberOf r ≡ 0 → (p k : ℕ) → Passes ws p k → k ≤ longestOf r
+  pub bounded : numberOf r ≡ «ACCEPTED» → (p k : ℕ) → Passes ws p k → k ≤ longestOf r
   -- "and some course passes exactly L"
-  pub reached : numberOf r ≡ 0 → Passes ws (firstOf r) (longestOf r)
+  pub reached : numberOf r ≡ «ACCEPTED» → Passes ws (firstOf r) (longestOf r)
   -- "and the lowest word at which an L-word stretch begins"
-  pub first-lowest : numberOf r ≡ 0 → (p : ℕ) → Passes ws p (longestOf r) → firstOf r ≤ p
+  pub first-lowest : numberOf r ≡ «ACCEPTED» → (p : ℕ) → Passes ws p (longestOf r) → firstOf r ≤ p
 
 -- Demand 3's own sentence, with its third ground: "it is refused exactly if it has no words, some course meets a bad word, or the longest run
 -- is over 32,768". proofs/Demand.antt takes it from `Demand` in a line.
 abbrev pub RefusedExactly : List ℕ → Run → Type 0
-RefusedExactly ws r = (0 < numberOf r) ↔ ((length ws ≡ 0) ⊎ (MeetsInvalid ws ⊎ RunsTooLong ws))
+RefusedExactly ws r = («ACCEPTED» < numberOf r) ↔ ((length ws ≡ 0) ⊎ (MeetsInvalid ws ⊎ RunsTooLong ws))

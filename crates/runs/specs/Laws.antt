@@ -6,6 +6,7 @@ use mathlib.Core.Bool.{false}
 use mathlib.Core.List.{List}
 use lib.ListN.{length}
 use Rattle.common.specs.Limits.{mostWords}
+use Rattle.common.specs.Numbers.{«ACCEPTED»}
 use Rattle.graph.specs.Graph.{Lawful}
 use Rattle.runs.specs.Steps.{Below, servesOf}
 use Rattle.runs.specs.Successors.{successorsOf}
@@ -32,7 +33,7 @@ pub record Laws : Type 0 where
   -- they are lvm.c's
   pub agreement : Agreement
   -- an accepted run passed the checks of the sizes
-  pub enough : (ws : List ℕ) (marks lengths : ℕ) → numberOf (runOf ws marks lengths) ≡ 0 → Enough (length ws) marks lengths
+  pub enough : (ws : List ℕ) (marks lengths : ℕ) → numberOf (runOf ws marks lengths) ≡ «ACCEPTED» → Enough (length ws) marks lengths
   -- demand 3, first half
   pub demand : (ws : List ℕ) (marks lengths : ℕ) → Enough (length ws) marks lengths → Demand ws (runOf ws marks lengths)
   pub refused-exactly : (ws : List ℕ) (r : Run) → Demand ws r → RefusedExactly ws r
