@@ -12,4 +12,5 @@ pub mod Slices
 pub mod Steps
 pub mod Tests
 pub mod Turn
+pub mod Weights
 pub mod Words

@@ -4,6 +4,7 @@ pub mod Steps
 pub mod Successors
 pub mod Lvm
 pub mod Instance
+pub mod Weights
 pub mod Run
 pub mod Demand
 pub mod Slices
