@@ -6,6 +6,7 @@ use Rattle.runs.proofs.Lawful.{lawful}
 use Rattle.runs.proofs.Lvm.{agreement-holds}
 use Rattle.runs.proofs.Demand.{demand}
 use Rattle.runs.proofs.Slices.{enough, slices}
+use Rattle.runs.proofs.Weights.{weight-laws}
 
 pub laws : Laws
 laws =
@@ -15,6 +16,7 @@ laws =
       lawful = lawful;
       agreement = agreement-holds;
       enough = enough;
-      demand = λ ws a b e. demand ws a b (e .few) (e .marks-long) (e .lengths-long);
+      demand = λ ws weights a b e bytes. demand ws weights (record { accepted = e .weighed; bytes = bytes }) a b (e .few) (e .marks-long) (e .lengths-long);
       slices = slices;
+      weights = weight-laws;
     }

@@ -12,9 +12,10 @@ use Rattle.graph.specs.Marks.{markOf}
 use Rattle.graph.specs.Longest.{lengthOf, longest, first}
 use Rattle.runs.specs.declared.longest.Run.{Run}
 use Rattle.runs.specs.declared.longest.Run.the-variants.{Accepted, Refused}
-use Rattle.runs.specs.Steps.{isInvalid, unitWeight}
+use Rattle.runs.specs.Steps.{isInvalid}
 use Rattle.runs.specs.Successors.{successorsOf}
 use Rattle.runs.specs.Instance.{graphOf}
+use Rattle.runs.specs.Weights.{weightOf, refusesWeights, weightsPlace}
 
 -- "Each answer carries its number, 0 when accepted, and a place, 0 unless named. On refusal L and its first word are 0."
 abbrev pub numberOf : Run → ℕ
@@ -46,26 +47,28 @@ lowestInvalid ws = lowestFrom (reachesInvalid ws) 0 (length ws)
 abbrev pub refuseRun : Bool → ℕ → ℕ → Run → Run
 refuseRun t number place later = cond t (Refused number place) later
 
--- "Checks run in this order": of the words and of the lengths of the marks slice and the lengths slice
-unfoldable pub runOf : List ℕ → ℕ → ℕ → Run
-runOf ws marks lengths =
+-- "Checks run in this order": of the words, the weights, and the lengths of the marks slice and the lengths slice
+unfoldable pub runOf : List ℕ → List ℕ → ℕ → ℕ → Run
+runOf ws weights marks lengths =
     -- "more than 32,768 words"
     refuseRun (ltb mostWords (length ws)) 1 0
     -- "a lent result slice shorter than the words"
     (refuseRun (ltb marks (length ws) || ltb lengths (length ws)) 6 0
+    -- request C-17: "18 a weight count other than 128, or a weight of 0, checked after 6"
+    (refuseRun (refusesWeights weights) 18 (weightsPlace weights)
     -- "no words"
     (refuseRun (eqb (length ws) 0) 7 0
     -- "a reachable bad word; place: the lowest"
     (refuseRun (ltb (lowestInvalid ws) (length ws)) 8 (lowestInvalid ws)
-    (Accepted (longest (graphOf ws) unitWeight) (first (graphOf ws) unitWeight)))))
+    (Accepted (longest (graphOf ws) (weightOf ws weights)) (first (graphOf ws) (weightOf ws weights)))))))
 
 -- "Nothing lent is altered, except that 8 .. leave[s] the reachable marks and n zero lengths." 0 is acceptance
 abbrev pub untouched : ℕ → Bool
 untouched number = not (eqb number 0 || eqb number 8)
 
-module _ (ws marks lengths : List ℕ) where
+module _ (ws weights marks lengths : List ℕ) where
   abbrev pub numberIs : ℕ
-  numberIs = numberOf (runOf ws (length marks) (length lengths))
+  numberIs = numberOf (runOf ws weights (length marks) (length lengths))
 
   -- the marks slice after the run
   unfoldable pub marksAfter : List ℕ
@@ -75,4 +78,4 @@ module _ (ws marks lengths : List ℕ) where
   unfoldable pub lengthsAfter : List ℕ
   lengthsAfter =
       cond (untouched numberIs) lengths
-      (cond (eqb numberIs 0) (over (lengthOf (graphOf ws) unitWeight) (length ws) lengths) (over (λ p. 0) (length ws) lengths))
+      (cond (eqb numberIs 0) (over (lengthOf (graphOf ws) (weightOf ws weights)) (length ws) lengths) (over (λ p. 0) (length ws) lengths))
