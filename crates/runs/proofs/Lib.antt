@@ -1,4 +1,5 @@
 pub mod Columns
+pub mod Counted
 pub mod Demand
 pub mod Entries
 pub mod Held

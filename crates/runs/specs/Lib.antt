@@ -6,6 +6,7 @@ pub mod Lvm
 pub mod Instance
 pub mod Weights
 pub mod Run
+pub mod Counted
 pub mod Demand
 pub mod Slices
 pub mod Laws
