@@ -1,7 +1,8 @@
 // The C interface beside the meter's: answers as structs of numbers, since an exported function may give no enum.
 ghost use mathlib.Core.Path.{_≡_};
 ghost use lib.ListN.{length};
-ghost use Rattle.runs.specs.Successors.{successorsOf, servesOf};
+ghost use Rattle.runs.specs.Steps.{servesOf};
+ghost use Rattle.runs.specs.Successors.{successorsOf};
 ghost use Rattle.runs.specs.Run.{runOf, marksAfter, lengthsAfter};
 ghost use Rattle.exports.specs.Flat.{flatSuccessors, flatRun};
 use runs::Run;

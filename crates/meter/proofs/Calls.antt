@@ -7,9 +7,9 @@ use mathlib.Core.List.{List, [], _∷_, _++_}
 use native.Mathlib.Omega.{arith}
 use lib.Dec.{ltb, eqb}
 use borrow.Author.Tests.{ltb-true, ltb-false, eqb-true, le-ltb, lt-leb, le-leb, ne-eqb}
-use Rattle.runs.specs.Graph.{Graph, Lawful}
-use Rattle.runs.specs.Run.{mostWords}
-use Rattle.runs.proofs.Laws.{laws}
+use Rattle.graph.specs.Graph.{Graph, Lawful}
+use Rattle.common.specs.Limits.{mostWords}
+use Rattle.graph.proofs.Laws.{laws}
 use Rattle.runs.proofs.Tests.{both}
 use Rattle.meter.specs.declared.step.Meter.{Meter}
 use Rattle.meter.specs.declared.step.Fed.{Fed}

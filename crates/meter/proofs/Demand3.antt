@@ -7,7 +7,8 @@ use lib.ListN.{length}
 use Rattle.runs.specs.declared.longest.Run.{Run}
 use Rattle.runs.specs.Demand.{Demand, Passes}
 use Rattle.runs.specs.Instance.{graphOf}
-use Rattle.runs.specs.Run.{mostWords, runOf, numberOf, longestOf, firstOf}
+use Rattle.common.specs.Limits.{mostWords}
+use Rattle.runs.specs.Run.{runOf, numberOf, longestOf, firstOf}
 use Rattle.runs.specs.Laws.{Enough}
 use Rattle.runs.proofs.Laws.{laws}
 use Rattle.meter.specs.declared.step.Meter.{Meter}

@@ -3,8 +3,8 @@
 use mathlib.Core.Bool.{Bool, cond, not, _||_}
 use Prim.Native.Nat.{ℕ, _+_}
 use lib.Dec.{ltb, leb, eqb}
-use Rattle.runs.specs.Graph.{member, Graph}
-use Rattle.runs.specs.Run.{mostWords}
+use Rattle.graph.specs.Graph.{member, Graph}
+use Rattle.common.specs.Limits.{mostWords}
 use Rattle.meter.specs.declared.step.Meter.{Meter}
 use Rattle.meter.specs.declared.step.Fed.{Fed}
 

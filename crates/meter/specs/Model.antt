@@ -5,7 +5,7 @@ use mathlib.Core.List.{List, [], _∷_, _++_}
 use Prim.Native.Nat.{ℕ, _+_}
 use lib.Dec.{ltb, eqb}
 use lib.ListN.{length}
-use Rattle.runs.specs.Graph.{Graph}
+use Rattle.graph.specs.Graph.{Graph}
 use Rattle.meter.specs.Feed.{follows}
 
 -- "the calls: begin, or feed with its word number"

@@ -2,9 +2,9 @@
 ghost use mathlib.Core.Path.{_≡_};
 ghost use Prim.Native.Nat.{_<_, _≤_};
 ghost use Rattle.runs.specs.Instance.{graphOf};
-ghost use Rattle.runs.specs.Run.{mostWords};
+ghost use Rattle.common.specs.Limits.{mostWords};
 ghost use Rattle.meter.specs.Feed.{beginOf, oneService, movedTo, isForeign, isStray, feedOf};
-use runs::longest::MOST_WORDS;
+use common::limits::MOST_WORDS;
 
 // Document 01, "Meter": services stay at this.
 const CEILING: u32 = 4294967295;
@@ -102,7 +102,7 @@ fn moved(words: &[u32], m: Meter, q: usize) -> Meter
             services: m.services,
         };
     }
-    if runs::successors::serves(words, wide(m.last), q) {
+    if runs::edges::serves(wide(m.last), q) {
         return Meter {
             begun: 1,
             last: to,

@@ -4,6 +4,7 @@ use Rattle.runs.proofs.Steps.{forward}
 use Rattle.runs.proofs.Words.{below}
 use Rattle.runs.proofs.Lawful.{lawful}
 use Rattle.runs.proofs.Lvm.{agreement-holds}
+use Rattle.runs.proofs.Counted.{earlier-run}
 use Rattle.runs.proofs.Demand.{demand}
 use Rattle.runs.proofs.Slices.{enough, slices}
 use Rattle.runs.proofs.Weights.{weight-laws}
@@ -18,5 +19,6 @@ laws =
       enough = enough;
       demand = λ ws weights a b e bytes. demand ws weights (record { accepted = e .weighed; bytes = bytes }) a b (e .few) (e .marks-long) (e .lengths-long);
       slices = slices;
+      earlier-run = earlier-run;
       weights = weight-laws;
     }

@@ -17,8 +17,8 @@ use Rattle.fields.specs.Opcodes.{«OP_JMP», «OP_TFORCALL», «OP_TFORLOOP»}
 use Rattle.fields.specs.Word.{opcodeOf, kOf, bxOf, sjOf}
 use Rattle.fields.specs.Lopcodes.{«GET_OPCODE», «GETARG_Bx», «GETARG_sJ», «TESTARG_k»}
 use Rattle.fields.specs.Table.{StepClass, following, returning, branching, skipping, skippingIfK, jumping, looping, preparing, entering, invalid, classNumber, classOf, Companion, alone, jumpAfter, callAtTarget, loopAfter, companionNumber, companionOf}
-use Rattle.fields.proofs.Below.{all, all-at}
-use Rattle.fields.proofs.Lopcodes.{agreement}
+use Rattle.fields.specs.Laws.{all}
+use Rattle.fields.proofs.Laws.{laws}
 use Rattle.runs.specs.declared.edges.Successors.{Successors}
 use Rattle.runs.specs.declared.edges.Successors.the-variants.{One, Two}
 use Rattle.runs.specs.Columns.{classFrom, companionFrom}
@@ -60,7 +60,7 @@ class-by : (o : ℕ) → o < 128 → classOf o ≡ classBy (vmdispatch switch o)
 unfolding alike-at
 class-by o h =
     sym (class-back (classOf o))
-    ∙ (ap classFrom (eqb→eq _ _ (all-at alike-at 128 alike-below o h)) ∙ class-back (classBy (vmdispatch switch o)))
+    ∙ (ap classFrom (eqb→eq _ _ (laws .each-below alike-at 128 alike-below o h)) ∙ class-back (classBy (vmdispatch switch o)))
 
 -- Sets of next words.
 
@@ -118,13 +118,13 @@ two-same n (negsuc q) y e = absurd (true≢false e)
 -- A word's fields, by the header's macros.
 module _ (w : ℕ) where
   opcode-is : «GET_OPCODE» w ≡ opcodeOf w
-  opcode-is = ap (λ (i : RawInstruction54). i .«opcode_num») (agreement w)
+  opcode-is = ap (λ (i : RawInstruction54). i .«opcode_num») (laws .lopcodes w)
 
   bx-is : «GETARG_Bx» w ≡ bxOf w
-  bx-is = ap (λ (i : RawInstruction54). i .bx) (agreement w)
+  bx-is = ap (λ (i : RawInstruction54). i .bx) (laws .lopcodes w)
 
   sj-is : «GETARG_sJ» w ≡ sjOf w
-  sj-is = ap (λ (i : RawInstruction54). i .sj) (agreement w)
+  sj-is = ap (λ (i : RawInstruction54). i .sj) (laws .lopcodes w)
 
 test-is : (w : ℕ) → «TESTARG_k» w ≡ kOf w * 2 ^ 15
 test-is w = and-high w 1 15
@@ -272,7 +272,7 @@ module _ (ws : List ℕ) (p : ℕ) where
       let o : ℕ = opcodeAt ws p in
       let b : Body = vmdispatch switch o in
       ap (λ (b : Body). standsAt (wantedBy b) ws p) (body-by ws p o refl)
-      ∙ leaned b (companionOf o) (eqb (companionNumber (wantedBy b)) 0) refl (all-at wants-right 128 wants-below o (opcode-fits ws p)) (present ws p e)
+      ∙ leaned b (companionOf o) (eqb (companionNumber (wantedBy b)) 0) refl (laws .each-below wants-right 128 wants-below o (opcode-fits ws p)) (present ws p e)
 
 one-later : (p : ℕ) (j : ℤ) → pos p +ℤ (j +ℤ pos 1) ≡ pos (p + 1) +ℤ (j +ℤ pos 0)
 one-later p j =

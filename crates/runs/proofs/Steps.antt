@@ -110,7 +110,7 @@ two-below n (negsuc q) y = tt
 -- a step that does not serve goes forward
 pub forward : (p q : ℕ) → servesOf p q ≡ false → p < q
 unfolding servesOf
-forward p q e = leb-false q p e
+forward p q e = omega (arith, leb-false q _ e)
 
 -- of two successors one is the next word
 abbrev pub Nexts : ℕ → Successors → Type 0

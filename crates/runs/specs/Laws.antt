@@ -13,6 +13,7 @@ use Rattle.runs.specs.Lvm.{Agreement}
 use Rattle.runs.specs.Instance.{graphOf}
 use Rattle.runs.specs.Run.{runOf, numberOf}
 use Rattle.runs.specs.Weights.{heaviestWeight, refusesWeights, WeightLaws}
+use Rattle.runs.specs.Counted.{EarlierRun}
 use Rattle.runs.specs.Demand.{Demand}
 use Rattle.runs.specs.Slices.{Slices}
 
@@ -41,5 +42,7 @@ pub record Laws : Type 0 where
       → ((i : ℕ) → getD weights i 0 ≤ heaviestWeight) → Demand ws weights (runOf ws weights marks lengths)
   pub slices :
       (ws weights : List ℕ) → ((i : ℕ) → getD weights i 0 ≤ heaviestWeight) → (marks lengths : List ℕ) → Slices ws weights marks lengths
+  -- request C-17: with all weights 1 every earlier answer returns
+  pub earlier-run : (ws marks lengths : List ℕ) → EarlierRun ws marks lengths
   -- what number 18 lets through weighs every word
   pub weights : WeightLaws

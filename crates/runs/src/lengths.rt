@@ -109,10 +109,10 @@ pub(crate) fn clear_lengths(lengths: &mut [u32], n: usize)
     requires { ⌜ n ≤ length (now lengths) ⌝ }
     ensures { λ _. ⌜ now (lengths .exit) ≡ replicate n 0 ++ drop n (now (lengths .entry)) ⌝ }
 {
-    let mut i = 0;
-    while i < n {
-        lengths[i] = 0;
-        i += 1;
+    let mut p = 0;
+    while p < n {
+        lengths[p] = 0;
+        p += 1;
     }
 }
 

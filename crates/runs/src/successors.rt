@@ -186,19 +186,19 @@ pub(crate) fn metamethod(words: &[u32], p: usize) -> Successors
     Successors::Invalid
 }
 
-// The successors of word p, by both columns in a byte. A word that wants nothing and a test come first.
+// The successors of word p, by its companion and its step class in a byte. A word that wants nothing and a test come first.
 pub fn successors(words: &[u32], p: usize) -> Successors
     ensures { λ r. ⌜ r ≡ successorsOf (now (words .entry)) p ⌝ }
 {
     if words.len() <= p {
         return Successors::Invalid;
     }
-    let both = fields::packed::both(words[p]);
-    if both == 0 {
+    let byte = fields::packed::companion_and_class(words[p]);
+    if byte == 0 {
         return one_of(words.len(), p + 1);
     }
-    let companion = both / 16;
-    let class = both % 16;
+    let companion = byte / 16;
+    let class = byte % 16;
     if companion == JUMP_AFTER {
         if class == BRANCHING {
             return test(words, p);
