@@ -62,7 +62,7 @@ recordAt words pc = liftOf words [] [] [] pc
 abbrev pub HoldsOf : Case → Type 0
 HoldsOf (fields word opcode a sbx) = (opcodeOf word ≡ opcode) × (aOf word ≡ a) × (sbxOf word ≡ sbx)
 HoldsOf (steps words p s) = successorsOf words p ≡ s
-HoldsOf (serving words p q t) = servesOf words p q ≡ t
+HoldsOf (serving words p q t) = servesOf p q ≡ t
 HoldsOf (run words longest first) = runOf words (length words) (length words) ≡ Accepted longest first
 HoldsOf (jumps words pc target) = recordAt words pc .«jump_target» ≡ target
 HoldsOf (touches words pc reads writes) =

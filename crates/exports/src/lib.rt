@@ -82,9 +82,9 @@ pub extern "C" fn lawendeb_successors(words: &[u32], p: usize) -> FlatSuccessors
 
 #[no_mangle]
 pub extern "C" fn lawendeb_serves(words: &[u32], p: usize, q: usize) -> bool
-    ensures { λ r. ⌜ r ≡ servesOf (now (words .entry)) p q ⌝ }
+    ensures { λ r. ⌜ r ≡ servesOf p q ⌝ }
 {
-    runs::successors::serves(words, p, q)
+    runs::edges::serves(p, q)
 }
 
 #[no_mangle]

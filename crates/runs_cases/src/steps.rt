@@ -3,7 +3,7 @@ use crate::print;
 use crate::words::*;
 use fields::opcodes::*;
 use fields::word::OFFSET_SJ;
-use runs::successors::serves;
+use runs::edges::serves;
 use runs::successors::successors;
 
 // The steps of the second of four words, and whether a step on would serve. A step back always does.
@@ -11,10 +11,10 @@ fn second(label: &[u8], before: u32, word: u32, after: u32, last: u32) {
     let words = [before, word, after, last];
     print::text(label);
     print::steps(successors(&words, 1));
-    if serves(&words, 1, 2) {
+    if serves(1, 2) {
         print::text(b", on to 2 serves");
     }
-    if !serves(&words, 1, 1) {
+    if !serves(1, 1) {
         print::text(b", back to 1 does not serve");
     }
     print::end();

@@ -24,6 +24,7 @@ fn word(op: u32, pattern: usize) -> u32 {
 fn tables(words: Vec<u32>) -> Input {
     Input {
         records: words.len(),
+        spare: 0,
         words,
         tags: vec![4, 3, 19, 17, 20, 0, 1, 19],
         payloads: vec![place(0, 4), u64::MAX, 0x4009_21fb_5444_2d18, 7, place(4, 5), 9, 11, 0x7ff8_0000_0000_0001],
