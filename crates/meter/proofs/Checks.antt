@@ -1,19 +1,23 @@
 -- What the checks of a feed leave: a fed word among the words, and a count that 32 bits can add to.
 -- Assumes nothing.
 use Prim.Native.Nat.{ℕ, _+_, _<_, _≤_}
-use mathlib.Core.Bool.{Bool, true, false, cond, not, _||_}
+use mathlib.Core.Bool.{Bool, true, false, cond, not, _||_, true≢false}
 use mathlib.Core.Path.{_≡_, refl}
 use mathlib.Core.List.{List}
 use native.Mathlib.Omega.{arith}
 use lib.Dec.{ltb, leb, eqb}
 use borrow.Author.Tests.{ltb-false, leb-false, eqb-true, not-false}
+use Rattle.common.specs.Limits.{mostWords}
 use Rattle.runs.specs.Successors.{isSuccessor}
 use Rattle.graph.specs.Graph.{Graph}
 use Rattle.runs.specs.Instance.{graphOf}
-use Rattle.common.specs.Limits.{mostWords}
-use Rattle.runs.proofs.Tests.{neither}
 use Rattle.meter.specs.declared.step.Meter.{Meter}
 use Rattle.meter.specs.Feed.{isBegun, follows, isForeign, isStray}
+
+-- two tests that both fail
+neither : (t u : Bool) → t || u ≡ false → (t ≡ false) × (u ≡ false)
+neither true u e = absurd (true≢false e)
+neither false u e = (refl, e)
 
 small : (n last count : ℕ) (t : Bool) → cond t (leb n last || (eqb count 0 || ltb (last + 1) count)) (not (eqb last 0) || not (eqb count 0)) ≡ false → n ≤ mostWords → count ≤ mostWords
 small n last count true h k =

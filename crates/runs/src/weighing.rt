@@ -4,7 +4,9 @@ ghost use Prim.Native.Nat.{_≤_};
 ghost use lib.Dec.{ltb};
 ghost use lib.ListN.{length, getD};
 ghost use Rattle.fields.specs.Word.{opcodeOf};
-ghost use Rattle.runs.specs.Weights.{weightCount, heaviestWeight, lowestZero, refusesWeights, weightsPlace};
+ghost use Rattle.runs.specs.Weights.{weightCount, heaviestWeight, weightOf, lowestZero, refusesWeights, weightsPlace};
+
+use crate::successors::opcode_at;
 
 // A weight for each of the low seven bits.
 pub const WEIGHTS: usize = 128;
@@ -58,4 +60,15 @@ pub(crate) fn weigh(weights: &[u8], word: u32) -> u32
     ensures { λ r. ⌜ (r ≡ getD (now (weights .entry)) (opcodeOf word) 0) × (r ≤ heaviestWeight) ⌝ }
 {
     weights[(word % 128) as usize] as u32
+}
+
+// What word p weighs, 0 where the table is too short. What lies past the words weighs as word 0 would.
+pub fn weight_at(words: &[u32], weights: &[u8], p: usize) -> u32
+    ensures { λ r. ⌜ (r ≡ weightOf (now (words .entry)) (now (weights .entry)) p) × (r ≤ heaviestWeight) ⌝ }
+{
+    let i = opcode_at(words, p) as usize;
+    if i < weights.len() {
+        return weights[i] as u32;
+    }
+    0
 }
