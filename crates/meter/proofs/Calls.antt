@@ -94,7 +94,7 @@ module _ (s : Scale) (sound : Sound s) where
   -- One feed: the meter and the answer are the model's.
 
   abbrev Told : ℕ → Model → ℕ → Fed
-  Told start b q = record { meter = shows s start (fed g b q); number = answerTo g b q; place = 0 }
+  Told start b q = record { meter = shows s start (fed g b q); answer = record { number = answerTo g b q; place = 0 } }
 
   -- the first word weighs its own weight
   alone : (q : ℕ) → w q ≡ w q + 0

@@ -18,7 +18,7 @@ meterAfter s m (feed q ∷ cs) = meterAfter s (feedOf s m q .meter) cs
 abbrev pub meterAnswers : Scale → Meter → List Call → List ℕ
 meterAnswers s m [] = []
 meterAnswers s m (begin ∷ cs) = meterAnswers s (beginOf m) cs
-meterAnswers s m (feed q ∷ cs) = feedOf s m q .number ∷ meterAnswers s (feedOf s m q .meter) cs
+meterAnswers s m (feed q ∷ cs) = feedOf s m q .answer .number ∷ meterAnswers s (feedOf s m q .meter) cs
 
 -- "It starts from any meter after a begin." "That is a single claim about the list, and not one for each call."
 module _ (s : Scale) (m : Meter) (calls : List Call) where

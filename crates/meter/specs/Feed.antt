@@ -69,7 +69,7 @@ isStray g m q = leb (g .size) q || cond (isBegun m) (not (follows g (m .last) q)
 
 -- a number, a place, and the "meter unchanged"
 abbrev pub refusal : ℕ → ℕ → Meter → Fed
-refusal number place m = record { meter = m; number = number; place = place }
+refusal number place m = record { meter = m; answer = record { number = number; place = place } }
 
 -- "Checks run in this order": "a feed 1, 11, 10", and request C-17: 18 "after 1 in the meter"
 unfoldable pub feedOf : Scale → Meter → ℕ → Fed
@@ -82,4 +82,4 @@ feedOf s m q =
     (refuseIf (isForeign (s .graph .size) m) (refusal «FOREIGN_METER» 0 m)
     -- "fed word is n or more, or no step from the last, or the first is not 0"
     (refuseIf (isStray (s .graph) m q) (refusal «NO_STEP» 0 m)
-    (record { meter = movedTo s m q; number = «ACCEPTED»; place = 0 }))))
+    (record { meter = movedTo s m q; answer = record { number = «ACCEPTED»; place = 0 } }))))

@@ -1,6 +1,6 @@
 // Begin and feed by value: a meter goes in, a meter comes out.
 ghost use mathlib.Core.Path.{_≡_};
-ghost use Prim.Native.Nat.{_<_, _≤_};
+ghost use Prim.Native.Nat.{_*_, _<_, _≤_};
 ghost use lib.ListN.{length};
 ghost use Rattle.common.specs.Limits.{mostWords};
 ghost use Rattle.runs.specs.Instance.{graphOf};
@@ -8,17 +8,17 @@ ghost use Rattle.runs.specs.Weights.{heaviestWeight, weightOf};
 ghost use Rattle.meter.specs.Feed.{scaleOf, beginOf, oneService, movedTo, isForeign, isStray, refusal, feedOf};
 use common::limits::MOST_WORDS;
 
-// A feed's number has 32 bits, as C gets it.
+// A feed's number has 64 bits, as C gets it.
 
-const ACCEPTED: u32 = common::numbers::ACCEPTED as u32;
+const ACCEPTED: u64 = common::numbers::ACCEPTED as u64;
 
-const TOO_MANY_WORDS: u32 = common::numbers::TOO_MANY_WORDS as u32;
+const TOO_MANY_WORDS: u64 = common::numbers::TOO_MANY_WORDS as u64;
 
-const NO_STEP: u32 = common::numbers::NO_STEP as u32;
+const NO_STEP: u64 = common::numbers::NO_STEP as u64;
 
-const FOREIGN_METER: u32 = common::numbers::FOREIGN_METER as u32;
+const FOREIGN_METER: u64 = common::numbers::FOREIGN_METER as u64;
 
-const WEIGHTS_REFUSED: u32 = common::numbers::WEIGHTS_REFUSED as u32;
+const WEIGHTS_REFUSED: u64 = common::numbers::WEIGHTS_REFUSED as u64;
 
 // A meter's count is at most so much for each word up to the last (request C-17).
 const HEAVIEST: usize = 255;
@@ -37,11 +37,17 @@ pub struct Meter {
     pub services: u32,
 }
 
-// A meter after a feed, and the feed's number, 0 or the refusal's, and place.
+// "Each answer carries its number, 0 when accepted, and a place, 0 unless named.": what a feed answers, as C gets it.
+#[repr(C)]
+pub struct FeedAnswer {
+    pub number: u64,
+    pub place: u64,
+}
+
+// A meter after a feed, and the feed's answer.
 pub struct Fed {
     pub meter: Meter,
-    pub number: u32,
-    pub place: usize,
+    pub answer: FeedAnswer,
 }
 
 // Begin: not begun, 0, 0; the services stay.
@@ -138,13 +144,15 @@ fn moved(words: &[u32], weights: &[u8], m: Meter, q: usize) -> Meter
 }
 
 // A refusal leaves the meter as it was.
-fn refused(m: Meter, number: u32, place: usize) -> Fed
+fn refused(m: Meter, number: u64, place: usize) -> Fed
     ensures { λ r. ⌜ r ≡ refusal number place m ⌝ }
 {
     Fed {
         meter: m,
-        number,
-        place,
+        answer: FeedAnswer {
+            number,
+            place: place as u64,
+        },
     }
 }
 
@@ -167,7 +175,9 @@ pub fn feed_step(words: &[u32], weights: &[u8], m: Meter, q: usize) -> Fed
     let next = moved(words, weights, m, q);
     Fed {
         meter: next,
-        number: ACCEPTED,
-        place: 0,
+        answer: FeedAnswer {
+            number: ACCEPTED,
+            place: 0,
+        },
     }
 }
