@@ -38,8 +38,6 @@ abbrev pub «NO_WORDS» : ℕ
 abbrev pub «REACHES_INVALID» : ℕ
 «REACHES_INVALID» = 8
 
--- request C-13: 9 is never given, and "The number is not used again"
-
 -- "fed word is n or more, or no step from the last, or the first is not 0"
 abbrev pub «NO_STEP» : ℕ
 «NO_STEP» = 10

@@ -26,8 +26,6 @@ pub const NO_WORDS: u8 = 7;
 // A reachable bad word.
 pub const REACHES_INVALID: u8 = 8;
 
-// 9 is never given, and not used again (request C-13).
-
 // The fed word is n or more, or no step from the last, or the first is not 0.
 pub const NO_STEP: u8 = 10;
 

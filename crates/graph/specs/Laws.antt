@@ -7,7 +7,7 @@ use mathlib.Core.List.{List}
 use Prim.Native.Nat.{ℕ, zero, suc, _+_, _≤_, _<_, max}
 use lib.Dec.{eqb}
 use lib.ListN.{length, getD, set}
-use Rattle.common.specs.Lowest.{lowestFrom}
+use Rattle.common.specs.Lowest.{lowest}
 use Rattle.graph.specs.Graph.{Graph, In, member, Lawful, Along, Reachable, Segment}
 use Rattle.graph.specs.Marks.{markOf}
 use Rattle.graph.specs.Longest.{best, lengthOf, most, longest, first}
@@ -40,7 +40,7 @@ pub record Passing (g : Graph) (w : ℕ → ℕ) : Type 0 where
   pub longest-found : (f : ℕ → ℕ) → ((p : ℕ) → p < g .size → f p ≡ lengthOf g w p) → most f (g .size) ≡ longest g w
   pub first-found :
       (f : ℕ → ℕ) → ((p : ℕ) → p < g .size → f p ≡ lengthOf g w p)
-      → lowestFrom (λ p. eqb (f p) (longest g w)) 0 (g .size) ≡ first g w
+      → lowest (λ p. eqb (f p) (longest g w)) (g .size) ≡ first g w
 
 -- how many of the first k words are marked, each mark being 0 or 1
 unfoldable pub ones : ℕ → List ℕ → ℕ

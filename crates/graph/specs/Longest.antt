@@ -4,7 +4,7 @@ use mathlib.Core.Bool.{cond}
 use mathlib.Core.List.{List, [], _∷_}
 use Prim.Native.Nat.{ℕ, zero, suc, _+_, _-_, max}
 use lib.Dec.{eqb}
-use Rattle.common.specs.Lowest.{lowestFrom}
+use Rattle.common.specs.Lowest.{lowest}
 use Rattle.graph.specs.Graph.{Graph}
 use Rattle.graph.specs.Marks.{markOf}
 
@@ -37,4 +37,4 @@ longest g w = most (lengthOf g w) (g .size)
 
 -- "the lowest word at which an L-word stretch begins"
 unfoldable pub first : Graph → (ℕ → ℕ) → ℕ
-first g w = lowestFrom (λ p. eqb (lengthOf g w p) (longest g w)) 0 (g .size)
+first g w = lowest (λ p. eqb (lengthOf g w p) (longest g w)) (g .size)

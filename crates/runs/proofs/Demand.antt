@@ -1,7 +1,7 @@
 -- Demand 3, first half, of the definition that the contract of `longest_run` cites. Assumes nothing.
 use mathlib.Core.Path.{_≡_, refl, sym, subst, _∙_}
 use mathlib.Core.Logic.{_↔_, _⊎_, inl, inr, ⊎-elim}
-use mathlib.Core.Bool.{true, true≢false}
+use mathlib.Core.Bool.{Bool, true, false, _&&_, true≢false, false≢true}
 use mathlib.Core.List.{List, [], _∷_}
 use Prim.Native.Nat.{ℕ, _≤_, _<_}
 use native.Mathlib.Nat.{pos-of-ne-zero}
@@ -9,7 +9,8 @@ use native.Mathlib.Omega.{arith}
 use borrow.Author.Tests.{eqb-true, eq-eqb, lt-ltb, le-ltb}
 use lib.ListN.{length, getD}
 use Rattle.common.specs.Limits.{mostWords}
-use Rattle.common.specs.Lowest.{lowestFrom}
+use Rattle.common.specs.Numbers.{«NO_WORDS», «REACHES_INVALID»}
+use Rattle.common.specs.Lowest.{lowest}
 use Rattle.common.proofs.Order.{split, same-or-not}
 use Rattle.common.proofs.Lowest.{lowest-laws}
 use Rattle.graph.specs.Graph.{Graph, Reachable}
@@ -27,9 +28,13 @@ use Rattle.runs.specs.Run.{reachesInvalid, lowestInvalid, runOf}
 use Rattle.runs.specs.Weights.{heaviestWeight, weightOf, Weighs}
 use Rattle.runs.specs.Demand.{MeetsInvalidAt, MeetsInvalid, Passes, Demand}
 use Rattle.runs.proofs.Weights.{weight-laws}
-use Rattle.runs.proofs.Tests.{both}
-use Rattle.runs.proofs.Outcome.{run-7, run-words}
+use Rattle.runs.proofs.Outcome.{run-none, run-words}
 use Rattle.runs.proofs.Lawful.{lawful}
+
+-- two tests that both hold
+both : (t u : Bool) → t && u ≡ true → (t ≡ true) × (u ≡ true)
+both true u e = (refl, e)
+both false u e = absurd (false≢true e)
 
 module _ (ws weights : List ℕ) (weighs : Weighs weights) where
   abbrev graph : Graph
@@ -49,7 +54,7 @@ module _ (ws weights : List ℕ) (weighs : Weighs weights) where
   unfolding lowestInvalid
   met h =
       let e = both _ _ (lowest-laws .first (reachesInvalid ws) 0 (length ws) .holds (omega arith)) in
-      record { reachable = means .mark-one (lowestFrom (reachesInvalid ws) 0 (length ws)) h .0 (eqb-true _ _ (e .0)); invalid = e .1 }
+      record { reachable = means .mark-one (lowest (reachesInvalid ws) (length ws)) h .0 (eqb-true _ _ (e .0)); invalid = e .1 }
 
   least-met : (p : ℕ) → MeetsInvalidAt ws p → lowestInvalid ws ≤ p
   unfolding lowestInvalid
@@ -57,7 +62,7 @@ module _ (ws weights : List ℕ) (weighs : Weighs weights) where
       let y : reachesInvalid ws p ≡ true = simp (eq-eqb (markOf graph p) 1 (means .mark-one p (inside (m .reachable)) .1 (m .reachable)), m .invalid) in
       ⊎-elim (λ d. d)
       (λ d. absurd (true≢false (sym y ∙ lowest-laws .first (reachesInvalid ws) 0 (length ws) .not-before p (omega arith) d)))
-      (split (lowestFrom (reachesInvalid ws) 0 (length ws)) p)
+      (split (lowest (reachesInvalid ws) (length ws)) p)
 
   unmet : length ws ≤ lowestInvalid ws → MeetsInvalid ws → ⊥
   unmet h m = omega (arith, least-met (m .word) (m .met), inside (m .met .reachable))
@@ -74,7 +79,7 @@ module _ (ws weights : List ℕ) (weighs : Weighs weights) where
 
   -- Each number in turn.
 
-  none : length ws ≡ 0 → Demand ws weights (Refused 7 0)
+  none : length ws ≡ 0 → Demand ws weights (Refused «NO_WORDS» 0)
   none z =
       let unmet-here : MeetsInvalid ws → ⊥ = λ m. omega (arith, inside (m .met .reachable)) in
       record {
@@ -90,7 +95,7 @@ module _ (ws weights : List ℕ) (weighs : Weighs weights) where
         ceiling = omega arith;
       }
 
-  invalid : lowestInvalid ws < length ws → Demand ws weights (Refused 8 (lowestInvalid ws))
+  invalid : lowestInvalid ws < length ws → Demand ws weights (Refused «REACHES_INVALID» (lowestInvalid ws))
   invalid h =
       let m : MeetsInvalid ws = record { word = lowestInvalid ws; met = met h } in
       record {
@@ -128,7 +133,7 @@ module _ (ws weights : List ℕ) (weighs : Weighs weights) where
     pub demand : Demand ws weights (runOf ws weights a b)
     demand =
         ⊎-elim
-        (λ z. of-run (none z) (run-7 ws weights a b few h k (weighs .accepted) z))
+        (λ z. of-run (none z) (run-none ws weights a b few h k (weighs .accepted) z))
         (λ n. let some = pos-of-ne-zero n in let r = run-words ws weights a b few h k (weighs .accepted) some in
         ⊎-elim
         (λ valid. of-run (accepted some valid) (r ∙ simp (le-ltb (lowestInvalid ws) (length ws) valid)))

@@ -11,7 +11,6 @@ pub mod Moves
 pub mod Outcome
 pub mod Slices
 pub mod Steps
-pub mod Tests
 pub mod Turn
 pub mod Weights
 pub mod Words

@@ -8,6 +8,8 @@ use borrow.Author.Tests.{lt-ltb, le-ltb, eq-eqb, ne-eqb}
 use lib.Dec.{ltb, eqb}
 use lib.ListN.{length, drop}
 use Rattle.common.specs.Limits.{mostWords}
+use Rattle.common.specs.Numbers.{«TOO_MANY_WORDS», «SHORT_SLICE», «NO_WORDS», «REACHES_INVALID», «WEIGHTS_REFUSED»}
+use Rattle.common.specs.Chain.{refuseIf}
 use Rattle.common.specs.Lists.{tabulate, over}
 use Rattle.graph.specs.Marks.{markOf}
 use Rattle.graph.specs.Longest.{lengthOf, longest, first}
@@ -15,33 +17,33 @@ use Rattle.runs.specs.declared.longest.Run.{Run}
 use Rattle.runs.specs.declared.longest.Run.the-variants.{Accepted, Refused}
 use Rattle.runs.specs.Instance.{graphOf}
 use Rattle.runs.specs.Weights.{weightOf, refusesWeights, weightsPlace}
-use Rattle.runs.specs.Run.{numberOf, lowestInvalid, refuseRun, runOf, untouched, marksAfter, lengthsAfter}
+use Rattle.runs.specs.Run.{numberOf, lowestInvalid, runOf, untouched, marksAfter, lengthsAfter}
 use Rattle.runs.specs.Outcome.{decided, Decided}
 
 -- the checks before any word is read
 module _ (ws weights : List ℕ) (a b : ℕ) where
-  pub run-1 : mostWords < length ws → runOf ws weights a b ≡ Refused 1 0
+  pub run-many : mostWords < length ws → runOf ws weights a b ≡ Refused «TOO_MANY_WORDS» 0
   unfolding runOf
-  run-1 h = simp (lt-ltb mostWords (length ws) h)
+  run-many h = simp (lt-ltb mostWords (length ws) h)
 
   module _ (few : length ws ≤ mostWords) where
-    pub run-6-marks : a < length ws → runOf ws weights a b ≡ Refused 6 0
+    pub run-short-marks : a < length ws → runOf ws weights a b ≡ Refused «SHORT_SLICE» 0
     unfolding runOf
-    run-6-marks h = simp (le-ltb mostWords (length ws) few, lt-ltb a (length ws) h)
+    run-short-marks h = simp (le-ltb mostWords (length ws) few, lt-ltb a (length ws) h)
 
-    pub run-6-lengths : b < length ws → runOf ws weights a b ≡ Refused 6 0
+    pub run-short-lengths : b < length ws → runOf ws weights a b ≡ Refused «SHORT_SLICE» 0
     unfolding runOf
-    run-6-lengths h = simp (le-ltb mostWords (length ws) few, lt-ltb b (length ws) h, or-true (ltb a (length ws)))
+    run-short-lengths h = simp (le-ltb mostWords (length ws) few, lt-ltb b (length ws) h, or-true (ltb a (length ws)))
 
     module _ (h : length ws ≤ a) (k : length ws ≤ b) where
-      pub run-18 : refusesWeights weights ≡ true → runOf ws weights a b ≡ Refused 18 (weightsPlace weights)
+      pub run-weights : refusesWeights weights ≡ true → runOf ws weights a b ≡ Refused «WEIGHTS_REFUSED» (weightsPlace weights)
       unfolding runOf
-      run-18 e = simp (le-ltb mostWords (length ws) few, le-ltb a (length ws) h, le-ltb b (length ws) k, e)
+      run-weights e = simp (le-ltb mostWords (length ws) few, le-ltb a (length ws) h, le-ltb b (length ws) k, e)
 
       module _ (weighed : refusesWeights weights ≡ false) where
-        pub run-7 : length ws ≡ 0 → runOf ws weights a b ≡ Refused 7 0
+        pub run-none : length ws ≡ 0 → runOf ws weights a b ≡ Refused «NO_WORDS» 0
         unfolding runOf
-        run-7 z = simp (le-ltb mostWords (length ws) few, le-ltb a (length ws) h, le-ltb b (length ws) k, weighed, eq-eqb (length ws) 0 z)
+        run-none z = simp (le-ltb mostWords (length ws) few, le-ltb a (length ws) h, le-ltb b (length ws) k, weighed, eq-eqb (length ws) 0 z)
 
         -- the checks after the search
         pub run-words : 0 < length ws → runOf ws weights a b ≡ decided ws weights
@@ -58,23 +60,23 @@ module _ (ws weights m l : List ℕ) where
   outcome-kept number e u = (sym e, (simp (e, u), simp (e, u)))
 
   -- number 18 names a place
-  pub outcome-18 : {place : ℕ} → place ≡ weightsPlace weights → runOf ws weights (length m) (length l) ≡ Refused 18 (weightsPlace weights) → Outcome (Refused 18 place) m l
-  outcome-18 {place} e r = outcome-kept 18 (r ∙ ap (Refused 18) (sym e)) refl
+  pub outcome-weights : {place : ℕ} → place ≡ weightsPlace weights → runOf ws weights (length m) (length l) ≡ Refused «WEIGHTS_REFUSED» (weightsPlace weights) → Outcome (Refused «WEIGHTS_REFUSED» place) m l
+  outcome-weights {place} e r = outcome-kept «WEIGHTS_REFUSED» (r ∙ ap (Refused «WEIGHTS_REFUSED») (sym e)) refl
 
 -- the outcome of words that pass the checks of their number and of the slices
 module _ (ws weights : List ℕ) {m l : List ℕ} (marks : m ≡ tabulate (markOf (graphOf ws)) 0 (length ws)) where
-  pub decided-8 : {p : ℕ} → p ≡ lowestInvalid ws → p < length ws → l ≡ tabulate (λ p. 0) 0 (length ws) → Decided ws weights (Refused 8 p) m l
-  decided-8 {p} q h e = record { answer = simp (← q, lt-ltb p (length ws) h); marks = marks; lengths = e }
+  pub decided-invalid : {p : ℕ} → p ≡ lowestInvalid ws → p < length ws → l ≡ tabulate (λ p. 0) 0 (length ws) → Decided ws weights (Refused «REACHES_INVALID» p) m l
+  decided-invalid {p} q h e = record { answer = simp (← q, lt-ltb p (length ws) h); marks = marks; lengths = e }
 
   module _ (valid : length ws ≤ lowestInvalid ws) where
-    pub decided-0 : {v a : ℕ} → v ≡ longest (graphOf ws) (weightOf ws weights) → a ≡ first (graphOf ws) (weightOf ws weights) → l ≡ tabulate (lengthOf (graphOf ws) (weightOf ws weights)) 0 (length ws) → Decided ws weights (Accepted v a) m l
-    decided-0 {v} {a} q f e = record { answer = simp (le-ltb _ _ valid, ← q, ← f); marks = marks; lengths = e }
+    pub decided-accepted : {v a : ℕ} → v ≡ longest (graphOf ws) (weightOf ws weights) → a ≡ first (graphOf ws) (weightOf ws weights) → l ≡ tabulate (lengthOf (graphOf ws) (weightOf ws weights)) 0 (length ws) → Decided ws weights (Accepted v a) m l
+    decided-accepted {v} {a} q f e = record { answer = simp (le-ltb _ _ valid, ← q, ← f); marks = marks; lengths = e }
 
 -- and of the slices whose first parts they were lent
 decided-touches : (ws weights : List ℕ) → untouched (numberOf (decided ws weights)) ≡ false
 decided-touches ws weights = go (ltb (lowestInvalid ws) (length ws))
   where
-    go : (a : Bool) → untouched (numberOf (refuseRun a 8 (lowestInvalid ws) (Accepted (longest (graphOf ws) (weightOf ws weights)) (first (graphOf ws) (weightOf ws weights))))) ≡ false
+    go : (a : Bool) → untouched (numberOf (refuseIf a (Refused «REACHES_INVALID» (lowestInvalid ws)) (Accepted (longest (graphOf ws) (weightOf ws weights)) (first (graphOf ws) (weightOf ws weights))))) ≡ false
     go true = refl
     go false = refl
 

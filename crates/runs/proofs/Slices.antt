@@ -8,6 +8,7 @@ use native.Mathlib.Omega.{arith}
 use borrow.Author.Tests.{ne-eqb}
 use lib.ListN.{length, getD}
 use Rattle.common.specs.Limits.{mostWords}
+use Rattle.common.specs.Numbers.{«ACCEPTED», «REACHES_INVALID»}
 use Rattle.common.specs.Lists.{over}
 use Rattle.common.proofs.Order.{split}
 use Rattle.common.proofs.Over.{over-laws}
@@ -21,7 +22,7 @@ use Rattle.runs.specs.Run.{numberOf, runOf, untouched, numberIs, marksAf
 use Rattle.runs.specs.Demand.{Passes}
 use Rattle.runs.specs.Slices.{Kept, ReachableMarks, SegmentLengths, ZeroLengths, RefusedLate, RefusedEarly, Slices}
 use Rattle.runs.specs.Laws.{Enough}
-use Rattle.runs.proofs.Outcome.{run-1, run-6-marks, run-6-lengths, run-18}
+use Rattle.runs.proofs.Outcome.{run-many, run-short-marks, run-short-lengths, run-weights}
 use Rattle.runs.proofs.Demand.{means, inside, starts}
 
 -- A number that is given after the search: the checks of the sizes were passed.
@@ -31,22 +32,22 @@ module _ (ws weights : List ℕ) (a b : ℕ) (looked : untouched (numberOf (runO
   never e u = true≢false (sym u ∙ (sym (ap (λ (r : Run). untouched (numberOf r)) e) ∙ looked))
 
   few : length ws ≤ mostWords
-  few = ⊎-elim (λ d. d) (λ d. absurd (never (run-1 ws weights a b d) refl)) (split (length ws) mostWords)
+  few = ⊎-elim (λ d. d) (λ d. absurd (never (run-many ws weights a b d) refl)) (split (length ws) mostWords)
 
   marks-enough : length ws ≤ a
-  marks-enough = ⊎-elim (λ d. d) (λ d. absurd (never (run-6-marks ws weights a b few d) refl)) (split (length ws) a)
+  marks-enough = ⊎-elim (λ d. d) (λ d. absurd (never (run-short-marks ws weights a b few d) refl)) (split (length ws) a)
 
   lengths-enough : length ws ≤ b
-  lengths-enough = ⊎-elim (λ d. d) (λ d. absurd (never (run-6-lengths ws weights a b few d) refl)) (split (length ws) b)
+  lengths-enough = ⊎-elim (λ d. d) (λ d. absurd (never (run-short-lengths ws weights a b few d) refl)) (split (length ws) b)
 
   weighed : (t : Bool) → refusesWeights weights ≡ t → refusesWeights weights ≡ false
-  weighed true e = absurd (never (run-18 ws weights a b few marks-enough lengths-enough e) refl)
+  weighed true e = absurd (never (run-weights ws weights a b few marks-enough lengths-enough e) refl)
   weighed false e = e
 
   pub enough-looked : Enough (length ws) weights a b
   enough-looked = record { few = few; marks-long = marks-enough; lengths-long = lengths-enough; weighed = weighed (refusesWeights weights) refl }
 
-pub enough : (ws weights : List ℕ) (a b : ℕ) → numberOf (runOf ws weights a b) ≡ 0 → Enough (length ws) weights a b
+pub enough : (ws weights : List ℕ) (a b : ℕ) → numberOf (runOf ws weights a b) ≡ «ACCEPTED» → Enough (length ws) weights a b
 enough ws weights a b e = enough-looked ws weights a b (ap untouched e)
 
 -- The lists by themselves.
@@ -104,13 +105,13 @@ module _ (ws weights : List ℕ) (bytes : (i : ℕ) → getD weights i 0 ≤ hea
   late e = ap untouched e
 
   early : RefusedEarly ws weights m l → untouched number ≡ true
-  early n = rw (ne-eqb number 0 (n .0), ne-eqb number 8 (n .1))
+  early n = rw (ne-eqb number «ACCEPTED» (n .0), ne-eqb number «REACHES_INVALID» (n .1))
 
   marks-are : untouched number ≡ false → ReachableMarks ws m (marksAfter ws weights m l)
   unfolding marksAfter
   marks-are u = let e = enough-looked ws weights (length m) (length l) u in rw u (marked ws weights (weighs-of e) m (e .marks-long))
 
-  lengths-are : number ≡ 0 → SegmentLengths ws weights l (lengthsAfter ws weights m l)
+  lengths-are : number ≡ «ACCEPTED» → SegmentLengths ws weights l (lengthsAfter ws weights m l)
   unfolding lengthsAfter
   lengths-are z = let e = enough ws weights (length m) (length l) z in rw z (measured ws weights (weighs-of e) l (e .lengths-long))
 

@@ -13,7 +13,11 @@ use Rattle.common.proofs.Lowest.{lowest-laws}
 use Rattle.common.proofs.Order.{split, same-or-not}
 use Rattle.fields.specs.Word.{opcodeOf}
 use Rattle.runs.specs.Weights.{weightCount, weightOf, isZeroAt, lowestZero, refusesWeights, weightsPlace, Weighing, WeightLaws}
-use Rattle.runs.proofs.Tests.{neither}
+
+-- two tests that both fail
+neither : (t u : Bool) → t || u ≡ false → (t ≡ false) × (u ≡ false)
+neither true u e = absurd (true≢false e)
+neither false u e = (refl, e)
 
 -- one of the first i weights is 0
 pub record Zeros (weights : List ℕ) (i : ℕ) (zero : Bool) : Type 0 where

@@ -8,6 +8,7 @@ use mathlib.Core.Bool.{true}
 use mathlib.Core.List.{List, _∷_}
 use Prim.Native.Nat.{ℕ, _*_, _≤_, _<_}
 use lib.ListN.{length}
+use Rattle.common.specs.Numbers.{«ACCEPTED», «NO_WORDS», «REACHES_INVALID»}
 use Rattle.graph.specs.Graph.{Reachable, Segment, weigh}
 use Rattle.runs.specs.declared.longest.Run.{Run}
 use Rattle.runs.specs.Steps.{isInvalid}
@@ -36,21 +37,21 @@ pub record Passes (ws weights : List ℕ) (p k : ℕ) : Type 0 where
 -- r is the answer. Request C-17: "No run is refused for its length: demand 3 loses that ground and supposes weights that 18 accepts"
 pub record Demand (ws weights : List ℕ) (r : Run) : Type 0 where
   -- "it is refused exactly if it has no words, some course meets a bad word"
-  pub refused : (0 < numberOf r) ↔ ((length ws ≡ 0) ⊎ MeetsInvalid ws)
+  pub refused : («ACCEPTED» < numberOf r) ↔ ((length ws ≡ 0) ⊎ MeetsInvalid ws)
   -- "Checks run in this order": "no words"
-  pub seven : (numberOf r ≡ 7) ↔ (length ws ≡ 0)
+  pub seven : (numberOf r ≡ «NO_WORDS») ↔ (length ws ≡ 0)
   -- "a reachable bad word"; where there are no words, none is met
-  pub eight : (numberOf r ≡ 8) ↔ MeetsInvalid ws
+  pub eight : (numberOf r ≡ «REACHES_INVALID») ↔ MeetsInvalid ws
   -- number 8's "place: the lowest"
-  pub place : numberOf r ≡ 8 → MeetsInvalidAt ws (placeOf r)
-  pub place-lowest : numberOf r ≡ 8 → (p : ℕ) → MeetsInvalidAt ws p → placeOf r ≤ p
+  pub place : numberOf r ≡ «REACHES_INVALID» → MeetsInvalidAt ws (placeOf r)
+  pub place-lowest : numberOf r ≡ «REACHES_INVALID» → (p : ℕ) → MeetsInvalidAt ws p → placeOf r ≤ p
   -- "a place, 0 unless named"
-  pub no-place : (numberOf r ≡ 8 → ⊥) → placeOf r ≡ 0
+  pub no-place : (numberOf r ≡ «REACHES_INVALID» → ⊥) → placeOf r ≡ 0
   -- "If accepted, no course passes more than [weight] L without a service between them"
-  pub bounded : numberOf r ≡ 0 → (p k : ℕ) → Passes ws weights p k → k ≤ longestOf r
+  pub bounded : numberOf r ≡ «ACCEPTED» → (p k : ℕ) → Passes ws weights p k → k ≤ longestOf r
   -- "and some course passes exactly L"
-  pub reached : numberOf r ≡ 0 → Passes ws weights (firstOf r) (longestOf r)
+  pub reached : numberOf r ≡ «ACCEPTED» → Passes ws weights (firstOf r) (longestOf r)
   -- "and the lowest word at which [a stretch of weight L] begins"
-  pub first-lowest : numberOf r ≡ 0 → (p : ℕ) → Passes ws weights p (longestOf r) → firstOf r ≤ p
+  pub first-lowest : numberOf r ≡ «ACCEPTED» → (p : ℕ) → Passes ws weights p (longestOf r) → firstOf r ≤ p
   -- request C-13, "L cannot pass the number of words", each of which weighs 255 at most: 32 bits hold L
   pub ceiling : longestOf r ≤ heaviestWeight * length ws

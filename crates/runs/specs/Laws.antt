@@ -6,6 +6,7 @@ use mathlib.Core.Bool.{false}
 use mathlib.Core.List.{List}
 use lib.ListN.{length, getD}
 use Rattle.common.specs.Limits.{mostWords}
+use Rattle.common.specs.Numbers.{«ACCEPTED»}
 use Rattle.graph.specs.Graph.{Lawful}
 use Rattle.runs.specs.Steps.{Below, servesOf}
 use Rattle.runs.specs.Successors.{successorsOf}
@@ -35,7 +36,7 @@ pub record Laws : Type 0 where
   pub agreement : Agreement
   -- an accepted run passed the checks of the sizes
   pub enough :
-      (ws weights : List ℕ) (marks lengths : ℕ) → numberOf (runOf ws weights marks lengths) ≡ 0 → Enough (length ws) weights marks lengths
+      (ws weights : List ℕ) (marks lengths : ℕ) → numberOf (runOf ws weights marks lengths) ≡ «ACCEPTED» → Enough (length ws) weights marks lengths
   -- demand 3, first half
   pub demand :
       (ws weights : List ℕ) (marks lengths : ℕ) → Enough (length ws) weights marks lengths

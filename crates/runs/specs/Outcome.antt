@@ -7,19 +7,21 @@ use mathlib.Core.List.{List}
 use Prim.Native.Nat.{ℕ}
 use lib.Dec.{ltb, eqb}
 use lib.ListN.{length}
+use Rattle.common.specs.Numbers.{«ACCEPTED», «REACHES_INVALID»}
+use Rattle.common.specs.Chain.{refuseIf}
 use Rattle.common.specs.Lists.{tabulate}
 use Rattle.graph.specs.Marks.{markOf}
 use Rattle.graph.specs.Longest.{lengthOf, longest, first}
 use Rattle.runs.specs.declared.longest.Run.{Run}
-use Rattle.runs.specs.declared.longest.Run.the-variants.{Accepted}
+use Rattle.runs.specs.declared.longest.Run.the-variants.{Accepted, Refused}
 use Rattle.runs.specs.Instance.{graphOf}
 use Rattle.runs.specs.Weights.{weightOf}
-use Rattle.runs.specs.Run.{numberOf, refuseRun, lowestInvalid}
+use Rattle.runs.specs.Run.{numberOf, lowestInvalid}
 
 -- what the checks after the search say
 abbrev pub decided : List ℕ → List ℕ → Run
 decided ws weights =
-    refuseRun (ltb (lowestInvalid ws) (length ws)) 8 (lowestInvalid ws)
+    refuseIf (ltb (lowestInvalid ws) (length ws)) (Refused «REACHES_INVALID» (lowestInvalid ws))
     (Accepted (longest (graphOf ws) (weightOf ws weights)) (first (graphOf ws) (weightOf ws weights)))
 
 -- the answer, and what the marks m and the lengths l hold
@@ -28,6 +30,6 @@ pub record Decided (ws weights : List ℕ) (r : Run) (m l : List ℕ) : Type 0 w
   pub marks : m ≡ tabulate (markOf (graphOf ws)) 0 (length ws)
   pub lengths :
       l
-      ≡ cond (eqb (numberOf r) 0)
+      ≡ cond (eqb (numberOf r) «ACCEPTED»)
       (tabulate (lengthOf (graphOf ws) (weightOf ws weights)) 0 (length ws))
       (tabulate (λ p. 0) 0 (length ws))

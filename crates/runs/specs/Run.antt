@@ -6,8 +6,10 @@ use Prim.Native.Nat.{ℕ}
 use lib.Dec.{ltb, eqb}
 use lib.ListN.{length}
 use Rattle.common.specs.Limits.{mostWords}
+use Rattle.common.specs.Numbers.{«ACCEPTED», «TOO_MANY_WORDS», «SHORT_SLICE», «NO_WORDS», «REACHES_INVALID», «WEIGHTS_REFUSED»}
+use Rattle.common.specs.Chain.{refuseIf}
 use Rattle.common.specs.Lists.{over}
-use Rattle.common.specs.Lowest.{lowestFrom}
+use Rattle.common.specs.Lowest.{lowest}
 use Rattle.graph.specs.Marks.{markOf}
 use Rattle.graph.specs.Longest.{lengthOf, longest, first}
 use Rattle.runs.specs.declared.longest.Run.{Run}
@@ -19,7 +21,7 @@ use Rattle.runs.specs.Weights.{weightOf, refusesWeights, weightsPlace}
 
 -- "Each answer carries its number, 0 when accepted, and a place, 0 unless named. On refusal L and its first word are 0."
 abbrev pub numberOf : Run → ℕ
-numberOf (Accepted l f) = 0
+numberOf (Accepted l f) = «ACCEPTED»
 numberOf (Refused k p) = k
 
 abbrev pub placeOf : Run → ℕ
@@ -41,30 +43,26 @@ reachesInvalid ws p = eqb (markOf (graphOf ws) p) 1 && isInvalid (successorsOf w
 
 -- "place: the lowest"; n if there is none
 unfoldable pub lowestInvalid : List ℕ → ℕ
-lowestInvalid ws = lowestFrom (reachesInvalid ws) 0 (length ws)
-
--- where the test holds, a refusal with its number and place; else what the later checks say
-abbrev pub refuseRun : Bool → ℕ → ℕ → Run → Run
-refuseRun t number place later = cond t (Refused number place) later
+lowestInvalid ws = lowest (reachesInvalid ws) (length ws)
 
 -- "Checks run in this order": of the words, the weights, and the lengths of the marks slice and the lengths slice
 unfoldable pub runOf : List ℕ → List ℕ → ℕ → ℕ → Run
 runOf ws weights marks lengths =
     -- "more than 32,768 words"
-    refuseRun (ltb mostWords (length ws)) 1 0
+    refuseIf (ltb mostWords (length ws)) (Refused «TOO_MANY_WORDS» 0)
     -- "a lent result slice shorter than the words"
-    (refuseRun (ltb marks (length ws) || ltb lengths (length ws)) 6 0
+    (refuseIf (ltb marks (length ws) || ltb lengths (length ws)) (Refused «SHORT_SLICE» 0)
     -- request C-17: "18 a weight count other than 128, or a weight of 0, checked after 6"
-    (refuseRun (refusesWeights weights) 18 (weightsPlace weights)
+    (refuseIf (refusesWeights weights) (Refused «WEIGHTS_REFUSED» (weightsPlace weights))
     -- "no words"
-    (refuseRun (eqb (length ws) 0) 7 0
+    (refuseIf (eqb (length ws) 0) (Refused «NO_WORDS» 0)
     -- "a reachable bad word; place: the lowest"
-    (refuseRun (ltb (lowestInvalid ws) (length ws)) 8 (lowestInvalid ws)
+    (refuseIf (ltb (lowestInvalid ws) (length ws)) (Refused «REACHES_INVALID» (lowestInvalid ws))
     (Accepted (longest (graphOf ws) (weightOf ws weights)) (first (graphOf ws) (weightOf ws weights)))))))
 
--- "Nothing lent is altered, except that 8 .. leave[s] the reachable marks and n zero lengths." 0 is acceptance
+-- "Nothing lent is altered, except that 8 .. leave[s] the reachable marks and n zero lengths."
 abbrev pub untouched : ℕ → Bool
-untouched number = not (eqb number 0 || eqb number 8)
+untouched number = not (eqb number «ACCEPTED» || eqb number «REACHES_INVALID»)
 
 module _ (ws weights marks lengths : List ℕ) where
   abbrev pub numberIs : ℕ
@@ -78,4 +76,4 @@ module _ (ws weights marks lengths : List ℕ) where
   unfoldable pub lengthsAfter : List ℕ
   lengthsAfter =
       cond (untouched numberIs) lengths
-      (cond (eqb numberIs 0) (over (lengthOf (graphOf ws) (weightOf ws weights)) (length ws) lengths) (over (λ p. 0) (length ws) lengths))
+      (cond (eqb numberIs «ACCEPTED») (over (lengthOf (graphOf ws) (weightOf ws weights)) (length ws) lengths) (over (λ p. 0) (length ws) lengths))

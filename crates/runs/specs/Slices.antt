@@ -7,6 +7,7 @@ use mathlib.Core.Logic.{_↔_}
 use mathlib.Core.List.{List}
 use Prim.Native.Nat.{ℕ, _≤_, _<_}
 use lib.ListN.{length, getD, drop}
+use Rattle.common.specs.Numbers.{«ACCEPTED», «REACHES_INVALID»}
 use Rattle.graph.specs.Graph.{Reachable}
 use Rattle.runs.specs.Instance.{graphOf}
 use Rattle.runs.specs.Run.{numberIs, marksAfter, lengthsAfter}
@@ -39,16 +40,16 @@ pub record ZeroLengths (ws before after : List ℕ) : Type 0 where
 module _ (ws weights marks lengths : List ℕ) where
   -- the number that is given after the search
   abbrev pub RefusedLate : Type 0
-  RefusedLate = numberIs ws weights marks lengths ≡ 8
+  RefusedLate = numberIs ws weights marks lengths ≡ «REACHES_INVALID»
 
   -- the numbers that are given before it: neither acceptance nor that one
   abbrev pub RefusedEarly : Type 0
-  RefusedEarly = (numberIs ws weights marks lengths ≡ 0 → ⊥) × (RefusedLate → ⊥)
+  RefusedEarly = (numberIs ws weights marks lengths ≡ «ACCEPTED» → ⊥) × (RefusedLate → ⊥)
 
   pub record Slices : Type 0 where
     -- an accepted run
-    pub marks-accepted : numberIs ws weights marks lengths ≡ 0 → ReachableMarks ws marks (marksAfter ws weights marks lengths)
-    pub lengths-accepted : numberIs ws weights marks lengths ≡ 0 → SegmentLengths ws weights lengths (lengthsAfter ws weights marks lengths)
+    pub marks-accepted : numberIs ws weights marks lengths ≡ «ACCEPTED» → ReachableMarks ws marks (marksAfter ws weights marks lengths)
+    pub lengths-accepted : numberIs ws weights marks lengths ≡ «ACCEPTED» → SegmentLengths ws weights lengths (lengthsAfter ws weights marks lengths)
     -- "8 .. leave[s] the reachable marks and n zero lengths"
     pub marks-late : RefusedLate → ReachableMarks ws marks (marksAfter ws weights marks lengths)
     pub lengths-late : RefusedLate → ZeroLengths ws lengths (lengthsAfter ws weights marks lengths)

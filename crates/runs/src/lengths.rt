@@ -6,7 +6,7 @@ ghost use mathlib.Core.List.{_++_};
 ghost use Prim.Native.Nat.{_≤_, _<_};
 ghost use lib.Dec.{eqb};
 ghost use lib.ListN.{length, getD, drop, replicate};
-ghost use Rattle.common.specs.Lowest.{lowestFrom};
+ghost use Rattle.common.specs.Lowest.{lowest};
 ghost use Rattle.graph.specs.Longest.{most};
 ghost use Rattle.runs.specs.Steps.{servesOf};
 ghost use Rattle.runs.specs.Weights.{weightCount, heaviestWeight, weightOf};
@@ -135,7 +135,7 @@ pub(crate) fn find_longest(lengths: &[u32], n: usize) -> u32
 // Where a length stands first among n, or n.
 pub(crate) fn find_first(lengths: &[u32], n: usize, sought: u32) -> usize
     requires { ⌜ n ≤ length (now lengths) ⌝ }
-    ensures { λ r. ⌜ r ≡ lowestFrom (λ p. eqb (at (now (lengths .entry)) p) sought) 0 n ⌝ }
+    ensures { λ r. ⌜ r ≡ lowest (λ p. eqb (at (now (lengths .entry)) p) sought) n ⌝ }
 {
     let mut i = 0;
     while i < n {

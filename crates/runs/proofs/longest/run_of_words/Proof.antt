@@ -24,7 +24,7 @@ use Rattle.runs.specs.PassInvariants.{Lengths, FillAsks, at}
 use Rattle.runs.proofs.Entries.{carries}
 use Rattle.runs.proofs.Held.{held-of, held-on}
 use Rattle.runs.proofs.Lawful.{lawful}
-use Rattle.runs.proofs.Outcome.{decided-8, decided-0}
+use Rattle.runs.proofs.Outcome.{decided-invalid, decided-accepted}
 use Rattle.runs.proofs.longest.run_of_words.Statement.{statement}
 use Rattle.runs.proofs.longest.run_of_words.Tie as tie
 
@@ -120,14 +120,14 @@ returns : tie.Need-returns
 returns c =
     let k = c .before .before in
     let f = k .before .before .before .before .before in
-    decided-8 (ws f) (weights (settled (sought f))) (marks-are (sought f)) (lowest f) (k .before .before .if1 .taken) (cleared f (k .clear-lengths .ensures))
+    decided-invalid (ws f) (weights (settled (sought f))) (marks-are (sought f)) (lowest f) (k .before .before .if1 .taken) (cleared f (k .clear-lengths .ensures))
 
 returns-2 : tie.Need-returns-2
 returns-2 c =
     let h = c .before .before in
     let f = fill h in
     let first-is = c .find-first .ensures ∙ ap (λ (v : ℕ). lowestFrom (λ p. eqb (at (filled f) p) v) 0 (length (ws f))) (found h) ∙ passing f .first-found (at (filled f)) (each f) in
-    decided-0 (ws f) (weights (settled (sought f))) (marks-are (sought f)) (valid h) (found h) first-is
+    decided-accepted (ws f) (weights (settled (sought f))) (marks-are (sought f)) (valid h) (found h) first-is
     (over-laws .whole (lengthOf (graphOf (ws f)) (w f)) (length (ws f)) (filled f) (filled-length f) (each f))
 
 pub run-of-words-spec : {M : Type 1} → statement M
