@@ -39,7 +39,14 @@ struct Measured {
 
 // Word p, of this weight, measured, where the words above it are, `above` is the length of the next, and `invalid` the lowest invalid one among them.
 // The next word's length is handed on, so that a turn need not wait for what the one before it stored.
-fn measure(marks: &[u8], lengths: &[u32], p: usize, weight: u32, above: u32, invalid: usize) -> Measured
+fn measure(
+    marks: &[u8],
+    lengths: &[u32],
+    p: usize,
+    weight: u32,
+    above: u32,
+    invalid: usize,
+) -> Measured
     requires { ⌜ Measuring mostWeight (now marks) (now lengths) p above × (weight ≤ heaviestWeight) ⌝ }
     ensures { λ r. ⌜ Measures (λ _. weight) (now (marks .entry)) (now (lengths .entry)) p invalid (r .length) (r .invalid) ⌝ }
 {
@@ -86,7 +93,12 @@ fn measure(marks: &[u8], lengths: &[u32], p: usize, weight: u32, above: u32, inv
 }
 
 // The length of each word, where its entry stood. The lowest reachable invalid word, or the number of words.
-pub(crate) fn fill_lengths(words: &[u32], weights: &[u8], marks: &[u8], lengths: &mut [u32]) -> usize
+pub(crate) fn fill_lengths(
+    words: &[u32],
+    weights: &[u8],
+    marks: &[u8],
+    lengths: &mut [u32],
+) -> usize
     requires { ⌜ FillAsks (now marks) (now lengths) × (length (now words) ≡ length (now lengths)) × (length (now weights) ≡ weightCount) ⌝ }
     ensures { λ r. ⌜ Fills (weightOf (now (words .entry)) (now (weights .entry))) (now (lengths .entry)) (now (lengths .exit)) r ⌝ }
 {

@@ -5,7 +5,6 @@ ghost use lib.Dec.{ltb};
 ghost use lib.ListN.{length, getD};
 ghost use Rattle.fields.specs.Word.{opcodeOf};
 ghost use Rattle.runs.specs.Weights.{weightCount, heaviestWeight, weightOf, lowestZero, refusesWeights, weightsPlace};
-
 use crate::successors::opcode_at;
 
 // A weight for each of the low seven bits.

@@ -24,9 +24,10 @@ returns-2 c =
 
 loop-again : tie.Need-loop-again Inv-loop μ-loop
 loop-again c =
-    let l = c .before .before .before in
-    (omega (arith, c .before .before .loop-test .taken),
-    sym (lowest-laws .miss (isZeroAt (l .before .before .args .weights .now)) weightCount (l .loop .i) (c .before .before .loop-test .taken) (ne-eqb _ 0 (c .if2 .left))) ∙ l .loop .inv .1)
+    let l = c .before .before .before in (
+      omega (arith, c .before .before .loop-test .taken),
+      sym (lowest-laws .miss (isZeroAt (l .before .before .args .weights .now)) weightCount (l .loop .i) (c .before .before .loop-test .taken) (ne-eqb _ 0 (c .if2 .left))) ∙ l .loop .inv .1,
+    )
 
 returns-3 : tie.Need-returns-3 Inv-loop μ-loop
 returns-3 c =
