@@ -16,7 +16,7 @@ use Rattle.meter.specs.declared.step.Meter.{Meter}
 use Rattle.meter.specs.Feed.{isBegun, follows, isForeign, isStray}
 
 -- two tests that both fail
-neither : (t u : Bool) → t || u ≡ false → (t ≡ false) × (u ≡ false)
+pub neither : (t u : Bool) → t || u ≡ false → (t ≡ false) × (u ≡ false)
 neither true u e = absurd (true≢false e)
 neither false u e = (refl, e)
 

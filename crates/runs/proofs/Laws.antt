@@ -4,7 +4,7 @@ use Rattle.runs.proofs.Steps.{forward}
 use Rattle.runs.proofs.Words.{below}
 use Rattle.runs.proofs.Lawful.{lawful}
 use Rattle.runs.proofs.Lvm.{agreement-holds}
-use Rattle.runs.proofs.Counted.{earlier-run}
+use Rattle.runs.proofs.Counted.{earlier-run, ones-accepted, ones-weigh}
 use Rattle.runs.proofs.Demand.{demand}
 use Rattle.runs.proofs.Slices.{enough, slices}
 use Rattle.runs.proofs.Weights.{weight-laws}
@@ -20,5 +20,7 @@ laws =
       demand = λ ws weights a b e bytes. demand ws weights (record { accepted = e .weighed; bytes = bytes }) a b (e .few) (e .marks-long) (e .lengths-long);
       slices = slices;
       earlier-run = earlier-run;
+      ones-accepted = ones-accepted;
+      ones-weigh = ones-weigh;
       weights = weight-laws;
     }

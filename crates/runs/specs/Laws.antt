@@ -8,13 +8,13 @@ use lib.ListN.{length, getD}
 use Rattle.common.specs.Limits.{mostWords}
 use Rattle.common.specs.Numbers.{«ACCEPTED»}
 use Rattle.graph.specs.Graph.{Lawful}
-use Rattle.runs.specs.Steps.{Below, servesOf}
+use Rattle.runs.specs.Steps.{Below, servesOf, unitWeight}
 use Rattle.runs.specs.Successors.{successorsOf}
 use Rattle.runs.specs.Lvm.{Agreement}
 use Rattle.runs.specs.Instance.{graphOf}
 use Rattle.runs.specs.Run.{runOf, numberOf}
-use Rattle.runs.specs.Weights.{heaviestWeight, refusesWeights, WeightLaws}
-use Rattle.runs.specs.Counted.{EarlierRun}
+use Rattle.runs.specs.Weights.{heaviestWeight, weightOf, refusesWeights, WeightLaws}
+use Rattle.runs.specs.Counted.{ones, EarlierRun}
 use Rattle.runs.specs.Demand.{Demand}
 use Rattle.runs.specs.Slices.{Slices}
 
@@ -45,5 +45,7 @@ pub record Laws : Type 0 where
       (ws weights : List ℕ) → ((i : ℕ) → getD weights i 0 ≤ heaviestWeight) → (marks lengths : List ℕ) → Slices ws weights marks lengths
   -- request C-17: with all weights 1 every earlier answer returns
   pub earlier-run : (ws marks lengths : List ℕ) → EarlierRun ws marks lengths
+  pub ones-accepted : refusesWeights ones ≡ false
+  pub ones-weigh : (ws : List ℕ) → weightOf ws ones ≡ unitWeight
   -- what number 18 lets through weighs every word
   pub weights : WeightLaws
