@@ -70,12 +70,6 @@ static void steps(void) {
     CHECK(has(lawendeb_successors(prepare, 3, 0), LAWENDEB_KIND_TWO, 1, 2));
     CHECK(has(lawendeb_successors(loop0, 2, 0), LAWENDEB_KIND_ONE, 1, 0));
     CHECK(has(lawendeb_successors(loop1, 2, 0), LAWENDEB_KIND_TWO, 0, 1));
-    CHECK(lawendeb_serves(loop1, 2, 0, 0));
-    CHECK(!lawendeb_serves(loop1, 2, 0, 1));
-    CHECK(lawendeb_serves(sheet, 4, 3, 1));
-    CHECK(!lawendeb_serves(sheet, 4, 0, 1));
-    CHECK(!lawendeb_serves(sheet, 4, 2, 3));
-    CHECK(lawendeb_serves(call, 2, 0, 1));
 }
 
 /* ---- the longest run */
@@ -180,9 +174,11 @@ static void meters(void) {
     /* the first word, bad or not; nothing follows a bad one */
     CHECK(lawendeb_feed(unknown, 1, &m, 0) == LAWENDEB_ACCEPTED && shows(m, 1, 0, 1, 41));
     CHECK(refuses(m, unknown, 1, 0, LAWENDEB_NO_STEP));
-    /* a call serves; services stay at their ceiling; any begun but 0 is begun */
+    /* a call does not serve; services stay at their ceiling; any begun but 0 is begun */
     m = meter(1, 0, 1, 4294967294u);
-    CHECK(lawendeb_feed(call, 2, &m, 1) == LAWENDEB_ACCEPTED && shows(m, 1, 1, 1, 4294967295u));
+    CHECK(lawendeb_feed(call, 2, &m, 1) == LAWENDEB_ACCEPTED && shows(m, 1, 1, 2, 4294967294u));
+    m = meter(1, 3, 4, 4294967294u);
+    CHECK(lawendeb_feed(sheet, 4, &m, 1) == LAWENDEB_ACCEPTED && shows(m, 1, 1, 1, 4294967295u));
     m = meter(2, 3, 1, 4294967295u);
     CHECK(lawendeb_feed(sheet, 4, &m, 1) == LAWENDEB_ACCEPTED && shows(m, 1, 1, 1, 4294967295u));
 

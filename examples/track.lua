@@ -1,4 +1,4 @@
--- Follows a star. Each turn of the loop calls twice and goes back, so the motors are served all the time.
+-- Follows a star. Each turn of the loop goes back after a few words, so the motors are served all the time.
 local mount = ...
 
 local function track(star, turns)

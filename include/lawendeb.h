@@ -23,14 +23,17 @@
 #define LAWENDEB_ASSERT static_assert
 extern "C" {
 #else
-#include <stdbool.h>
 #define LAWENDEB_ASSERT _Static_assert
 #endif
 
 /* The release of this header. It rises when a function's parameters, a struct or a meaning changes;
    such a function has a new symbol behind its name then, so that an archive of another release
    does not link. */
-#define LAWENDEB_RELEASE 1
+#define LAWENDEB_RELEASE 2
+
+/* Release 2: a call does not serve any more; only a step that does not go forward does. */
+#define lawendeb_feed lawendeb_feed_2
+#define lawendeb_longest_run lawendeb_longest_run_2
 
 /* ---- answers, by document 01's numbers. The place is 0 unless one is named. */
 
@@ -89,9 +92,6 @@ struct lawendeb_successors {
 #define LAWENDEB_KIND_TWO 3
 
 struct lawendeb_successors lawendeb_successors(const uint32_t *words, size_t n, size_t p);
-
-/* Whether a step from p to q serves. Whether there is such a step is not asked. */
-bool lawendeb_serves(const uint32_t *words, size_t n, size_t p, size_t q);
 
 /* The longest run and the lowest word at which it begins; or a refusal's number and place. */
 struct lawendeb_run {

@@ -40,10 +40,9 @@ static inline struct twin_successors successors(const uint32_t *w, size_t n, siz
     default: return invalid;
     }
 }
-static inline bool serves(uint32_t word, size_t p, size_t q) { return op(word) == 68 || op(word) == 76 || q <= p; }
+static inline bool serves(size_t p, size_t q) { return q <= p; }
 
 struct twin_successors twin_successors(const uint32_t *w, size_t n, size_t p) { return successors(w, n, p); }
-bool twin_serves(const uint32_t *w, size_t n, size_t p, size_t q) { return p < n ? serves(w[p], p, q) : q <= p; }
 
 /* Marks what is reachable; answers the lowest invalid word among it, n if none. */
 static size_t mark(const uint32_t *w, size_t n, uint8_t *marks, uint32_t *queue) {
@@ -61,7 +60,7 @@ static size_t mark(const uint32_t *w, size_t n, uint8_t *marks, uint32_t *queue)
     return lowest;
 }
 static inline uint32_t on(const uint32_t *w, const uint32_t *lengths, size_t p, size_t q) {
-    return serves(w[p], p, q) ? 0 : lengths[q];
+    return serves(p, q) ? 0 : lengths[q];
 }
 struct twin_run twin_longest_run(const uint32_t *w, size_t n, uint8_t *marks, size_t marks_n, uint32_t *lengths, size_t lengths_n) {
     if (n > TWIN_WORDS) return (struct twin_run){1, 0, 0, 0};
@@ -99,7 +98,7 @@ uint32_t twin_feed(const uint32_t *w, size_t n, struct twin_meter *m, size_t q) 
     if (p >= n || m->since == 0 || m->since > p + 1) return 11;
     struct twin_successors s = successors(w, n, p);
     if (!(s.kind >= 2 && s.first == q) && !(s.kind == 3 && s.second == q)) return 10;
-    if (serves(w[p], p, q)) {
+    if (serves(p, q)) {
         m->since = 1;
         if (m->services < UINT32_MAX) m->services++;
     } else

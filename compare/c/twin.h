@@ -29,7 +29,6 @@ struct twin_record {
 _Static_assert(sizeof(struct twin_record) == 53 * 8, "53 numbers");
 
 struct twin_successors twin_successors(const uint32_t *words, size_t n, size_t p);
-bool twin_serves(const uint32_t *words, size_t n, size_t p, size_t q);
 struct twin_run twin_longest_run(const uint32_t *words, size_t n, uint8_t *marks, size_t marks_n, uint32_t *lengths, size_t lengths_n);
 void twin_begin(struct twin_meter *m);
 uint32_t twin_feed(const uint32_t *words, size_t n, struct twin_meter *m, size_t q);

@@ -8,14 +8,14 @@
 
 #ifdef RATTLE
 struct twin_successors lawendeb_successors(const uint32_t *words, size_t n, size_t p);
-struct twin_run lawendeb_longest_run(const uint32_t *words, size_t n, uint8_t *marks, size_t marks_n, uint32_t *lengths,
+struct twin_run lawendeb_longest_run_2(const uint32_t *words, size_t n, uint8_t *marks, size_t marks_n, uint32_t *lengths,
     size_t lengths_n);
 void lawendeb_begin(struct twin_meter *m);
-uint32_t lawendeb_feed(const uint32_t *words, size_t n, struct twin_meter *m, size_t q);
+uint32_t lawendeb_feed_2(const uint32_t *words, size_t n, struct twin_meter *m, size_t q);
 #define successors lawendeb_successors
-#define longest_run lawendeb_longest_run
+#define longest_run lawendeb_longest_run_2
 #define begin lawendeb_begin
-#define feed lawendeb_feed
+#define feed lawendeb_feed_2
 #else
 #define successors twin_successors
 #define longest_run twin_longest_run

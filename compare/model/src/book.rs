@@ -36,7 +36,7 @@ impl<'a> Book<'a> {
             return 10;
         }
         if let Some(&p) = self.course.last() {
-            self.tally += u64::from(serves(self.words, p, q));
+            self.tally += u64::from(serves(p, q));
         }
         self.course.push(q);
         0
@@ -46,7 +46,7 @@ impl<'a> Book<'a> {
     pub fn meter(&self) -> Meter {
         let mut from = 0;
         for (i, pair) in self.course.windows(2).enumerate() {
-            if serves(self.words, pair[0], pair[1]) {
+            if serves(pair[0], pair[1]) {
                 from = i + 1;
             }
         }

@@ -38,7 +38,7 @@ pub fn feed(words: &[u32], m: &mut Meter, q: usize) -> u32 {
     if q >= n || !is_step(words, last, q) {
         return 10;
     }
-    if serves(words, last, q) {
+    if serves(last, q) {
         m.since = 1;
         m.services = m.services.saturating_add(1);
     } else {

@@ -45,7 +45,7 @@ pub fn run(words: &[u32], marks: &mut [u8], lengths: &mut [u32]) -> RunAnswer {
         return refused(8, p);
     }
     for p in (0..n).rev().filter(|&p| marks[p] == 1) {
-        let on = steps(words, p).list().iter().filter(|&&q| !serves(words, p, q)).map(|&q| lengths[q]).max();
+        let on = steps(words, p).list().iter().filter(|&&q| !serves(p, q)).map(|&q| lengths[q]).max();
         lengths[p] = 1 + on.unwrap_or(0);
     }
     let longest = lengths[..n].iter().copied().max().unwrap_or(0);
@@ -85,7 +85,7 @@ pub fn brute(words: &[u32]) -> (RunAnswer, Vec<u8>, Vec<u32>) {
 fn walk(words: &[u32], p: usize) -> u32 {
     let mut most = 1;
     for &q in steps(words, p).list() {
-        if !serves(words, p, q) {
+        if !serves(p, q) {
             most = most.max(1 + walk(words, q));
         }
     }

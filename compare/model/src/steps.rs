@@ -19,7 +19,6 @@ impl Steps {
 }
 
 const JMP: u32 = 56;
-const CALL: u32 = 68;
 const TFORCALL: u32 = 76;
 const TFORLOOP: u32 = 77;
 const EXTRAARG: u32 = 82;
@@ -72,8 +71,8 @@ pub fn is_step(words: &[u32], p: usize, q: usize) -> bool {
     steps(words, p).list().contains(&q)
 }
 
-/// Whether a step p to q serves.
-pub fn serves(words: &[u32], p: usize, q: usize) -> bool {
-    let caller = words.get(p).is_some_and(|&w| opcode(w) == CALL || opcode(w) == TFORCALL);
-    caller || q <= p
+/// Whether a step p to q serves. Request C-16: "the steps after CALL and TFORCALL do not serve; only a
+/// step that does not go forward does".
+pub fn serves(p: usize, q: usize) -> bool {
+    q <= p
 }

@@ -49,7 +49,6 @@ pub mod twin {
 
     extern "C" {
         fn twin_successors(words: *const u32, n: usize, p: usize) -> FlatSuccessors;
-        fn twin_serves(words: *const u32, n: usize, p: usize, q: usize) -> bool;
         fn twin_longest_run(
             words: *const u32,
             n: usize,
@@ -80,7 +79,6 @@ pub mod twin {
         Side {
             name: "C twin",
             successors: |w, p| unsafe { twin_successors(w.as_ptr(), w.len(), p) }.into(),
-            serves: |w, p, q| unsafe { twin_serves(w.as_ptr(), w.len(), p, q) },
             run: |w, m, l| unsafe { twin_longest_run(w.as_ptr(), w.len(), m.as_mut_ptr(), m.len(), l.as_mut_ptr(), l.len()) },
             begin: |m| lend(m, |m| unsafe { twin_begin(m) }),
             feed: |w, m, q| lend(m, |m| unsafe { twin_feed(w.as_ptr(), w.len(), m, q) }),
@@ -116,8 +114,7 @@ pub mod rattle {
 
     extern "C" {
         fn lawendeb_successors(words: *const u32, n: usize, p: usize) -> FlatSuccessors;
-        fn lawendeb_serves(words: *const u32, n: usize, p: usize, q: usize) -> bool;
-        fn lawendeb_longest_run(
+        fn lawendeb_longest_run_2(
             words: *const u32,
             n: usize,
             marks: *mut u8,
@@ -126,21 +123,20 @@ pub mod rattle {
             lengths_n: usize,
         ) -> RunAnswer;
         fn lawendeb_begin(m: *mut LentMeter);
-        fn lawendeb_feed(words: *const u32, n: usize, m: *mut LentMeter, q: usize) -> u32;
+        fn lawendeb_feed_2(words: *const u32, n: usize, m: *mut LentMeter, q: usize) -> u32;
     }
 
     pub fn side() -> Side {
         Side {
             name: "Rattle",
             successors: |w, p| unsafe { lawendeb_successors(w.as_ptr(), w.len(), p) }.into(),
-            serves: |w, p, q| unsafe { lawendeb_serves(w.as_ptr(), w.len(), p, q) },
-            run: |w, m, l| unsafe { lawendeb_longest_run(w.as_ptr(), w.len(), m.as_mut_ptr(), m.len(), l.as_mut_ptr(), l.len()) },
+            run: |w, m, l| unsafe { lawendeb_longest_run_2(w.as_ptr(), w.len(), m.as_mut_ptr(), m.len(), l.as_mut_ptr(), l.len()) },
             begin: |m| lend(m, |m| unsafe { lawendeb_begin(m) }),
-            feed: |w, m, q| lend(m, |m| unsafe { lawendeb_feed(w.as_ptr(), w.len(), m, q) }),
+            feed: |w, m, q| lend(m, |m| unsafe { lawendeb_feed_2(w.as_ptr(), w.len(), m, q) }),
             feed_all: |w, m, list| {
                 lend(m, |m| unsafe {
                     lawendeb_begin(m);
-                    list.iter().map(|&q| u64::from(lawendeb_feed(w.as_ptr(), w.len(), m, q as usize) != 0)).sum()
+                    list.iter().map(|&q| u64::from(lawendeb_feed_2(w.as_ptr(), w.len(), m, q as usize) != 0)).sum()
                 })
             },
             lift: Some(records::lift),

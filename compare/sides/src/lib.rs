@@ -18,7 +18,6 @@ pub struct Successors {
 pub struct Side {
     pub name: &'static str,
     pub successors: fn(&[u32], usize) -> Successors,
-    pub serves: fn(&[u32], usize, usize) -> bool,
     pub run: fn(&[u32], &mut [u8], &mut [u32]) -> RunAnswer,
     pub begin: fn(&mut Meter),
     pub feed: fn(&[u32], &mut Meter, usize) -> u32,
@@ -41,7 +40,6 @@ pub fn model_side() -> Side {
             let s = model::steps::steps(words, p);
             Successors { bad: s.bad, list: [s.list().first().copied(), s.list().get(1).copied()] }
         },
-        serves: model::steps::serves,
         run: model::run::run,
         begin: model::meter::begin,
         feed: model::meter::feed,

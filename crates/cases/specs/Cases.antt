@@ -37,8 +37,8 @@ pub data Case : Type 0 where
   fields : ℕ → ℕ → ℕ → ℤ → Case
   -- of these words, the word of this number has these steps
   steps : List ℕ → ℕ → Successors → Case
-  -- of these words, the step from the one to the other serves or not
-  serving : List ℕ → ℕ → ℕ → Bool → Case
+  -- a step from the one word to the other serves or not
+  serving : ℕ → ℕ → Bool → Case
   -- these words have this L and this first word
   run : List ℕ → ℕ → ℕ → Case
   -- of these words, the record of this number has this jump target
@@ -61,7 +61,7 @@ recordAt words pc = liftOf words [] [] [] pc
 abbrev pub HoldsOf : Case → Type 0
 HoldsOf (fields word opcode a sbx) = (opcodeOf word ≡ opcode) × (aOf word ≡ a) × (sbxOf word ≡ sbx)
 HoldsOf (steps words p s) = successorsOf words p ≡ s
-HoldsOf (serving words p q t) = servesOf words p q ≡ t
+HoldsOf (serving p q t) = servesOf p q ≡ t
 HoldsOf (run words longest first) = runOf words (length words) (length words) ≡ Accepted longest first
 HoldsOf (jumps words pc target) = recordAt words pc .«jump_target» ≡ target
 HoldsOf (touches words pc reads writes) =
@@ -110,7 +110,7 @@ cases =
     -- "FORLOOP with Bx 0 has one step; with Bx 1 it steps to itself, serving"
     ∷ steps («OP_FORLOOP» ∷ «OP_MOVE» ∷ []) 0 (One 1)
     ∷ steps (32841 ∷ «OP_MOVE» ∷ []) 0 (Two 0 1)
-    ∷ serving (32841 ∷ «OP_MOVE» ∷ []) 0 0 true
+    ∷ serving 0 0 true
     -- "the sheet above: L 4, first 0", and the steps that its listing shows
     ∷ run sheet 4 0
     ∷ steps sheet 0 (One 1)

@@ -1,7 +1,7 @@
 // The C interface beside the meter's: answers as structs of numbers, since an exported function may give no enum.
 ghost use mathlib.Core.Path.{_≡_};
 ghost use lib.ListN.{length};
-ghost use Rattle.runs.specs.Successors.{successorsOf, servesOf};
+ghost use Rattle.runs.specs.Successors.{successorsOf};
 ghost use Rattle.runs.specs.Run.{runOf, marksAfter, lengthsAfter};
 ghost use Rattle.exports.specs.Flat.{flatSuccessors, flatRun};
 use runs::Run;
@@ -80,14 +80,7 @@ pub extern "C" fn lawendeb_successors(words: &[u32], p: usize) -> FlatSuccessors
 }
 
 #[no_mangle]
-pub extern "C" fn lawendeb_serves(words: &[u32], p: usize, q: usize) -> bool
-    ensures { λ r. ⌜ r ≡ servesOf (now (words .entry)) p q ⌝ }
-{
-    runs::successors::serves(words, p, q)
-}
-
-#[no_mangle]
-pub extern "C" fn lawendeb_longest_run(
+pub extern "C" fn lawendeb_longest_run_2(
     words: &[u32],
     marks: &mut [u8],
     lengths: &mut [u32],

@@ -14,9 +14,9 @@ pub extern "C" fn lawendeb_begin(m: &mut Meter)
     *m = begin_step(*m);
 }
 
-// For C: `uint32_t lawendeb_feed(const uint32_t *words, size_t n, struct lawendeb_meter *m, size_t q)`.
+// For C: `uint32_t lawendeb_feed_2(const uint32_t *words, size_t n, struct lawendeb_meter *m, size_t q)`.
 #[no_mangle]
-pub extern "C" fn lawendeb_feed(words: &[u32], m: &mut Meter, q: usize) -> u32
+pub extern "C" fn lawendeb_feed_2(words: &[u32], m: &mut Meter, q: usize) -> u32
     ensures { λ r. ⌜ (r ≡ feedOf (graphOf (now (words .entry))) (now (m .entry)) q .number) × (now (m .exit) ≡ feedOf (graphOf (now (words .entry))) (now (m .entry)) q .meter) ⌝ }
 {
     let f = feed_step(words, *m, q);

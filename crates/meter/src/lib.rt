@@ -3,7 +3,7 @@ mod lent;
 mod step;
 
 pub use lent::lawendeb_begin as begin;
-pub use lent::lawendeb_feed as feed;
+pub use lent::lawendeb_feed_2 as feed;
 pub use step::Fed;
 pub use step::Meter;
 pub use step::begin_step;

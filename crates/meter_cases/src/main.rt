@@ -18,9 +18,9 @@ const MOST_WORDS: usize = 32768;
 const SHEET: [u32; 4] = [2147483649, 2147483669, 109051951, 2147483192];
 // FORLOOP with Bx 1 steps to itself, or to a RETURN0.
 const SELF_LOOP: [u32; 2] = [32841, OP_RETURN0 as u32];
-// CALL serves, MOVE does not, RETURN0 has no step.
+// A step from CALL goes forward and does not serve; RETURN0 has no step.
 const CALLS: [u32; 3] = [OP_CALL as u32, OP_MOVE as u32, OP_RETURN0 as u32];
-// TFORPREP to TFORCALL, which serves, to a TFORLOOP back to it, or to a RETURN0.
+// TFORPREP to TFORCALL, to a TFORLOOP back to it, which serves, or to a RETURN0.
 const GENERIC_FOR: [u32; 4] = [
     OP_TFORPREP as u32,
     OP_TFORCALL as u32,
@@ -144,7 +144,7 @@ fn on_the_sheet() {
     );
 }
 
-// Steps that serve.
+// Steps that serve, and steps from calls, which do not.
 fn services() {
     replay(
         b"a step to itself",

@@ -1,10 +1,10 @@
 -- The laws of the successors: below the number of words, the lower first, and forward where a step does not serve.
 -- Assumes nothing.
 use Prim.Native.Nat.{ℕ, _+_, _<_}
-use mathlib.Core.Path.{_≡_, refl, sym, _∙_}
-use mathlib.Core.Bool.{Bool, true, false, cond, or-true, true≢false}
+use mathlib.Core.Path.{_≡_, refl}
+use mathlib.Core.Bool.{Bool, true, false, cond}
 use mathlib.Core.List.{List}
-use lib.Dec.{ltb, leb, eqb}
+use lib.Dec.{ltb, eqb}
 use lib.IntN.{ℤ, pos, negsuc}
 use lib.ListN.{length, getD}
 use borrow.Author.Tests.{ltb-true, leb-false}
@@ -57,10 +57,6 @@ below ws p =
     by-test (length ws) (ltb p (length ws)) _ λ e. by-test (length ws) (companionPresent ws p) _ λ d.
     next-below (classOf (opcodeAt ws p)) (length ws) (getD ws p 0) p
 
-pub forward : (ws : List ℕ) (p q : ℕ) → servesOf ws p q ≡ false → p < q
+pub forward : (p q : ℕ) → servesOf p q ≡ false → p < q
 unfolding servesOf
-forward ws p q e = go (leb q p) refl
-  where
-    go : (t : Bool) → leb q p ≡ t → p < q
-    go true d = absurd (true≢false (sym (rw (d, or-true)) ∙ e))
-    go false d = leb-false q p d
+forward p q e = leb-false q p e

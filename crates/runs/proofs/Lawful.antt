@@ -21,4 +21,4 @@ below-each n (Two a c) b q (inr (inl e)) = omega arith
 below-each n (Two a c) b q (inr (inr i)) = absurd i
 
 pub lawful : (ws : List ℕ) → Lawful (graphOf ws)
-lawful ws = record { inside = λ p. below-each _ (successorsOf ws p) (below ws p); forward = λ p q i. forward ws p q }
+lawful ws = record { inside = λ p. below-each _ (successorsOf ws p) (below ws p); forward = λ p q i. forward p q }

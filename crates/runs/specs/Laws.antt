@@ -39,7 +39,7 @@ pub record Laws : Type 0 where
   -- the steps of a word
   pub below : (ws : List ℕ) (p : ℕ) → Below (length ws) (successorsOf ws p)
   -- a step that does not serve goes forward
-  pub forward : (ws : List ℕ) (p q : ℕ) → servesOf ws p q ≡ false → p < q
+  pub forward : (p q : ℕ) → servesOf p q ≡ false → p < q
   -- so that the graph of the words is lawful
   pub lawful : (ws : List ℕ) → Lawful (graphOf ws)
   -- they are lvm.c's

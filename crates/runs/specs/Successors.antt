@@ -6,7 +6,7 @@ use mathlib.Core.List.{List, [], _∷_}
 use lib.Dec.{ltb, leb, eqb}
 use lib.IntN.{ℤ, pos, negsuc, _+ℤ_, _-ℤ_}
 use lib.ListN.{length, getD}
-use Rattle.fields.specs.Opcodes.{«OP_ADDI», «OP_SHR», «OP_MMBIN», «OP_MMBINK», «OP_JMP», «OP_CALL», «OP_TFORCALL», «OP_TFORLOOP», «OP_EXTRAARG»}
+use Rattle.fields.specs.Opcodes.{«OP_ADDI», «OP_SHR», «OP_MMBIN», «OP_MMBINK», «OP_JMP», «OP_TFORCALL», «OP_TFORLOOP», «OP_EXTRAARG»}
 use Rattle.fields.specs.Word.{opcodeOf, kOf, bxOf, sjOf}
 use Rattle.fields.specs.Table.{StepClass, following, returning, branching, skipping, skippingIfK, jumping, looping, preparing, entering, invalid, classOf, Companion, alone, metamethodAfter, arithmeticBefore, jumpAfter, extraAfter, extraAfterIfK, callAtTarget, loopAfter, companionOf}
 use Rattle.runs.specs.Graph.{member}
@@ -110,6 +110,6 @@ listOf (Two a b) = a ∷ b ∷ []
 unfoldable pub isSuccessor : List ℕ → ℕ → ℕ → Bool
 isSuccessor ws p q = member q (listOf (successorsOf ws p))
 
--- "a step p to q serves if p is CALL or TFORCALL, or q ≤ p"
-unfoldable pub servesOf : List ℕ → ℕ → ℕ → Bool
-servesOf ws p q = eqb (opcodeAt ws p) «OP_CALL» || eqb (opcodeAt ws p) «OP_TFORCALL» || leb q p
+-- request C-16: "From this release the steps after CALL and TFORCALL do not serve; only a step that does not go forward does."
+unfoldable pub servesOf : ℕ → ℕ → Bool
+servesOf p q = leb q p

@@ -17,11 +17,11 @@ use crate::successors::serves;
 use crate::successors::successors_in;
 
 // What an edge from p to q adds to a segment.
-fn beyond(words: &[u32], lengths: &[u32], p: usize, q: usize) -> u32
+fn beyond(lengths: &[u32], p: usize, q: usize) -> u32
     requires { ⌜ q < length (now lengths) ⌝ }
-    ensures { λ r. ⌜ r ≡ cond (servesOf (now (words .entry)) p q) 0 (getD (now (lengths .entry)) q 0) ⌝ }
+    ensures { λ r. ⌜ r ≡ cond (servesOf p q) 0 (getD (now (lengths .entry)) q 0) ⌝ }
 {
-    if serves(words, p, q) {
+    if serves(p, q) {
         return 0;
     }
     lengths[q]
@@ -60,15 +60,15 @@ fn measure(
             return Measured { length: 1, invalid };
         }
         Successors::One(a) => {
-            let x = beyond(words, lengths, p, a);
+            let x = beyond(lengths, p, a);
             return Measured {
                 length: x + 1,
                 invalid,
             };
         }
         Successors::Two(a, b) => {
-            let x = beyond(words, lengths, p, a);
-            let y = beyond(words, lengths, p, b);
+            let x = beyond(lengths, p, a);
+            let y = beyond(lengths, p, b);
             if x < y {
                 return Measured {
                     length: y + 1,

@@ -261,15 +261,8 @@ pub fn is_successor(words: &[u32], p: usize, q: usize) -> bool
 }
 
 // Whether a step from p to q serves.
-pub fn serves(words: &[u32], p: usize, q: usize) -> bool
-    ensures { λ r. ⌜ r ≡ servesOf (now (words .entry)) p q ⌝ }
+pub fn serves(p: usize, q: usize) -> bool
+    ensures { λ r. ⌜ r ≡ servesOf p q ⌝ }
 {
-    let opcode = opcode_at(words, p);
-    if opcode == OP_CALL {
-        return true;
-    }
-    if opcode == OP_TFORCALL {
-        return true;
-    }
     q <= p
 }

@@ -37,7 +37,10 @@ fn accepted(mv: u32, ret: u32) {
         b"an unreachable bad word",
         &[with_ax(OP_JMP, OFFSET_SJ + 1), 83, ret],
     );
-    show(b"a tie", &[mv, plain(OP_CALL), mv, ret]);
+    show(b"a call does not serve", &[mv, plain(OP_CALL), mv, ret]);
+    let over = with_ax(OP_JMP, OFFSET_SJ + 2);
+    let into = with_ax(OP_JMP, OFFSET_SJ - 3);
+    show(b"a tie", &[over, mv, ret, into]);
     let on = with_ax(OP_JMP, OFFSET_SJ + 3);
     let back = with_ax(OP_JMP, OFFSET_SJ - 4);
     show(b"entered by a back edge alone", &[on, mv, mv, ret, back]);

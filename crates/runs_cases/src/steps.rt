@@ -6,17 +6,11 @@ use fields::word::OFFSET_SJ;
 use runs::successors::serves;
 use runs::successors::successors;
 
-// The steps of the second of four words, and whether a step on would serve. A step back always does.
+// The steps of the second of four words.
 fn second(label: &[u8], before: u32, word: u32, after: u32, last: u32) {
     let words = [before, word, after, last];
     print::text(label);
     print::steps(successors(&words, 1));
-    if serves(&words, 1, 2) {
-        print::text(b", on to 2 serves");
-    }
-    if !serves(&words, 1, 1) {
-        print::text(b", back to 1 does not serve");
-    }
     print::end();
 }
 
@@ -24,6 +18,15 @@ fn alone(label: &[u8], word: u32) {
     let words = [word];
     print::text(label);
     print::steps(successors(&words, 0));
+    print::end();
+}
+
+// Which steps serve: those that do not go forward, whatever word they leave.
+fn serving(label: &[u8], p: usize, q: usize) {
+    print::text(label);
+    if serves(p, q) {
+        print::text(b" serves");
+    }
     print::end();
 }
 
@@ -47,6 +50,9 @@ pub fn rows() {
     alone(b"unknown 127", 127);
     alone(b"MOVE at the end", mv);
     alone(b"RETURN at the end", plain(OP_RETURN));
+    serving(b"1 to 0", 1, 0);
+    serving(b"1 to 1", 1, 1);
+    serving(b"1 to 2", 1, 2);
 }
 
 fn rows_with_extra(mv: u32) {
