@@ -12,7 +12,8 @@ use Rattle.fields.specs.Word.{opcodeOf, aOf, sbxOf}
 use Rattle.runs.specs.declared.edges.Successors.{Successors}
 use Rattle.runs.specs.declared.edges.Successors.the-variants.{Invalid, One, Two}
 use Rattle.runs.specs.declared.longest.Run.the-variants.{Accepted}
-use Rattle.runs.specs.Successors.{successorsOf, servesOf}
+use Rattle.runs.specs.Steps.{servesOf}
+use Rattle.runs.specs.Successors.{successorsOf}
 use Rattle.runs.specs.Run.{runOf}
 use Rattle.values.specs.declared.ir.TypedOperand.{TypedOperand}
 use Rattle.values.specs.declared.ir.TypedOperand.the-variants as O

@@ -3,3 +3,4 @@ pub mod Lowest
 pub mod Over
 pub mod Put
 pub mod Clearing
+pub mod Stores

@@ -5,8 +5,8 @@ use mathlib.Core.List.{List, _∷_, _++_}
 use Prim.Native.Nat.{ℕ, zero, suc, _+_, _≤_, _<_}
 use native.Mathlib.Nat.{not-suc-le-zero, le-of-suc-le-suc, add-zero}
 use native.Mathlib.Omega.{arith}
-use lib.ListN.{length, getD, take, drop, replicate, take-append-drop}
-use lib.Seq.{ext-getD, getD-take, length-take-le}
+use lib.ListN.{length, getD, take, drop, replicate, take-append-drop, length-append, length-drop, List·getD-append}
+use lib.Seq.{ext-getD, getD-take, length-take-le, drop-at}
 use Rattle.common.specs.Lists.{tabulate, over, OverLaws}
 
 length-tabulate : (f : ℕ → ℕ) (i k : ℕ) → length (tabulate f i k) ≡ k
@@ -26,9 +26,36 @@ is f k l₀ l h e d = sym (take-append-drop k l) ∙ ap₂ (λ (a b : List ℕ).
         ext-getD 0 (take k l) (tabulate f 0 k) (length-take-le k l h ∙ sym (length-tabulate f 0 k))
         (λ p j. let q : p < k = omega (arith, j, length-take-le k l h) in getD-take k l p 0 q ∙ e p q ∙ sym (getD-tabulate f 0 k p q ∙ ap f (omega arith)))
 
+whole : (f : ℕ → ℕ) (k : ℕ) (l : List ℕ) → length l ≡ k → ((p : ℕ) → p < k → getD l p 0 ≡ f p) → l ≡ tabulate f 0 k
+whole f k l h e =
+    ext-getD 0 l (tabulate f 0 k) (h ∙ sym (length-tabulate f 0 k))
+    (λ p j. let q : p < k = omega (arith, j, h) in e p q ∙ sym (getD-tabulate f 0 k p q ∙ ap f (omega arith)))
+
+-- what such a list holds
+module _ (f : ℕ → ℕ) (k : ℕ) (l : List ℕ) where
+  at : (p : ℕ) → p < k → getD (over f k l) p 0 ≡ f p
+  at p h =
+      List·getD-append (tabulate f 0 k) (drop k l) 0 p (omega (arith, length-tabulate f 0 k)) ∙ (getD-tabulate f 0 k p h ∙ ap f (omega arith))
+
+  past : drop k (over f k l) ≡ drop k l
+  past = drop-at (tabulate f 0 k) (drop k l) k (length-tabulate f 0 k)
+
+  length-over : k ≤ length l → length (over f k l) ≡ length l
+  length-over h = omega (arith, length-append (tabulate f 0 k) (drop k l), length-tabulate f 0 k, length-drop k l)
+
 zeros : (i k : ℕ) → replicate k 0 ≡ tabulate (λ p. 0) i k
 zeros i zero = refl
 zeros i (suc k) = ap (λ (l : List ℕ). 0 ∷ l) (zeros (suc i) k)
 
 pub over-laws : OverLaws
-over-laws = record { length-tabulate = length-tabulate; getD-tabulate = getD-tabulate; zeros = zeros; is = is }
+over-laws =
+    record {
+      length-tabulate = length-tabulate;
+      getD-tabulate = getD-tabulate;
+      zeros = zeros;
+      is = is;
+      whole = whole;
+      at = at;
+      past = past;
+      length-over = length-over;
+    }

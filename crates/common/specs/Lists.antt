@@ -27,6 +27,12 @@ pub record OverLaws : Type 0 where
   pub is :
       (f : ℕ → ℕ) (k : ℕ) (l₀ l : List ℕ) → k ≤ length l → ((p : ℕ) → p < k → getD l p 0 ≡ f p)
       → drop k l ≡ drop k l₀ → l ≡ over f k l₀
+  -- a list with no rest
+  pub whole : (f : ℕ → ℕ) (k : ℕ) (l : List ℕ) → length l ≡ k → ((p : ℕ) → p < k → getD l p 0 ≡ f p) → l ≡ tabulate f 0 k
+  -- what such a list holds
+  pub at : (f : ℕ → ℕ) (k : ℕ) (l : List ℕ) (p : ℕ) → p < k → getD (over f k l) p 0 ≡ f p
+  pub past : (f : ℕ → ℕ) (k : ℕ) (l : List ℕ) → drop k (over f k l) ≡ drop k l
+  pub length-over : (f : ℕ → ℕ) (k : ℕ) (l : List ℕ) → k ≤ length l → length (over f k l) ≡ length l
 
 -- what callers go by: proofs/Put.antt proves it
 pub record PutLaws : Type 0 where

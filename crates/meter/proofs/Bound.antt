@@ -8,8 +8,8 @@ use native.Mathlib.Omega.{arith}
 use lib.ListN.{length, replicate, length-append}
 use borrow.Author.Tests.{eq-eqb, lt-ltb}
 use Rattle.common.specs.Limits.{mostWords}
-use Rattle.runs.specs.Graph.{In, Graph, Lawful, Along, Path, Unserved, Segment}
-use Rattle.runs.proofs.Laws.{laws}
+use Rattle.graph.specs.Graph.{In, Graph, Lawful, Along, Path, Unserved, Segment}
+use Rattle.graph.proofs.Laws.{laws}
 use Rattle.meter.specs.declared.step.Meter.{Meter}
 use Rattle.meter.specs.Feed.{follows, ceiling, beginOf}
 use Rattle.meter.specs.Model.{Call, begin, feed, Model, emptyModel, lastFrom, writes, servesTo, fed, called, answerTo, modelAfter, modelAnswers, anyServes, sinceService, wordsSince}

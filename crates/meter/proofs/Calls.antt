@@ -8,8 +8,8 @@ use native.Mathlib.Omega.{arith}
 use lib.Dec.{ltb, eqb}
 use borrow.Author.Tests.{ltb-true, ltb-false, eqb-true, le-ltb, lt-leb, le-leb, ne-eqb}
 use Rattle.common.specs.Limits.{mostWords}
-use Rattle.runs.specs.Graph.{Graph, Lawful}
-use Rattle.runs.proofs.Laws.{laws}
+use Rattle.graph.specs.Graph.{Graph, Lawful}
+use Rattle.graph.proofs.Laws.{laws}
 use Rattle.meter.specs.declared.step.Meter.{Meter}
 use Rattle.meter.specs.declared.step.Fed.{Fed}
 use Rattle.meter.specs.Feed.{follows, ceiling, oneService, movedTo, isForeign, isStray, beginOf, feedOf}

@@ -9,7 +9,7 @@ use lib.Dec.{ltb, leb, eqb}
 use borrow.Author.Tests.{ltb-false, leb-false, eqb-true, not-false}
 use Rattle.common.specs.Limits.{mostWords}
 use Rattle.runs.specs.Successors.{isSuccessor}
-use Rattle.runs.specs.Graph.{Graph}
+use Rattle.graph.specs.Graph.{Graph}
 use Rattle.runs.specs.Instance.{graphOf}
 use Rattle.meter.specs.declared.step.Meter.{Meter}
 use Rattle.meter.specs.Feed.{isBegun, follows, isForeign, isStray}

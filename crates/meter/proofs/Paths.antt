@@ -5,7 +5,7 @@ use mathlib.Core.Bool.{Bool, true, false, cond, _||_, or-assoc, or-false, or-tru
 use mathlib.Core.Path.{_≡_, refl, sym, ap, _∙_}
 use mathlib.Core.List.{List, [], _∷_, _++_}
 use lib.ListN.{length, length-append}
-use Rattle.runs.specs.Graph.{Graph}
+use Rattle.graph.specs.Graph.{Graph}
 use Rattle.meter.specs.Model.{lastFrom, anyServes, sinceService, wordsSince}
 
 pub last-more : (p : ℕ) (ps : List ℕ) (q : ℕ) → lastFrom p (ps ++ (q ∷ [])) ≡ q

@@ -5,7 +5,7 @@ use mathlib.Core.List.{List, [], _∷_}
 use Prim.Native.Nat.{ℕ, _≤_}
 use lib.ListN.{length, replicate}
 use Rattle.common.specs.Numbers.{«ACCEPTED»}
-use Rattle.runs.specs.Graph.{Graph, Path}
+use Rattle.graph.specs.Graph.{Graph, Path}
 use Rattle.meter.specs.declared.step.Meter.{Meter}
 use Rattle.meter.specs.Feed.{beginOf}
 use Rattle.meter.specs.Model.{Call, feed}

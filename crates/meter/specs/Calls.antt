@@ -3,7 +3,7 @@
 use mathlib.Core.Path.{_≡_}
 use mathlib.Core.List.{List, [], _∷_}
 use Prim.Native.Nat.{ℕ, _+_, min}
-use Rattle.runs.specs.Graph.{Graph}
+use Rattle.graph.specs.Graph.{Graph}
 use Rattle.meter.specs.declared.step.Meter.{Meter}
 use Rattle.meter.specs.Feed.{ceiling, isBegun, feedOf, beginOf}
 use Rattle.meter.specs.Model.{Call, begin, feed, Model, emptyModel, modelAfter, modelAnswers, hasWord, lastOr0, wordsSince}

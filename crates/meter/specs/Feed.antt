@@ -6,7 +6,7 @@ use lib.Dec.{ltb, leb, eqb}
 use Rattle.common.specs.Limits.{mostWords}
 use Rattle.common.specs.Numbers.{«ACCEPTED», «TOO_MANY_WORDS», «NO_STEP», «FOREIGN_METER»}
 use Rattle.common.specs.Chain.{refuseIf}
-use Rattle.runs.specs.Graph.{member, Graph}
+use Rattle.graph.specs.Graph.{member, Graph}
 use Rattle.meter.specs.declared.step.Meter.{Meter}
 use Rattle.meter.specs.declared.step.Fed.{Fed}
 

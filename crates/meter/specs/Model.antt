@@ -6,7 +6,7 @@ use Prim.Native.Nat.{ℕ, _+_}
 use lib.Dec.{ltb, eqb}
 use lib.ListN.{length}
 use Rattle.common.specs.Numbers.{«ACCEPTED», «NO_STEP»}
-use Rattle.runs.specs.Graph.{Graph}
+use Rattle.graph.specs.Graph.{Graph}
 use Rattle.meter.specs.Feed.{follows}
 
 -- "the calls: begin, or feed with its word number"

@@ -112,7 +112,7 @@ fn moved(words: &[u32], m: Meter, q: usize) -> Meter
             services: m.services,
         };
     }
-    if runs::successors::serves(wide(m.last), q) {
+    if runs::edges::serves(wide(m.last), q) {
         return Meter {
             begun: 1,
             last: to,

@@ -1,7 +1,7 @@
 -- Demand 3, first half, of the definition that the contract of `longest_run` cites. Assumes nothing.
 use mathlib.Core.Path.{_≡_, refl, sym, subst, _∙_}
 use mathlib.Core.Logic.{_↔_, _⊎_, inl, inr, ⊎-elim}
-use mathlib.Core.Bool.{Bool, true, false, _&&_, false≢true}
+use mathlib.Core.Bool.{Bool, true, false, _&&_, true≢false, false≢true}
 use mathlib.Core.List.{List, [], _∷_}
 use Prim.Native.Nat.{ℕ, _≤_, _<_}
 use native.Mathlib.Nat.{pos-of-ne-zero}
@@ -14,18 +14,18 @@ use Rattle.common.specs.Lowest.{lowest}
 use Rattle.common.proofs.Lowest.{lowest-laws}
 use Rattle.runs.specs.declared.longest.Run.{Run}
 use Rattle.runs.specs.declared.longest.Run.the-variants.{Accepted, Refused}
-use Rattle.runs.specs.Graph.{Graph, Reachable, weigh}
-use Rattle.runs.specs.Marks.{markOf}
-use Rattle.runs.specs.Longest.{longest, first}
-use Rattle.runs.specs.Instance.{graphOf, unitWeight}
+use Rattle.graph.specs.Graph.{Graph, Reachable, weigh}
+use Rattle.graph.specs.Marks.{markOf}
+use Rattle.graph.specs.Longest.{longest, first}
+use Rattle.runs.specs.Steps.{unitWeight}
+use Rattle.runs.specs.Instance.{graphOf}
 use Rattle.runs.specs.Run.{reachesInvalid, lowestInvalid, runOf}
-use Rattle.runs.specs.Meaning.{Meaning}
+use Rattle.graph.specs.Meaning.{Meaning}
 use Rattle.runs.specs.Demand.{MeetsInvalidAt, MeetsInvalid, Passes, RunsTooLong, Demand, RefusedExactly}
 use Rattle.common.proofs.Order.{split, same-or-not}
-use Rattle.runs.proofs.Paths.{reach-in, reach-of, segment-start}
-use Rattle.runs.proofs.Lists.{apart}
-use Rattle.runs.proofs.Meaning.{meaning}
-use Rattle.runs.proofs.Ceiling.{ceiling}
+use Rattle.graph.proofs.Laws.{laws}
+use Rattle.graph.proofs.Meaning.{meaning}
+use Rattle.graph.proofs.Ceiling.{ceiling}
 use Rattle.runs.proofs.Outcome.{run-none, run-words}
 use Rattle.runs.proofs.Lawful.{lawful}
 
@@ -46,7 +46,11 @@ module _ (ws : List ℕ) where
   means = meaning graph (lawful ws) unitWeight (λ p. omega arith)
 
   pub inside : {p : ℕ} → Reachable graph p → p < length ws
-  inside r = reach-in graph (reach-of graph r)
+  inside {p} r = laws .reaching graph (lawful ws) .below p r
+
+  -- a segment starts at a word
+  pub starts : {p k : ℕ} → Passes ws p k → p < length ws
+  starts {p} s = inside (laws .reaching graph (lawful ws) .segment p (s .rest) (s .segment))
 
   -- the lowest reachable invalid word is met by a path, and none below it is
   met : lowestInvalid ws < length ws → MeetsInvalidAt ws (lowestInvalid ws)
@@ -60,7 +64,7 @@ module _ (ws : List ℕ) where
   least-met p m =
       let y : reachesInvalid ws p ≡ true = simp (eq-eqb (markOf graph p) 1 (means .mark-one p (inside (m .reachable)) .1 (m .reachable)), m .invalid) in
       ⊎-elim (λ d. d)
-      (λ d. absurd (apart (reachesInvalid ws) p y (lowest-laws .first (reachesInvalid ws) 0 (length ws) .not-before p (omega arith) d)))
+      (λ d. absurd (true≢false (sym y ∙ lowest-laws .first (reachesInvalid ws) 0 (length ws) .not-before p (omega arith) d)))
       (split (lowest (reachesInvalid ws) (length ws)) p)
 
   unmet : length ws ≤ lowestInvalid ws → MeetsInvalid ws → ⊥

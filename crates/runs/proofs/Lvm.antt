@@ -22,8 +22,9 @@ use Rattle.fields.proofs.Laws.{laws}
 use Rattle.runs.specs.declared.edges.Successors.{Successors}
 use Rattle.runs.specs.declared.edges.Successors.the-variants.{One, Two}
 use Rattle.runs.specs.Columns.{classFrom, companionFrom}
-use Rattle.runs.specs.Successors.{unless, one, ordered, two, opcodeAt, nextOf, standsAt, companionPresent, successorsOf, isInvalid, listOf}
-use Rattle.runs.specs.Graph.{In}
+use Rattle.graph.specs.Graph.{In}
+use Rattle.runs.specs.Steps.{unless, one, ordered, two, isInvalid, listOf}
+use Rattle.runs.specs.Successors.{opcodeAt, nextOf, standsAt, companionPresent, successorsOf}
 use Rattle.runs.specs.Lvm.{Body, still, skip, arith as arithmetic, jmp, condjump, testset, call, leave, forloop, forprep, tforprep, tforcall, tforloop, setlist, assert0, absent, fetch, dojump, waysOf, switch, vmdispatch, targetsOf, bodyAt, waysAt, goesOn, integers, Alike, Agreement}
 use Rattle.runs.proofs.Columns.{class-back, companion-back}
 

@@ -1,52 +1,24 @@
 -- The moves of a search, over any graph. Assumes nothing.
-use mathlib.Core.Path.{_≡_, refl, sym, ap, ap₂, subst, _∙_}
+use mathlib.Core.Path.{_≡_, sym, ap, subst, _∙_}
 use mathlib.Core.Logic.{_⊎_, inl, inr, ⊎-elim}
 use mathlib.Core.List.{List, [], _∷_}
-use Prim.Native.Nat.{ℕ, zero, suc, _+_, _≤_, _<_, zero-le}
+use Prim.Native.Nat.{ℕ, _+_, _≤_, _<_, zero-le}
 use native.Mathlib.Nat.{not-suc-le-zero}
 use native.Mathlib.Omega.{arith}
 use lib.ListN.{length, getD, set, length-set}
 use lib.Seq.{getD-set-same, getD-set-other}
-use Rattle.runs.specs.Graph.{Graph, In, Reachable}
-use Rattle.runs.specs.Invariants.{ones, Closed, Room, Marking}
-use Rattle.runs.proofs.Paths.{Reach, start, next}
 use Rattle.common.proofs.Order.{same-or-not, past}
+use Rattle.common.proofs.Stores.{at-set, stays}
+use Rattle.graph.specs.Graph.{Graph, In, Lawful, Reachable}
+use Rattle.graph.specs.Laws.{ones}
+use Rattle.graph.proofs.Laws.{laws}
+use Rattle.runs.specs.SearchInvariants.{Closed, Room, Marking}
 
 -- from m, qu, t to m′, qu′, t′ the words of l were marked, and those among them that were not yet were queued
 pub record Pushed (g : Graph) (hand m qu : List ℕ) (h t : ℕ) (l : List ℕ) (m′ qu′ : List ℕ) (t′ : ℕ) : Type 0 where
   pub under : Marking g hand m′ qu′ h t′
   pub keeps : (x : ℕ) → getD m x 0 ≡ 1 → getD m′ x 0 ≡ 1
   pub marked : (q : ℕ) → In q l → getD m′ q 0 ≡ 1
-
--- what a list has at x after a store at q
-abbrev pub AtSet : List ℕ → ℕ → ℕ → ℕ → Type 0
-AtSet l q v x = ((x ≡ q) × (getD (set l q v) x 0 ≡ v)) ⊎ ((x ≡ q → ⊥) × (getD (set l q v) x 0 ≡ getD l x 0))
-
-pub at-set : (l : List ℕ) (q v x : ℕ) → q < length l → AtSet l q v x
-at-set l q v x h = ⊎-elim (λ e. inl (e, ap (λ (y : ℕ). getD (set l q v) y 0) e ∙ getD-set-same l q v 0 h)) (λ n. inr (n, getD-set-other l q x v 0 n)) (same-or-not x q)
-
--- a mark stays
-pub mark-stays : (m : List ℕ) (q x : ℕ) → q < length m → getD m x 0 ≡ 1 → getD (set m q 1) x 0 ≡ 1
-mark-stays m q x h e = ⊎-elim (λ w. w .1) (λ w. w .1 ∙ e) (at-set m q 1 x h)
-
-ones-out : (k : ℕ) (m : List ℕ) (q v : ℕ) → k ≤ q → q < length m → ones k (set m q v) ≡ ones k m
-unfolding ones
-ones-out zero m q v h l = refl
-ones-out (suc k) m q v h l = ap₂ (λ (a b : ℕ). a + b) (getD-set-other m q k v 0 (λ e. omega arith)) (ones-out k m q v (omega arith) l)
-
-ones-set : (k : ℕ) (m : List ℕ) (q : ℕ) → q < k → q < length m → getD m q 0 ≡ 0 → ones k (set m q 1) ≡ ones k m + 1
-unfolding ones
-ones-set zero m q h l e = absurd (not-suc-le-zero h)
-ones-set (suc k) m q h l e =
-    ⊎-elim
-    (λ w. let o = ones-out k m q 1 (omega arith) l in let z : getD m k 0 ≡ 0 = ap (λ (y : ℕ). getD m y 0) (w .0) ∙ e in omega arith)
-    (λ w. let o = ones-set k m q (past (omega arith) (w .0)) l e in omega arith)
-    (at-set m q 1 k l)
-
-pub ones-le : (k : ℕ) (m : List ℕ) → ((p : ℕ) → p < k → getD m p 0 ≤ 1) → ones k m ≤ k
-unfolding ones
-ones-le zero m b = zero-le
-ones-le (suc k) m b = let h = ones-le k m (λ p d. b p (omega arith)) in omega (arith, b k (omega arith))
 
 pub in-one : {x q : ℕ} → In x (q ∷ []) → x ≡ q
 in-one {x} {q} i = ⊎-elim (λ e. e) (λ n. absurd n) i
@@ -55,21 +27,21 @@ module _ (g : Graph) where
   -- a word that is not marked yet is marked: the count, and what else it leaves of the marks
   module _ (m qu : List ℕ) (t : ℕ) (r : Room g m qu t) where
     pub tail-le : t ≤ g .size
-    tail-le = omega (arith, ones-le (g .size) m (r .bits), r .count)
+    tail-le = omega (arith, laws .counting .few (g .size) m (r .bits), r .count)
 
     module _ (q : ℕ) (l : q < g .size) (new : getD m q 0 ≡ 0) where
       in-m : q < length m
       in-m = omega (arith, r .m-long)
 
       pub count-set : ones (g .size) (set m q 1) ≡ ones (g .size) m + 1
-      count-set = ones-set (g .size) m q l in-m new
+      count-set = laws .counting .one-more (g .size) m q l in-m new
 
       pub bits-set : (p : ℕ) → p < g .size → getD (set m q 1) p 0 ≤ 1
       bits-set p h = ⊎-elim (λ w. omega arith) (λ w. omega (arith, r .bits p h)) (at-set m q 1 p in-m)
 
       -- there is room in the queue for it
       pub tail-lt : t < g .size
-      tail-lt = omega (arith, ones-le (g .size) (set m q 1) bits-set, count-set, r .count)
+      tail-lt = omega (arith, laws .counting .few (g .size) (set m q 1) bits-set, count-set, r .count)
 
       pub room-hold : Room g (set m q 1) qu t
       room-hold = record { m-long = simp length-set (r .m-long); qu-long = r .qu-long; bits = bits-set; count = omega (arith, count-set, r .count) }
@@ -124,10 +96,10 @@ module _ (g : Graph) where
       sound-set p l e = ⊎-elim (λ w. subst (λ (x : ℕ). Reachable g x) (sym (w .0)) r) (λ w. k .sound p l (sym (w .1) ∙ e)) (at-set m q 1 p inside)
 
       closed-set : (x : ℕ) → Closed g m x → Closed g (set m q 1) x
-      closed-set x c s i = mark-stays m q s inside (c s i)
+      closed-set x c s i = stays m q 1 s inside (c s i)
 
       held-set : (x : ℕ) → In x hand → (x < g .size) × (getD (set m q 1) x 0 ≡ 1)
-      held-set x i = let o = k .held x i in (o .0, mark-stays m q x inside (o .1))
+      held-set x i = let o = k .held x i in (o .0, stays m q 1 x inside (o .1))
 
       -- a new word is marked and queued
       pub marking-push : Marking g hand (set m q 1) (set qu t q) h (t + 1)
@@ -137,7 +109,7 @@ module _ (g : Graph) where
         sound = sound-set;
         queued = λ i l. ⊎-elim
             (λ w. (omega arith, ap (λ (x : ℕ). getD (set m q 1) x 0) (w .1) ∙ getD-set-same m q 1 0 inside))
-            (λ w. let o = k .queued i (past (omega arith) (λ e. w .0 (sym e))) in (omega arith, ap (λ (x : ℕ). getD (set m q 1) x 0) (w .1) ∙ mark-stays m q (getD qu i 0) inside (o .1)))
+            (λ w. let o = k .queued i (past (omega arith) (λ e. w .0 (sym e))) in (omega arith, ap (λ (x : ℕ). getD (set m q 1) x 0) (w .1) ∙ stays m q 1 (getD qu i 0) inside (o .1)))
             (at-set qu t q i in-qu);
         held = held-set;
         todo = λ p l e. ⊎-elim
@@ -158,16 +130,13 @@ module _ (g : Graph) where
         room = room-hold m qu t (k .room) q lq new;
         order = k .order;
         sound = sound-set;
-        queued = λ i l. let o = k .queued i l in (o .0, mark-stays m q (getD qu i 0) inside (o .1));
+        queued = λ i l. let o = k .queued i l in (o .0, stays m q 1 (getD qu i 0) inside (o .1));
         held = λ x i. ⊎-elim (λ e. (omega arith, ap (λ (y : ℕ). getD (set m q 1) y 0) e ∙ getD-set-same m q 1 0 inside)) (λ j. held-set x j) i;
         todo = λ p l e. ⊎-elim
             (λ w. inr (inr (inl (w .0))))
             (λ w. ⊎-elim (λ u. inl u) (λ u. inr (⊎-elim (λ c. inl (closed-set p c)) (λ i. inr (inr i)) u)) (k .todo p l (sym (w .1) ∙ e)))
             (at-set m q 1 p inside);
       }
-
-    pub pushed-none : Pushed g hand m qu h t [] m qu t
-    pushed-none = record { under = k; keeps = λ x e. e; marked = λ q i. absurd i }
 
     pub pushed-old : (q : ℕ) → getD m q 0 ≡ 1 → Pushed g hand m qu h t (q ∷ []) m qu t
     pushed-old q o = record { under = k; keeps = λ x e. e; marked = λ x i. ap (λ (y : ℕ). getD m y 0) (in-one i) ∙ o }
@@ -176,21 +145,12 @@ module _ (g : Graph) where
     pushed-new q lq new r =
         record {
           under = marking-push q lq new r;
-          keeps = λ x e. mark-stays m q x (omega (arith, k .room .m-long)) e;
+          keeps = λ x e. stays m q 1 x (omega (arith, k .room .m-long)) e;
           marked = λ x i. ap (λ (y : ℕ). getD (set m q 1) y 0) (in-one i) ∙ getD-set-same m q 1 0 (omega (arith, k .room .m-long));
         }
 
-  -- a search with nothing to do has marked every word that is reached
-  pub marking-done : (m qu : List ℕ) (h t : ℕ) → Marking g [] m qu h t → t ≤ h → getD m 0 0 ≡ 1 → {p : ℕ} → Reach g p → (p < g .size) × (getD m p 0 ≡ 1)
-  marking-done m qu h t k d root (start e z) = (omega arith, ap (λ (y : ℕ). getD m y 0) e ∙ root)
-  marking-done m qu h t k d root (next {p = o} {q = q} r i l) =
-      let ih = marking-done m qu h t k d root r in
-      (l, ⊎-elim (λ u. absurd (omega (arith, u .1, u .2))) (λ u. ⊎-elim (λ c. c q i) (λ n. absurd n) u) (k .todo o (ih .0) (ih .1)))
-
-pub pushed-join : (g : Graph) (hand : List ℕ) (h : ℕ) {m m₁ m₂ qu qu₁ qu₂ : List ℕ} {t t₁ t₂ q : ℕ} {qs : List ℕ} → Pushed g hand m qu h t (q ∷ []) m₁ qu₁ t₁ → Pushed g hand m₁ qu₁ h t₁ qs m₂ qu₂ t₂ → Pushed g hand m qu h t (q ∷ qs) m₂ qu₂ t₂
-pushed-join g hand h u v =
-    record {
-      under = v .under;
-      keeps = λ x e. v .keeps x (u .keeps x e);
-      marked = λ x i. ⊎-elim (λ e. v .keeps x (u .marked x (inl e))) (λ j. v .marked x j) i;
-    }
+  -- a search with nothing to do has marked every word that is reachable
+  pub marking-done : Lawful g → (m qu : List ℕ) (h t : ℕ) → Marking g [] m qu h t → t ≤ h → getD m 0 0 ≡ 1 → (p : ℕ) → Reachable g p → getD m p 0 ≡ 1
+  marking-done law m qu h t k d root =
+      laws .reaching g law .induction (λ (p : ℕ). getD m p 0 ≡ 1) root
+      (λ p q r e i. ⊎-elim (λ u. absurd (omega (arith, u .1, u .2))) (λ u. ⊎-elim (λ c. c q i) (λ n. absurd n) u) (k .todo p (laws .reaching g law .below p r) e))

@@ -1,30 +1,24 @@
 -- Which check answers where, and what the slices then hold. Assumes nothing.
-use mathlib.Core.Path.{_≡_, sym, ap, _∙_}
-use mathlib.Core.Bool.{true, or-true}
+use mathlib.Core.Path.{_≡_, refl, sym, ap, _∙_}
+use mathlib.Core.Bool.{Bool, true, false, cond, or-true}
 use mathlib.Core.List.{List, _++_}
 use Prim.Native.Nat.{ℕ, _≤_, _<_}
 use native.Mathlib.Omega.{arith}
 use borrow.Author.Tests.{lt-ltb, le-ltb, eq-eqb, ne-eqb}
-use lib.Dec.{ltb}
-use lib.ListN.{length, drop, replicate}
+use lib.Dec.{ltb, eqb}
+use lib.ListN.{length, drop}
 use Rattle.common.specs.Limits.{mostWords}
 use Rattle.common.specs.Numbers.{«TOO_MANY_WORDS», «SHORT_SLICE», «NO_WORDS», «REACHES_INVALID»}
 use Rattle.common.specs.Chain.{refuseIf}
-use Rattle.common.specs.Lists.{over}
+use Rattle.common.specs.Lists.{tabulate, over}
+use Rattle.graph.specs.Marks.{markOf}
+use Rattle.graph.specs.Longest.{lengthOf, longest, first}
 use Rattle.runs.specs.declared.longest.Run.{Run}
 use Rattle.runs.specs.declared.longest.Run.the-variants.{Accepted, Refused}
-use Rattle.runs.specs.Marks.{markOf}
-use Rattle.runs.specs.Longest.{lengthOf, longest, first}
-use Rattle.runs.specs.Instance.{graphOf, unitWeight}
-use Rattle.runs.specs.Run.{lowestInvalid, runOf, untouched, marksAfter, lengthsAfter}
-use Rattle.runs.specs.Invariants.{Lent}
-use Rattle.common.proofs.Over.{over-laws}
-
--- what the checks after the search say
-abbrev pub decided : List ℕ → Run
-decided ws =
-    refuseIf (ltb (lowestInvalid ws) (length ws)) (Refused «REACHES_INVALID» (lowestInvalid ws))
-    (Accepted (longest (graphOf ws) unitWeight) (first (graphOf ws) unitWeight))
+use Rattle.runs.specs.Steps.{unitWeight}
+use Rattle.runs.specs.Instance.{graphOf}
+use Rattle.runs.specs.Run.{numberOf, lowestInvalid, runOf, untouched, marksAfter, lengthsAfter}
+use Rattle.runs.specs.Outcome.{decided, Decided}
 
 -- the checks before any word is read
 module _ (ws : List ℕ) (a b : ℕ) where
@@ -60,23 +54,32 @@ module _ (ws m l : List ℕ) where
   unfolding marksAfter lengthsAfter
   outcome-kept number e u = (sym e, (simp (e, u), simp (e, u)))
 
-  module _ (lent : Lent (length ws) m l) where
-    run-is : runOf ws (length m) (length l) ≡ decided ws
-    run-is = run-words ws (length m) (length l) (lent .few) (lent .m-long) (lent .l-long) (lent .some)
+-- the outcome of words that pass the checks of their number and of the slices
+module _ (ws : List ℕ) {m l : List ℕ} (marks : m ≡ tabulate (markOf (graphOf ws)) 0 (length ws)) where
+  pub decided-invalid : {p : ℕ} → p ≡ lowestInvalid ws → p < length ws → l ≡ tabulate (λ p. 0) 0 (length ws) → Decided ws (Refused «REACHES_INVALID» p) m l
+  decided-invalid {p} q h e = record { answer = simp (← q, lt-ltb p (length ws) h); marks = marks; lengths = e }
 
-    module _ {m′ l′ : List ℕ} (marks : m′ ≡ over (markOf (graphOf ws)) (length ws) m) where
-      zeros : l′ ≡ replicate (length ws) 0 ++ drop (length ws) l → l′ ≡ over (λ p. 0) (length ws) l
-      zeros e = e ∙ ap (λ (x : List ℕ). x ++ drop (length ws) l) (over-laws .zeros 0 (length ws))
+  module _ (valid : length ws ≤ lowestInvalid ws) where
+    pub decided-accepted : {v a : ℕ} → v ≡ longest (graphOf ws) unitWeight → a ≡ first (graphOf ws) unitWeight → l ≡ tabulate (lengthOf (graphOf ws) unitWeight) 0 (length ws) → Decided ws (Accepted v a) m l
+    decided-accepted {v} {a} q f e = record { answer = simp (le-ltb _ _ valid, ← q, ← f); marks = marks; lengths = e }
 
-      pub outcome-invalid : {p : ℕ} → p ≡ lowestInvalid ws → p < length ws → l′ ≡ replicate (length ws) 0 ++ drop (length ws) l → Outcome (Refused «REACHES_INVALID» p) m′ l′
-      unfolding marksAfter lengthsAfter
-      outcome-invalid {p} q h e =
-          let r : runOf ws (length m) (length l) ≡ Refused «REACHES_INVALID» p = run-is ∙ simp (← q, lt-ltb p (length ws) h) in
-          (sym r, (simp r marks, simp r (zeros e)))
+-- and of the slices whose first parts they were lent
+decided-touches : (ws : List ℕ) → untouched (numberOf (decided ws)) ≡ false
+decided-touches ws = go (ltb (lowestInvalid ws) (length ws))
+  where
+    go : (a : Bool) → untouched (numberOf (refuseIf a (Refused «REACHES_INVALID» (lowestInvalid ws)) (Accepted (longest (graphOf ws) unitWeight) (first (graphOf ws) unitWeight)))) ≡ false
+    go true = refl
+    go false = refl
 
-      module _ (valid : length ws ≤ lowestInvalid ws) where
-        pub outcome-accepted : {v a : ℕ} → v ≡ longest (graphOf ws) unitWeight → a ≡ first (graphOf ws) unitWeight → l′ ≡ over (lengthOf (graphOf ws) unitWeight) (length ws) l → Outcome (Accepted v a) m′ l′
-        unfolding marksAfter lengthsAfter
-        outcome-accepted {v} {a} q f e =
-            let r : runOf ws (length m) (length l) ≡ Accepted v a = run-is ∙ simp (le-ltb _ _ valid, ← q, ← f) in
-            (sym r, (simp r marks, simp r e))
+module _ (ws m l : List ℕ) (few : length ws ≤ mostWords) (h : length ws ≤ length m) (k : length ws ≤ length l) (some : 0 < length ws) where
+  pub outcome-words : {r : Run} {m′ l′ : List ℕ} → Decided ws r m′ l′ → Outcome ws m l r (m′ ++ drop (length ws) m) (l′ ++ drop (length ws) l)
+  unfolding marksAfter lengthsAfter
+  outcome-words {r} {m′} {l′} d =
+      let e : runOf ws (length m) (length l) ≡ r = run-words ws (length m) (length l) few h k some ∙ sym (d .answer) in
+      let u : untouched (numberOf r) ≡ false = ap (λ (x : Run). untouched (numberOf x)) (d .answer) ∙ decided-touches ws in
+      (sym e, (simp (e, u) (ap (λ (x : List ℕ). x ++ drop (length ws) m) (d .marks)), simp (e, u) (go (eqb (numberOf r) 0) (d .lengths))))
+    where
+      go : (b : Bool) → l′ ≡ cond b (tabulate (lengthOf (graphOf ws) unitWeight) 0 (length ws)) (tabulate (λ p. 0) 0 (length ws))
+          → l′ ++ drop (length ws) l ≡ cond b (over (lengthOf (graphOf ws) unitWeight) (length ws) l) (over (λ p. 0) (length ws) l)
+      go true e = ap (λ (x : List ℕ). x ++ drop (length ws) l) e
+      go false e = ap (λ (x : List ℕ). x ++ drop (length ws) l) e

@@ -11,19 +11,19 @@ use Rattle.common.specs.Limits.{mostWords}
 use Rattle.common.specs.Numbers.{«ACCEPTED», «REACHES_INVALID»}
 use Rattle.common.specs.Lists.{over}
 use Rattle.runs.specs.declared.longest.Run.{Run}
-use Rattle.runs.specs.Graph.{Reachable}
-use Rattle.runs.specs.Marks.{markOf}
-use Rattle.runs.specs.Longest.{lengthOf}
-use Rattle.runs.specs.Instance.{graphOf, unitWeight}
+use Rattle.graph.specs.Graph.{Reachable}
+use Rattle.graph.specs.Marks.{markOf}
+use Rattle.graph.specs.Longest.{lengthOf}
+use Rattle.runs.specs.Steps.{unitWeight}
+use Rattle.runs.specs.Instance.{graphOf}
 use Rattle.runs.specs.Run.{numberOf, runOf, untouched, numberIs, marksAfter, lengthsAfter}
 use Rattle.runs.specs.Demand.{Passes}
 use Rattle.runs.specs.Slices.{Kept, ReachableMarks, SegmentLengths, ZeroLengths, RefusedLate, RefusedEarly, Slices}
 use Rattle.runs.specs.Laws.{Enough}
 use Rattle.common.proofs.Order.{split}
-use Rattle.runs.proofs.Paths.{reach-in, segment-start}
-use Rattle.runs.proofs.Lists.{over-at, over-past, over-length}
+use Rattle.common.proofs.Over.{over-laws}
 use Rattle.runs.proofs.Outcome.{run-many, run-short-marks, run-short-lengths}
-use Rattle.runs.proofs.Demand.{weigh-counts, means, inside}
+use Rattle.runs.proofs.Demand.{weigh-counts, means, inside, starts}
 
 -- A number that is given after the search: the checks of the sizes were passed.
 module _ (ws : List ℕ) (a b : ℕ) (looked : untouched (numberOf (runOf ws a b)) ≡ false) where
@@ -48,18 +48,18 @@ enough ws a b e = enough-looked ws a b (ap untouched e)
 -- The lists by themselves.
 module _ (ws before : List ℕ) (long : length ws ≤ length before) where
   kept : (f : ℕ → ℕ) → Kept (length ws) before (over f (length ws) before)
-  kept f = record { size = over-length f (length ws) before long; past = over-past f (length ws) before }
+  kept f = record { size = over-laws .length-over f (length ws) before long; past = over-laws .past f (length ws) before }
 
   marked : ReachableMarks ws before (over (markOf (graphOf ws)) (length ws) before)
   marked =
       record {
-        one = λ p h. rw (over-at (markOf (graphOf ws)) (length ws) before p h) (means ws .mark-one p h);
-        zero = λ p h. rw (over-at (markOf (graphOf ws)) (length ws) before p h) (means ws .mark-zero p h);
+        one = λ p h. rw (over-laws .at (markOf (graphOf ws)) (length ws) before p h) (means ws .mark-one p h);
+        zero = λ p h. rw (over-laws .at (markOf (graphOf ws)) (length ws) before p h) (means ws .mark-zero p h);
         kept = kept (markOf (graphOf ws));
       }
 
   zeros : ZeroLengths ws before (over (λ p. 0) (length ws) before)
-  zeros = record { each = over-at (λ p. 0) (length ws) before; kept = kept (λ p. 0) }
+  zeros = record { each = over-laws .at (λ p. 0) (length ws) before; kept = kept (λ p. 0) }
 
   abbrev lengths-of : ℕ → ℕ
   lengths-of = lengthOf (graphOf ws) unitWeight
@@ -69,14 +69,14 @@ module _ (ws before : List ℕ) (long : length ws ≤ length before) where
       record {
         most = λ p k s. most p k s;
         reached = λ p r. reached p r;
-        none = λ p h n. over-at lengths-of (length ws) before p h ∙ means ws .length-none p h n;
+        none = λ p h n. over-laws .at lengths-of (length ws) before p h ∙ means ws .length-none p h n;
         kept = kept lengths-of;
       }
     where
       most : (p k : ℕ) → Passes ws p k → k ≤ getD (over lengths-of (length ws) before) p 0
       most p k s =
-          let h : p < length ws = reach-in (graphOf ws) (segment-start (graphOf ws) (s .segment)) in
-          rw (over-at lengths-of (length ws) before p h)
+          let h : p < length ws = starts ws s in
+          rw (over-laws .at lengths-of (length ws) before p h)
           (omega (arith, s .count, weigh-counts (p ∷ s .rest), means ws .length-most p (s .rest) (s .segment)))
 
       reached : (p : ℕ) → Reachable (graphOf ws) p → Passes ws p (getD (over lengths-of (length ws) before) p 0)
@@ -85,7 +85,7 @@ module _ (ws before : List ℕ) (long : length ws ≤ length before) where
           record {
             rest = a .0;
             segment = a .1;
-            count = sym (weigh-counts (p ∷ a .0)) ∙ (a .2 ∙ sym (over-at lengths-of (length ws) before p (inside ws r)));
+            count = sym (weigh-counts (p ∷ a .0)) ∙ (a .2 ∙ sym (over-laws .at lengths-of (length ws) before p (inside ws r)));
           }
 
 -- The slices after a run.

@@ -1,20 +1,17 @@
--- The laws of specs/Successors.antt: which case holds where. The proofs cite these and do not open the definitions.
--- Assumes nothing.
+-- The laws of specs/Steps.antt: which case holds where, and what holds of the steps. The proofs cite these and do not open the
+-- definitions. No word is read here. Assumes nothing.
 use Prim.Native.Nat.{ℕ, zero, suc, _+_, _-_, _<_, _≤_}
 use mathlib.Core.Path.{_≡_, refl, ap, sym, _∙_}
-use mathlib.Core.Bool.{Bool, true, false, false≢true}
+use mathlib.Core.Logic.{_⊎_, inl, inr, ⊎-elim}
+use mathlib.Core.Bool.{Bool, true, false, cond, false≢true}
+use native.Mathlib.Nat.{not-suc-le-zero}
 use native.Mathlib.Omega.{arith}
-use mathlib.Core.List.{List}
-use lib.ListN.{length, getD}
-use Rattle.fields.specs.Table.{classOf, companionOf}
-use Rattle.runs.specs.Columns.{classFrom, companionFrom}
 use lib.Dec.{ltb}
 use lib.IntN.{ℤ, pos, negsuc, negℤ, _+ℤ_, _-ℤ_, +ℤ-assoc}
-use native.Mathlib.Nat.{not-suc-le-zero}
-use borrow.Author.Tests.{lt-ltb, le-ltb}
+use borrow.Author.Tests.{lt-ltb, le-ltb, ltb-true, leb-false}
 use Rattle.runs.specs.declared.edges.Successors.{Successors}
-use Rattle.runs.specs.declared.edges.Successors.the-variants.{Invalid, One, Two}
-use Rattle.runs.specs.Successors.{unless, one, ordered, two, opcodeAt, nextOf, standsAt, companionPresent, successorsOf}
+use Rattle.runs.specs.declared.edges.Successors.the-variants.{Invalid, Stop, One, Two}
+use Rattle.runs.specs.Steps.{unless, one, ordered, two, servesOf, Below}
 
 pub one-in : {n q : ℕ} → q < n → One q ≡ one n (pos q)
 unfolding one unless
@@ -79,19 +76,75 @@ module _ (n x b : ℕ) where
       two-equal n x ∙ ap (λ (z : ℤ). two n z (pos x)) (ap pos (omega arith) ∙ sym (difference-in x b (omega arith)))
 
 -- a test that holds
-let-through : (t : Bool) (s : Successors) → t ≡ true → s ≡ unless t s
+pub let-through : (t : Bool) (s : Successors) → t ≡ true → s ≡ unless t s
 unfolding unless
 let-through true s e = refl
 let-through false s e = absurd (false≢true e)
 
--- a word, by the columns of its opcode
-module _ (ws : List ℕ) (p : ℕ) where
-  pub outside : length ws ≤ p → successorsOf ws p ≡ Invalid
-  unfolding successorsOf unless
-  outside h = rw (le-ltb p (length ws) h)
+-- Steps are below the number of words, the lower first.
 
-  -- within the words, by the numbers of the two columns
-  module _ (companion class : ℕ) (inside : p < length ws) (d : companionFrom companion ≡ companionOf (opcodeAt ws p)) (e : classFrom class ≡ classOf (opcodeAt ws p)) where
-    pub by-columns : unless (standsAt (companionFrom companion) ws p) (nextOf (classFrom class) (length ws) (getD ws p 0) p) ≡ successorsOf ws p
-    unfolding successorsOf companionPresent
-    by-columns = rw (d, e) (let-through (ltb p (length ws)) _ (lt-ltb p (length ws) inside))
+-- a test, and what it says where it holds
+pub by-test : (n : ℕ) (t : Bool) (s : Successors) → (t ≡ true → Below n s) → Below n (unless t s)
+unfolding unless
+by-test n true s f = f refl
+by-test n false s f = tt
+
+pub picked : (n : ℕ) (t : Bool) (a b : Successors) → (t ≡ true → Below n a) → Below n b → Below n (cond t a b)
+picked n true a b f g = f refl
+picked n false a b f g = g
+
+pub one-below : (n : ℕ) (z : ℤ) → Below n (one n z)
+unfolding one
+one-below n (pos q) = by-test n (ltb q n) (One q) (ltb-true q n)
+one-below n (negsuc q) = tt
+
+pub two-below : (n : ℕ) (z y : ℤ) → Below n (two n z y)
+unfolding two ordered
+two-below n (pos q) (pos r) =
+    by-test n (ltb q n) _ λ p. by-test n (ltb r n) _ λ k.
+    picked n (ltb q r) (Two q r) _ (λ e. (ltb-true q r e, ltb-true r n k))
+    (picked n (ltb r q) (Two r q) (One q) (λ e. (ltb-true r q e, ltb-true q n p)) (ltb-true q n p))
+two-below n (pos q) (negsuc r) = tt
+two-below n (negsuc q) y = tt
+
+-- a step that does not serve goes forward
+pub forward : (p q : ℕ) → servesOf p q ≡ false → p < q
+unfolding servesOf
+forward p q e = omega (arith, leb-false q _ e)
+
+-- of two successors one is the next word
+abbrev pub Nexts : ℕ → Successors → Type 0
+Nexts p Invalid = Unit {0}
+Nexts p Stop = Unit {0}
+Nexts p (One a) = Unit {0}
+Nexts p (Two a b) = (a ≡ p + 1) ⊎ (b ≡ p + 1)
+
+module _ (p : ℕ) where
+  pub nexts-picked : (t : Bool) (a b : Successors) → Nexts p a → Nexts p b → Nexts p (cond t a b)
+  nexts-picked true a b x y = x
+  nexts-picked false a b x y = y
+
+  pub nexts-unless : (t : Bool) (s : Successors) → Nexts p s → Nexts p (unless t s)
+  unfolding unless
+  nexts-unless t s x = nexts-picked t s Invalid x tt
+
+  pub nexts-one : (n : ℕ) (z : ℤ) → Nexts p (one n z)
+  unfolding one
+  nexts-one n (pos q) = nexts-unless (ltb q n) (One q) tt
+  nexts-one n (negsuc q) = tt
+
+  nexts-ordered : (n q r : ℕ) → (q ≡ p + 1) ⊎ (r ≡ p + 1) → Nexts p (unless (ltb q n) (unless (ltb r n) (ordered q r)))
+  unfolding ordered
+  nexts-ordered n q r e =
+      nexts-unless (ltb q n) _ (nexts-unless (ltb r n) _
+      (nexts-picked (ltb q r) (Two q r) _ e (nexts-picked (ltb r q) (Two r q) (One q) (⊎-elim (λ x. inr x) (λ x. inl x) e) tt)))
+
+  pub nexts-up : (n : ℕ) (z : ℤ) → Nexts p (two n (pos (p + 1)) z)
+  unfolding two
+  nexts-up n (pos r) = nexts-ordered n (p + 1) r (inl refl)
+  nexts-up n (negsuc r) = tt
+
+  pub nexts-down : (n : ℕ) (z : ℤ) → Nexts p (two n z (pos (p + 1)))
+  unfolding two
+  nexts-down n (pos q) = nexts-ordered n q (p + 1) (inr refl)
+  nexts-down n (negsuc q) = tt

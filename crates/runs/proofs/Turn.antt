@@ -1,72 +1,56 @@
 -- The search in the terms of the code: a turn, and the loop. Assumes nothing.
-use mathlib.Core.Path.{_≡_, refl, sym, ap, subst, subst₃, _∙_}
-use mathlib.Core.Logic.{inl, inr, ⊎-elim}
+use mathlib.Core.Path.{_≡_, refl, sym, ap, subst, _∙_}
+use mathlib.Core.Logic.{_⊎_, inl, inr, ⊎-elim}
 use mathlib.Core.Bool.{Bool, true, false, cond}
 use mathlib.Core.List.{List, [], _∷_, _++_}
 use Prim.Native.Nat.{ℕ, zero, _+_, _-_, _≤_, _<_}
 use native.Mathlib.Nat.{le-refl}
-use borrow.Author.Tests.{eqb-true}
-use lib.Dec.{eqb}
 use native.Mathlib.Omega.{arith}
 use lib.ListN.{length, getD, set, drop, replicate, length-append, length-replicate, length-drop, getD-replicate, List·getD-append}
-use lib.Seq.{drop-at, drop-set-lt, getD-set-same}
+use lib.Seq.{getD-set-same}
 use Rattle.common.specs.Limits.{mostWords}
-use Rattle.runs.specs.Graph.{Graph, In, Lawful, Reachable}
-use Rattle.runs.specs.Marks.{push, markOf}
-use Rattle.runs.specs.Invariants.{ones, Closed, Room, Marking, inHand, Turned, Visiting, Visited, searchAt}
 use Rattle.common.proofs.Order.{one-of, bit}
-use Rattle.runs.proofs.Paths.{start, reach-of, reachable-of, reachable-next}
-use Rattle.runs.proofs.Moves.{in-one, ones-le, mark-stays, Pushed, count-set, tail-lt, tail-le, room-push, marking-none, marking-take, marking-hand, marking-hold, marking-done}
-use Rattle.runs.proofs.Marks.{push-is, mark-of-reach, reach-of-mark, mark-bit}
-
--- what `push` asks and gives
-abbrev pub Asks : List ℕ → List ℕ → ℕ → ℕ → Type 0
-Asks m qu t q = (q < length m) × (getD m q 0 ≡ 0 → t < length qu) × (q < mostWords)
-
-abbrev pub Gives : List ℕ → List ℕ → ℕ → ℕ → List ℕ → List ℕ → ℕ → Type 0
-Gives m qu t q m′ qu′ t′ =
-    (m′ ≡ push (searchAt m qu t) q .marks) × (qu′ ≡ push (searchAt m qu t) q .queue) × (t′ ≡ push (searchAt m qu t) q .tail)
+use Rattle.common.proofs.Stores.{stays}
+use Rattle.graph.specs.Graph.{Graph, In, Lawful, Reachable}
+use Rattle.graph.specs.Marks.{markOf}
+use Rattle.graph.specs.Laws.{ones}
+use Rattle.graph.proofs.Laws.{laws}
+use Rattle.runs.specs.SearchInvariants.{Closed, Room, Marking, inHand, Reaches, fresh, seen, Turned, Queued, entered, there, PushAsks, Visiting, Visited}
+use Rattle.runs.proofs.Moves.{in-one, Pushed, count-set, tail-lt, tail-le, room-push, pushed-old, pushed-new, marking-none, marking-take, marking-hand, marking-hold, marking-done}
 
 -- what a push leaves, whatever the search
 pub record Kept (g : Graph) (m qu : List ℕ) (t : ℕ) (m′ qu′ : List ℕ) (t′ : ℕ) : Type 0 where
   pub room : Room g m′ qu′ t′
   pub keeps : (x : ℕ) → getD m x 0 ≡ 1 → getD m′ x 0 ≡ 1
   pub grows : ones (g .size) m ≤ ones (g .size) m′
-  pub m-rest : drop (g .size) m′ ≡ drop (g .size) m
-  pub qu-rest : drop (g .size) qu′ ≡ drop (g .size) qu
 
 module _ (g : Graph) (m qu : List ℕ) (t : ℕ) (r : Room g m qu t) (q : ℕ) (l : q < g .size) where
-  pub push-asks : g .size ≤ mostWords → Asks m qu t q
-  push-asks s = (omega (arith, r .m-long), λ e. omega (arith, r .qu-long, tail-lt g m qu t r q l e), omega arith)
+  pub push-asks : g .size ≤ mostWords → PushAsks m qu t q
+  push-asks s = record { in-m = omega (arith, r .m-long); in-l = λ e. omega (arith, r .qu-long, tail-lt g m qu t r q l e); few = omega arith }
 
-  push-kept : let s = push (searchAt m qu t) q in Kept g m qu t (s .marks) (s .queue) (s .tail)
-  push-kept = go (eqb (getD m q 0) 0) refl
-    where
-      go : (b : Bool) → eqb (getD m q 0) 0 ≡ b → let s = cond b (record { marks = set m q 1; queue = set qu t q; head = 0; tail = t + 1 }) (searchAt m qu t) in Kept g m qu t (s .marks) (s .queue) (s .tail)
-      go true e =
-          let new = eqb-true (getD m q 0) 0 e in
-          record {
-            room = room-push g m qu t r q l new;
-            keeps = λ x o. mark-stays m q x (omega (arith, r .m-long)) o;
-            grows = omega (arith, count-set g m qu t r q l new);
-            m-rest = drop-set-lt (g .size) m q 1 l;
-            qu-rest = drop-set-lt (g .size) qu t q (tail-lt g m qu t r q l new);
-          }
-      go false e = record { room = r; keeps = λ x o. o; grows = le-refl (ones (g .size) m); m-rest = refl; qu-rest = refl }
+  pub push-keeps : {m′ qu′ : List ℕ} {t′ : ℕ} → Queued m qu t q m′ qu′ t′ → Kept g m qu t m′ qu′ t′
+  push-keeps (entered h) =
+      record {
+        room = room-push g m qu t r q l h;
+        keeps = λ x o. stays m q 1 x (omega (arith, r .m-long)) o;
+        grows = omega (arith, count-set g m qu t r q l h);
+      }
+  push-keeps (there h) = record { room = r; keeps = λ x o. o; grows = le-refl (ones (g .size) m) }
 
-  module _ {m′ qu′ : List ℕ} {t′ : ℕ} (e : Gives m qu t q m′ qu′ t′) where
-    pub push-keeps : Kept g m qu t m′ qu′ t′
-    push-keeps = subst₃ (λ (a b : List ℕ) (c : ℕ). Kept g m qu t a b c) (sym (e .0)) (sym (e .1)) (sym (e .2)) push-kept
+  pub push-gives : {m′ qu′ : List ℕ} {t′ : ℕ} → Queued m qu t q m′ qu′ t′ → (hand : List ℕ) (h : ℕ) → Marking g hand m qu h t → Reachable g q → Pushed g hand m qu h t (q ∷ []) m′ qu′ t′
+  push-gives (entered e) hand h k w = pushed-new g hand m qu h t k q l e w
+  push-gives (there e) hand h k w = pushed-old g hand m qu h t k q (one-of (r .bits q l) e)
 
-    pub push-gives : (hand : List ℕ) (h : ℕ) → Marking g hand m qu h t → Reachable g q → Pushed g hand m qu h t (q ∷ []) m′ qu′ t′
-    push-gives hand h k w =
-        subst₃ (λ (a b : List ℕ) (c : ℕ). Pushed g hand m qu h t (q ∷ []) a b c) (sym (e .0)) (sym (e .1)) (sym (e .2))
-        (push-is g hand h (searchAt m qu t) q k l w)
+-- a and b are the successors of p, in either order
+pub record Both (g : Graph) (p a b : ℕ) : Type 0 where
+  pub one : In a (g .successors p)
+  pub other : In b (g .successors p)
+  pub only : (q : ℕ) → In q (g .successors p) → (q ≡ a) ⊎ (q ≡ b)
 
 -- a visit of word p
 module _ (g : Graph) (law : Lawful g) (m qu : List ℕ) (p t : ℕ) (r : Room g m qu t) where
   successor-reached : (hand : List ℕ) (h : ℕ) → Marking g (p ∷ hand) m qu h t → (q : ℕ) → In q (g .successors p) → Reachable g q
-  successor-reached hand h k q i = let o = k .held p (inl refl) in reachable-next g law (k .sound p (o .0) (o .1)) i
+  successor-reached hand h k q i = let o = k .held p (inl refl) in laws .reaching g law .next p q (k .sound p (o .0) (o .1)) i
 
   -- the word in hand is done with
   done : (m′ qu′ : List ℕ) (h t′ : ℕ) → Marking g (p ∷ []) m′ qu′ h t′ → Closed g m′ p → Marking g [] m′ qu′ h t′
@@ -95,125 +79,118 @@ module _ (g : Graph) (law : Lawful g) (m qu : List ℕ) (p t : ℕ) (r : Room g 
         under = λ h k. done m qu h t k (closed-by m [] e (λ q i. absurd i));
         keeps = λ x o. o;
         grows = omega arith;
-        m-rest = refl;
-        qu-rest = refl;
       }
 
   -- one successor
   module _ {a : ℕ} (e : a ∷ [] ≡ g .successors p) where
-    pub turned-old : (getD m a 0 ≡ 0 → ⊥) → Turned g m qu p t m qu false 0 t
+    turned-old : (getD m a 0 ≡ 0 → ⊥) → Turned g m qu p t m qu false 0 t
     turned-old n =
         record {
           under = λ h k. done m qu h t k (closed-by m (a ∷ []) e (λ q i. ap (λ (y : ℕ). getD m y 0) (in-one i) ∙ one-of (r .bits a (first-in e)) n));
           keeps = λ x o. o;
           grows = omega arith;
-          m-rest = refl;
-          qu-rest = refl;
         }
 
-    pub turned-new : getD m a 0 ≡ 0 → Turned g m qu p t (set m a 1) qu true a t
+    turned-new : getD m a 0 ≡ 0 → Turned g m qu p t (set m a 1) qu true a t
     turned-new new =
         record {
           under = λ h k. swap (set m a 1) qu h t a (marking-hold g (p ∷ []) m qu h t k a (first-in e) new (first-reached e h k))
               (closed-by (set m a 1) (a ∷ []) e (λ q i. ap (λ (y : ℕ). getD (set m a 1) y 0) (in-one i) ∙ getD-set-same m a 1 0 in-m));
-          keeps = λ x o. mark-stays m a x in-m o;
+          keeps = λ x o. stays m a 1 x in-m o;
           grows = omega (arith, count-set g m qu t r a (first-in e) new);
-          m-rest = drop-set-lt (g .size) m a 1 (first-in e);
-          qu-rest = refl;
         }
       where
         in-m : a < length m
         in-m = omega (arith, r .m-long, first-in e)
 
-  -- two successors: the second is pushed first
-  module _ {a b : ℕ} (e : a ∷ b ∷ [] ≡ g .successors p) where
-    b-from : In b (g .successors p)
-    b-from = subst (λ (x : List ℕ). In b x) e (inr (inl refl))
+    pub turned-one : {m′ : List ℕ} {more : Bool} {word t′ : ℕ} → Reaches m a t m′ more word t′ → Turned g m qu p t m′ qu more word t′
+    turned-one (fresh h) = turned-new h
+    turned-one (seen h) = turned-old h
 
-    pub second-asks : g .size ≤ mostWords → Asks m qu t b
-    second-asks = push-asks g m qu t r b (law .inside p b b-from)
+  -- two successors: b is pushed first, whichever is the lower
+  module _ {a b : ℕ} (e : Both g p a b) where
+    a-in : a < g .size
+    a-in = law .inside p a (e .one)
 
-    module _ {m₁ qu₁ : List ℕ} {t₁ : ℕ} (u : Gives m qu t b m₁ qu₁ t₁) where
+    b-in : b < g .size
+    b-in = law .inside p b (e .other)
+
+    pub second-asks : g .size ≤ mostWords → PushAsks m qu t b
+    second-asks = push-asks g m qu t r b b-in
+
+    module _ {m₁ qu₁ : List ℕ} {t₁ : ℕ} (u : Queued m qu t b m₁ qu₁ t₁) where
       kept : Kept g m qu t m₁ qu₁ t₁
-      kept = push-keeps g m qu t r b (law .inside p b b-from) u
+      kept = push-keeps g m qu t r b b-in u
 
       pub first-long : a < length m₁
-      first-long = omega (arith, kept .room .m-long, first-in e)
+      first-long = omega (arith, kept .room .m-long, a-in)
 
       pushed : (h : ℕ) → Marking g (p ∷ []) m qu h t → Pushed g (p ∷ []) m qu h t (b ∷ []) m₁ qu₁ t₁
-      pushed h k = push-gives g m qu t r b (law .inside p b b-from) u (p ∷ []) h k (successor-reached [] h k b b-from)
+      pushed h k = push-gives g m qu t r b b-in u (p ∷ []) h k (successor-reached [] h k b (e .other))
 
       both : (m′ : List ℕ) → getD m′ a 0 ≡ 1 → getD m′ b 0 ≡ 1 → Closed g m′ p
-      both m′ x y = closed-by m′ (a ∷ b ∷ []) e (λ q i. ⊎-elim (λ d. ap (λ (z : ℕ). getD m′ z 0) d ∙ x) (λ j. ap (λ (z : ℕ). getD m′ z 0) (in-one j) ∙ y) i)
+      both m′ x y q i = ⊎-elim (λ d. ap (λ (z : ℕ). getD m′ z 0) d ∙ x) (λ d. ap (λ (z : ℕ). getD m′ z 0) d ∙ y) (e .only q i)
 
-      pub turned-two-old : (getD m₁ a 0 ≡ 0 → ⊥) → Turned g m qu p t m₁ qu₁ false 0 t₁
+      turned-two-old : (getD m₁ a 0 ≡ 0 → ⊥) → Turned g m qu p t m₁ qu₁ false 0 t₁
       turned-two-old n =
           record {
-            under = λ h k. let v = pushed h k in done m₁ qu₁ h t₁ (v .under) (both m₁ (one-of (kept .room .bits a (first-in e)) n) (v .marked b (inl refl)));
+            under = λ h k. let v = pushed h k in done m₁ qu₁ h t₁ (v .under) (both m₁ (one-of (kept .room .bits a a-in) n) (v .marked b (inl refl)));
             keeps = kept .keeps;
             grows = omega (arith, kept .grows);
-            m-rest = kept .m-rest;
-            qu-rest = kept .qu-rest;
           }
 
-      pub turned-two-new : getD m₁ a 0 ≡ 0 → Turned g m qu p t (set m₁ a 1) qu₁ true a t₁
+      turned-two-new : getD m₁ a 0 ≡ 0 → Turned g m qu p t (set m₁ a 1) qu₁ true a t₁
       turned-two-new new =
           record {
             under = λ h k. let v = pushed h k in
-                swap (set m₁ a 1) qu₁ h t₁ a (marking-hold g (p ∷ []) m₁ qu₁ h t₁ (v .under) a (first-in e) new (first-reached e h k))
-                (both (set m₁ a 1) (getD-set-same m₁ a 1 0 first-long) (mark-stays m₁ a b first-long (v .marked b (inl refl))));
-            keeps = λ x o. mark-stays m₁ a x first-long (kept .keeps x o);
-            grows = omega (arith, kept .grows, count-set g m₁ qu₁ t₁ (kept .room) a (first-in e) new);
-            m-rest = drop-set-lt (g .size) m₁ a 1 (first-in e) ∙ kept .m-rest;
-            qu-rest = kept .qu-rest;
+                swap (set m₁ a 1) qu₁ h t₁ a (marking-hold g (p ∷ []) m₁ qu₁ h t₁ (v .under) a a-in new (successor-reached [] h k a (e .one)))
+                (both (set m₁ a 1) (getD-set-same m₁ a 1 0 first-long) (stays m₁ a 1 b first-long (v .marked b (inl refl))));
+            keeps = λ x o. stays m₁ a 1 x first-long (kept .keeps x o);
+            grows = omega (arith, kept .grows, count-set g m₁ qu₁ t₁ (kept .room) a a-in new);
           }
 
+      pub turned-two : {m′ : List ℕ} {more : Bool} {word t′ : ℕ} → Reaches m₁ a t₁ m′ more word t′ → Turned g m qu p t m′ qu₁ more word t′
+      turned-two (fresh h) = turned-two-new h
+      turned-two (seen h) = turned-two-old h
+
 -- words followed from the one at the queue's head h: the lists as they were there, and as they are
-pub record Following (g : Graph) (m₀ qu₀ : List ℕ) (h : ℕ) (m qu : List ℕ) (more : Bool) (word t : ℕ) : Type 0 where
+pub record Following (g : Graph) (m₀ : List ℕ) (h : ℕ) (m qu : List ℕ) (more : Bool) (word t : ℕ) : Type 0 where
   pub under : Marking g (inHand more word) m qu (h + 1) t
   pub keeps : (x : ℕ) → getD m₀ x 0 ≡ 1 → getD m x 0 ≡ 1
-  pub m-rest : drop (g .size) m ≡ drop (g .size) m₀
-  pub qu-rest : drop (g .size) qu ≡ drop (g .size) qu₀
   pub m-same : length m ≡ length m₀
-  pub qu-same : length qu ≡ length qu₀
 
 module _ (g : Graph) (m qu : List ℕ) (h t : ℕ) (v : Visiting g m qu h t) where
   pub head-in : h < length qu
   head-in = omega (arith, v .some, tail-le g m qu t (v .under .room), v .under .room .qu-long)
 
-  pub following-none : Following g m qu h m qu true (getD qu h 0) t
-  following-none = record { under = marking-take g [] m qu h t (v .under) (v .some); keeps = λ x e. e; m-rest = refl; qu-rest = refl; m-same = refl; qu-same = refl }
+  pub following-none : Following g m h m qu true (getD qu h 0) t
+  following-none = record { under = marking-take g [] m qu h t (v .under) (v .some); keeps = λ x e. e; m-same = refl }
 
-module _ (g : Graph) (m₀ qu₀ : List ℕ) (h : ℕ) where
+module _ (g : Graph) (m₀ : List ℕ) (h : ℕ) where
   -- a word that is in hand
-  pub in-hand : {m qu : List ℕ} {more : Bool} {word t : ℕ} → Following g m₀ qu₀ h m qu more word t → more ≡ true → Marking g (word ∷ []) m qu (h + 1) t
+  pub in-hand : {m qu : List ℕ} {more : Bool} {word t : ℕ} → Following g m₀ h m qu more word t → more ≡ true → Marking g (word ∷ []) m qu (h + 1) t
   in-hand {m} {qu} {more} {word} {t} f e = subst (λ (b : Bool). Marking g (inHand b word) m qu (h + 1) t) e (f .under)
 
-  pub following-on : {m qu m′ qu′ : List ℕ} {more more′ : Bool} {word word′ t t′ : ℕ} → Following g m₀ qu₀ h m qu more word t → more ≡ true → Turned g m qu word t m′ qu′ more′ word′ t′ → length m′ ≡ length m → length qu′ ≡ length qu → Following g m₀ qu₀ h m′ qu′ more′ word′ t′
-  following-on f e u lm lq =
+  pub following-on : {m qu m′ qu′ : List ℕ} {more more′ : Bool} {word word′ t t′ : ℕ} → Following g m₀ h m qu more word t → more ≡ true → Turned g m qu word t m′ qu′ more′ word′ t′ → length m′ ≡ length m → Following g m₀ h m′ qu′ more′ word′ t′
+  following-on f e u lm =
       record {
         under = u .under (h + 1) (in-hand f e);
         keeps = λ x o. u .keeps x (f .keeps x o);
-        m-rest = u .m-rest ∙ f .m-rest;
-        qu-rest = u .qu-rest ∙ f .qu-rest;
         m-same = lm ∙ f .m-same;
-        qu-same = lq ∙ f .qu-same;
       }
 
-  pub followed : {m qu : List ℕ} {more : Bool} {word t : ℕ} → Following g m₀ qu₀ h m qu more word t → more ≡ false → Visited g m₀ qu₀ h m qu t
-  followed {m} {qu} {more} {word} {t} f e =
+  pub followed : {qu₀ m qu : List ℕ} {more : Bool} {word t : ℕ} → Following g m₀ h m qu more word t → more ≡ false → Visited g m₀ qu₀ h m qu t
+  followed {qu₀} {m} {qu} {more} {word} {t} f e =
       record {
         under = subst (λ (b : Bool). Marking g (inHand b word) m qu (h + 1) t) e (f .under);
         keeps = f .keeps;
-        m-rest = f .m-rest;
-        qu-rest = f .qu-rest;
       }
 
   -- each visit marks a word, or is the last
-  pub fewer : {m qu m′ qu′ : List ℕ} {more more′ : Bool} {word word′ t t′ : ℕ} → more ≡ true → Turned g m qu word t m′ qu′ more′ word′ t′ → Following g m₀ qu₀ h m′ qu′ more′ word′ t′ → (g .size - ones (g .size) m′) + cond more′ 1 0 < (g .size - ones (g .size) m) + cond more 1 0
+  pub fewer : {m qu m′ qu′ : List ℕ} {more more′ : Bool} {word word′ t t′ : ℕ} → more ≡ true → Turned g m qu word t m′ qu′ more′ word′ t′ → Following g m₀ h m′ qu′ more′ word′ t′ → (g .size - ones (g .size) m′) + cond more′ 1 0 < (g .size - ones (g .size) m) + cond more 1 0
   fewer {m} {qu} {m′} {qu′} {more} {more′} {t′ = t′} e u f =
       let one : _≡_ {A = ℕ} (cond more 1 0) 1 = ap (λ (b : Bool). cond b 1 0) e in
-      let le = ones-le (g .size) m′ (f .under .room .bits) in
+      let le = laws .counting .few (g .size) m′ (f .under .room .bits) in
       go more′ (u .grows) le one
     where
       go : (b : Bool) → ones (g .size) m + cond b 1 0 ≤ ones (g .size) m′ → ones (g .size) m′ ≤ g .size → _≡_ {A = ℕ} (cond more 1 0) 1 → (g .size - ones (g .size) m′) + cond b 1 0 < (g .size - ones (g .size) m) + cond more 1 0
@@ -221,18 +198,12 @@ module _ (g : Graph) (m₀ qu₀ : List ℕ) (h : ℕ) where
       go false gr le one = omega arith
 
 -- the loop's invariant, with the lists as they were where the loop began
-pub record Searching (g : Graph) (m₀ qu₀ m qu : List ℕ) (h t : ℕ) : Type 0 where
+pub record Searching (g : Graph) (m₀ m qu : List ℕ) (h t : ℕ) : Type 0 where
   pub under : Marking g [] m qu h t
   pub root : getD m 0 0 ≡ 1
-  pub m-rest : drop (g .size) m ≡ drop (g .size) m₀
-  pub qu-rest : drop (g .size) qu ≡ drop (g .size) qu₀
   pub m-same : length m ≡ length m₀
-  pub qu-same : length qu ≡ length qu₀
 
 module _ (g : Graph) where
-  pub root-reached : 0 < g .size → Reachable g 0
-  root-reached z = reachable-of g (start refl z)
-
   cleared-length : (m : List ℕ) → g .size ≤ length m → length (replicate (g .size) 0 ++ drop (g .size) m) ≡ length m
   cleared-length m l = simp (length-append, length-replicate, length-drop) (omega arith)
 
@@ -244,25 +215,18 @@ module _ (g : Graph) where
       ∙ List·getD-append (replicate (g .size) 0) (drop (g .size) m₀) 0 p (omega (arith, length-replicate (g .size) zero))
       ∙ getD-replicate (g .size) p 0 0 h)
 
-  pub cleared-rest : (m₀ : List ℕ) {m : List ℕ} → m ≡ replicate (g .size) 0 ++ drop (g .size) m₀ → drop (g .size) m ≡ drop (g .size) m₀
-  cleared-rest m₀ {m} e =
-      ap (λ (x : List ℕ). drop (g .size) x) e ∙ drop-at (replicate (g .size) 0) (drop (g .size) m₀) (g .size) (length-replicate (g .size) 0)
-
-  pub searching-on : {m₀ qu₀ m qu m′ qu′ : List ℕ} {h t t′ : ℕ} → Searching g m₀ qu₀ m qu h t → Visited g m qu h m′ qu′ t′ → length m′ ≡ length m → length qu′ ≡ length qu → Searching g m₀ qu₀ m′ qu′ (h + 1) t′
-  searching-on s v lm lq =
+  pub searching-on : {m₀ m qu m′ qu′ : List ℕ} {h t t′ : ℕ} → Searching g m₀ m qu h t → Visited g m qu h m′ qu′ t′ → length m′ ≡ length m → Searching g m₀ m′ qu′ (h + 1) t′
+  searching-on s v lm =
       record {
         under = v .under;
         root = v .keeps 0 (s .root);
-        m-rest = v .m-rest ∙ s .m-rest;
-        qu-rest = v .qu-rest ∙ s .qu-rest;
         m-same = lm ∙ s .m-same;
-        qu-same = lq ∙ s .qu-same;
       }
 
   -- a search that is done has the marks
-  pub searched : Lawful g → {m₀ qu₀ m qu : List ℕ} {h t : ℕ} → Searching g m₀ qu₀ m qu h t → t ≤ h → (p : ℕ) → p < g .size → getD m p 0 ≡ markOf g p
+  pub searched : Lawful g → {m₀ m qu : List ℕ} {h t : ℕ} → Searching g m₀ m qu h t → t ≤ h → (p : ℕ) → p < g .size → getD m p 0 ≡ markOf g p
   searched law {m = m} {qu = qu} {h = h} {t = t} s d p l =
       ⊎-elim
-      (λ z. ⊎-elim (λ y. z ∙ sym y) (λ y. absurd (omega (arith, z, marking-done g m qu h t (s .under) d (s .root) (reach-of-mark g law p l y) .1))) (bit (mark-bit g law p l)))
-      (λ o. o ∙ sym (mark-of-reach g law p (reach-of g (s .under .sound p l o))))
+      (λ z. ⊎-elim (λ y. z ∙ sym y) (λ y. absurd (omega (arith, z, marking-done g law m qu h t (s .under) d (s .root) p (laws .marking g law .reachable p l y)))) (bit (laws .marking g law .bit p)))
+      (λ o. o ∙ sym (laws .marking g law .one p (s .under .sound p l o)))
       (bit (s .under .room .bits p l))

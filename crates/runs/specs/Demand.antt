@@ -10,8 +10,9 @@ use lib.ListN.{length}
 use Rattle.common.specs.Limits.{mostWords}
 use Rattle.common.specs.Numbers.{«ACCEPTED», «NO_WORDS», «REACHES_INVALID»}
 use Rattle.runs.specs.declared.longest.Run.{Run}
-use Rattle.runs.specs.Graph.{Reachable, Segment}
-use Rattle.runs.specs.Successors.{successorsOf, isInvalid}
+use Rattle.graph.specs.Graph.{Reachable, Segment}
+use Rattle.runs.specs.Steps.{isInvalid}
+use Rattle.runs.specs.Successors.{successorsOf}
 use Rattle.runs.specs.Instance.{graphOf}
 use Rattle.runs.specs.Run.{numberOf, placeOf, longestOf, firstOf}
 

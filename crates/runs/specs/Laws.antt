@@ -2,30 +2,20 @@
 -- Assumes nothing.
 use Prim.Native.Nat.{ℕ, _≤_, _<_}
 use mathlib.Core.Path.{_≡_}
-use mathlib.Core.Logic.{_↔_}
-use mathlib.Core.Bool.{true, false}
+use mathlib.Core.Bool.{false}
 use mathlib.Core.List.{List}
 use lib.ListN.{length}
 use Rattle.common.specs.Limits.{mostWords}
 use Rattle.common.specs.Numbers.{«ACCEPTED»}
-use Rattle.runs.specs.declared.edges.Successors.{Successors}
-use Rattle.runs.specs.declared.edges.Successors.the-variants.{Invalid, Stop, One, Two}
-use Rattle.runs.specs.Graph.{In, member, Graph, Lawful, Along}
-use Rattle.runs.specs.Successors.{successorsOf, servesOf}
+use Rattle.graph.specs.Graph.{Lawful}
+use Rattle.runs.specs.Steps.{Below, servesOf}
+use Rattle.runs.specs.Successors.{successorsOf}
 use Rattle.runs.specs.Lvm.{Agreement}
 use Rattle.runs.specs.Instance.{graphOf}
 use Rattle.runs.specs.Run.{runOf, numberOf}
 use Rattle.runs.specs.declared.longest.Run.{Run}
-use Rattle.runs.specs.Ceiling.{Ceiling}
 use Rattle.runs.specs.Demand.{Demand, RefusedExactly}
 use Rattle.runs.specs.Slices.{Slices}
-
--- the steps are below n, the lower first
-abbrev pub Below : ℕ → Successors → Type 0
-Below n Invalid = Unit {0}
-Below n Stop = Unit {0}
-Below n (One q) = q < n
-Below n (Two q r) = (q < r) × (r < n)
 
 -- n words are not too many, and both slices are as long
 pub record Enough (n marks lengths : ℕ) : Type 0 where
@@ -34,8 +24,6 @@ pub record Enough (n marks lengths : ℕ) : Type 0 where
   pub lengths-long : n ≤ lengths
 
 pub record Laws : Type 0 where
-  -- the test is that of `In`
-  pub member-in : (q : ℕ) (xs : List ℕ) → (member q xs ≡ true) ↔ In q xs
   -- the steps of a word
   pub below : (ws : List ℕ) (p : ℕ) → Below (length ws) (successorsOf ws p)
   -- a step that does not serve goes forward
@@ -44,13 +32,9 @@ pub record Laws : Type 0 where
   pub lawful : (ws : List ℕ) → Lawful (graphOf ws)
   -- they are lvm.c's
   pub agreement : Agreement
-  -- of any graph: words along its edges are below n
-  pub along-inside : (g : Graph) (p : ℕ) (ps : List ℕ) → Along g p ps → p < g .size
   -- an accepted run passed the checks of the sizes
   pub enough : (ws : List ℕ) (marks lengths : ℕ) → numberOf (runOf ws marks lengths) ≡ «ACCEPTED» → Enough (length ws) marks lengths
   -- demand 3, first half
   pub demand : (ws : List ℕ) (marks lengths : ℕ) → Enough (length ws) marks lengths → Demand ws (runOf ws marks lengths)
   pub refused-exactly : (ws : List ℕ) (r : Run) → Demand ws r → RefusedExactly ws r
   pub slices : (ws marks lengths : List ℕ) → Slices ws marks lengths
-  -- of any graph: no run is longer than its words
-  pub ceiling : Ceiling

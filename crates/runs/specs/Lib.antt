@@ -1,15 +1,14 @@
--- Layer 2: the successors of a word, paths and the longest run.
+-- Layer 2: the successors of a word, and the longest run.
 pub mod Columns
-pub mod Lvm
+pub mod Steps
 pub mod Successors
-pub mod Graph
-pub mod Marks
-pub mod Longest
+pub mod Lvm
 pub mod Instance
 pub mod Run
-pub mod Meaning
-pub mod Ceiling
 pub mod Demand
 pub mod Slices
 pub mod Laws
-pub mod Invariants
+pub mod Entries
+pub mod SearchInvariants
+pub mod PassInvariants
+pub mod Outcome

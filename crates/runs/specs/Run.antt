@@ -12,10 +12,11 @@ use Rattle.common.specs.Lowest.{lowest}
 use Rattle.common.specs.Lists.{over}
 use Rattle.runs.specs.declared.longest.Run.{Run}
 use Rattle.runs.specs.declared.longest.Run.the-variants.{Accepted, Refused}
-use Rattle.runs.specs.Marks.{markOf}
-use Rattle.runs.specs.Longest.{lengthOf, longest, first}
-use Rattle.runs.specs.Successors.{successorsOf, isInvalid}
-use Rattle.runs.specs.Instance.{graphOf, unitWeight}
+use Rattle.graph.specs.Marks.{markOf}
+use Rattle.graph.specs.Longest.{lengthOf, longest, first}
+use Rattle.runs.specs.Steps.{isInvalid, unitWeight}
+use Rattle.runs.specs.Successors.{successorsOf}
+use Rattle.runs.specs.Instance.{graphOf}
 
 -- "Each answer carries its number, 0 when accepted, and a place, 0 unless named. On refusal L and its first word are 0."
 abbrev pub numberOf : Run → ℕ

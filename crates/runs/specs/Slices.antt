@@ -8,7 +8,7 @@ use mathlib.Core.List.{List}
 use Prim.Native.Nat.{ℕ, _≤_, _<_}
 use lib.ListN.{length, getD, drop}
 use Rattle.common.specs.Numbers.{«ACCEPTED», «REACHES_INVALID»}
-use Rattle.runs.specs.Graph.{Reachable}
+use Rattle.graph.specs.Graph.{Reachable}
 use Rattle.runs.specs.Instance.{graphOf}
 use Rattle.runs.specs.Run.{numberIs, marksAfter, lengthsAfter}
 use Rattle.runs.specs.Demand.{Passes}

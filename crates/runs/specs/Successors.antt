@@ -1,36 +1,18 @@
--- Document 01, "Steps": the successors of word p of the words ws, and which of the steps serve.
+-- Document 01, "Steps": the successors of word p of the words ws of Lua 5.4.
 -- Assumes nothing.
 use Prim.Native.Nat.{ℕ, _+_, _-_}
-use mathlib.Core.Bool.{Bool, true, false, cond, _&&_, _||_}
-use mathlib.Core.List.{List, [], _∷_}
+use mathlib.Core.Bool.{Bool, true, cond, _&&_}
+use mathlib.Core.List.{List}
 use lib.Dec.{ltb, leb, eqb}
-use lib.IntN.{ℤ, pos, negsuc, _+ℤ_, _-ℤ_}
+use lib.IntN.{pos, _+ℤ_, _-ℤ_}
 use lib.ListN.{length, getD}
 use Rattle.fields.specs.Opcodes.{«OP_ADDI», «OP_SHR», «OP_MMBIN», «OP_MMBINK», «OP_JMP», «OP_TFORCALL», «OP_TFORLOOP», «OP_EXTRAARG»}
 use Rattle.fields.specs.Word.{opcodeOf, kOf, bxOf, sjOf}
 use Rattle.fields.specs.Table.{StepClass, following, returning, branching, skipping, skippingIfK, jumping, looping, preparing, entering, invalid, classOf, Companion, alone, metamethodAfter, arithmeticBefore, jumpAfter, extraAfter, extraAfterIfK, callAtTarget, loopAfter, companionOf}
-use Rattle.runs.specs.Graph.{member}
+use Rattle.graph.specs.Graph.{member}
 use Rattle.runs.specs.declared.edges.Successors.{Successors}
-use Rattle.runs.specs.declared.edges.Successors.the-variants.{Invalid, Stop, One, Two}
-
--- "bad unless"
-unfoldable pub unless : Bool → Successors → Successors
-unless t s = cond t s Invalid
-
--- one next word: "a word is also bad if a next word is below 0, or n or more"
-unfoldable pub one : ℕ → ℤ → Successors
-one n (pos q) = unless (ltb q n) (One q)
-one n (negsuc q) = Invalid
-
--- "two equal steps are one; steps are given lower first"
-unfoldable pub ordered : ℕ → ℕ → Successors
-ordered q r = cond (ltb q r) (Two q r) (cond (ltb r q) (Two r q) (One q))
-
--- two next words, each below 0 or n or more making the word bad
-unfoldable pub two : ℕ → ℤ → ℤ → Successors
-two n (pos q) (pos r) = unless (ltb q n) (unless (ltb r n) (ordered q r))
-two n (pos q) (negsuc r) = Invalid
-two n (negsuc q) r = Invalid
+use Rattle.runs.specs.declared.edges.Successors.the-variants.{Invalid, Stop}
+use Rattle.runs.specs.Steps.{unless, one, two, listOf}
 
 -- the opcode of word i; past the end it is that of 0, MOVE, which is no row's companion
 unfoldable pub opcodeAt : List ℕ → ℕ → ℕ
@@ -92,24 +74,6 @@ successorsOf ws p =
     unless (ltb p (length ws))
     (unless (companionPresent ws p) (nextOf (classOf (opcodeAt ws p)) (length ws) (getD ws p 0) p))
 
--- the word is bad
-abbrev pub isInvalid : Successors → Bool
-isInvalid Invalid = true
-isInvalid Stop = false
-isInvalid (One a) = false
-isInvalid (Two a b) = false
-
--- the steps themselves
-abbrev pub listOf : Successors → List ℕ
-listOf Invalid = []
-listOf Stop = []
-listOf (One a) = a ∷ []
-listOf (Two a b) = a ∷ b ∷ []
-
 -- q is a step from p
 unfoldable pub isSuccessor : List ℕ → ℕ → ℕ → Bool
 isSuccessor ws p q = member q (listOf (successorsOf ws p))
-
--- request C-16: "From this release the steps after CALL and TFORCALL do not serve; only a step that does not go forward does."
-unfoldable pub servesOf : ℕ → ℕ → Bool
-servesOf p q = leb q p

@@ -1,20 +1,23 @@
-// The length of every word, from the highest down: an edge that does not serve goes forward, so that what it needs is there.
+// The length of every word, from the highest down: an edge that does not serve goes forward, so that what it needs is there. No word is
+// read: a word's entry says where control goes, and its length takes the entry's place.
 ghost use mathlib.Core.Path.{_≡_};
 ghost use mathlib.Core.Bool.{cond};
 ghost use mathlib.Core.List.{_++_};
-ghost use Prim.Native.Nat.{_+_, _≤_, _<_};
+ghost use Prim.Native.Nat.{_≤_, _<_};
 ghost use lib.Dec.{eqb};
 ghost use lib.ListN.{length, getD, drop, replicate};
+ghost use Rattle.common.specs.Limits.{mostWords};
 ghost use Rattle.common.specs.Lowest.{lowest};
-ghost use Rattle.fields.specs.Table.{opcodeTable};
-ghost use Rattle.runs.specs.Longest.{lengthOf, most};
-ghost use Rattle.runs.specs.Successors.{servesOf};
-ghost use Rattle.runs.specs.Instance.{graphOf, unitWeight};
-ghost use Rattle.runs.specs.Run.{reachesInvalid, lowestInvalid};
-ghost use Rattle.runs.specs.Invariants.{Filled, Lengths, at};
-use crate::edges::Successors;
-use crate::successors::serves;
-use crate::successors::successors_in;
+ghost use Rattle.graph.specs.Longest.{most};
+ghost use Rattle.runs.specs.Steps.{servesOf, unitWeight};
+ghost use Rattle.runs.specs.PassInvariants.{FillAsks, Fills, Measuring, Measures, at};
+use crate::edges::serves;
+use crate::packing::ENTRIES;
+use crate::packing::KIND_NEXT;
+use crate::packing::KIND_NONE;
+use crate::packing::KIND_TARGET;
+use crate::packing::RETURNS;
+use crate::packing::TARGETS;
 
 // What an edge from p to q adds to a segment.
 fn beyond(lengths: &[u32], p: usize, q: usize) -> u32
@@ -33,72 +36,64 @@ struct Measured {
     invalid: usize,
 }
 
-// Word p measured, where the words above it are, and `invalid` is the lowest invalid one among them.
-fn measure(
-    table: &[u8; 512],
-    words: &[u32],
-    marks: &[u8],
-    lengths: &[u32],
-    p: usize,
-    invalid: usize,
-) -> Measured
-    requires { ⌜ (now table ≡ opcodeTable) × (p < length (now words)) × Filled (graphOf (now words)) unitWeight (now marks) (now lengths) (p + 1) ⌝ }
-    ensures { λ r. ⌜ (r .length ≡ lengthOf (graphOf (now (words .entry))) unitWeight p) × (r .invalid ≡ cond (reachesInvalid (now (words .entry)) p) p invalid) ⌝ }
+// Word p measured, where the words above it are, `above` is the length of the next, and `invalid` the lowest invalid one among them.
+// The next word's length is handed on, so that a turn need not wait for what the one before it stored.
+fn measure(marks: &[u8], lengths: &[u32], p: usize, above: u32, invalid: usize) -> Measured
+    requires { ⌜ Measuring mostWords (now marks) (now lengths) p above ⌝ }
+    ensures { λ r. ⌜ Measures unitWeight (now (marks .entry)) (now (lengths .entry)) p invalid (r .length) (r .invalid) ⌝ }
 {
     if marks[p] == 0 {
         return Measured { length: 0, invalid };
     }
-    let s = successors_in(table, words, p);
-    match s {
-        Successors::Invalid => {
-            return Measured {
-                length: 1,
-                invalid: p,
-            };
-        }
-        Successors::Stop => {
+    let entry = lengths[p] % ENTRIES;
+    let kind = entry / TARGETS;
+    if kind == KIND_NEXT {
+        return Measured {
+            length: above + 1,
+            invalid,
+        };
+    }
+    if kind == KIND_NONE {
+        if entry % TARGETS == RETURNS {
             return Measured { length: 1, invalid };
         }
-        Successors::One(a) => {
-            let x = beyond(lengths, p, a);
-            return Measured {
-                length: x + 1,
-                invalid,
-            };
-        }
-        Successors::Two(a, b) => {
-            let x = beyond(lengths, p, a);
-            let y = beyond(lengths, p, b);
-            if x < y {
-                return Measured {
-                    length: y + 1,
-                    invalid,
-                };
-            }
-            return Measured {
-                length: x + 1,
-                invalid,
-            };
-        }
+        return Measured {
+            length: 1,
+            invalid: p,
+        };
+    }
+    let x = beyond(lengths, p, (entry % TARGETS) as usize);
+    if kind == KIND_TARGET {
+        return Measured {
+            length: x + 1,
+            invalid,
+        };
+    }
+    if x < above {
+        return Measured {
+            length: above + 1,
+            invalid,
+        };
+    }
+    Measured {
+        length: x + 1,
+        invalid,
     }
 }
 
-// The length of each word. The lowest reachable invalid word, or the number of words.
-pub(crate) fn fill_lengths(
-    table: &[u8; 512],
-    words: &[u32],
-    marks: &[u8],
-    lengths: &mut [u32],
-) -> usize
-    requires { ⌜ (now table ≡ opcodeTable) × Filled (graphOf (now words)) unitWeight (now marks) (now lengths) (length (now words)) ⌝ }
-    ensures { λ r. ⌜ Lengths (graphOf (now (words .entry))) unitWeight (now (lengths .entry)) (now (lengths .exit)) × (r ≡ lowestInvalid (now (words .entry))) ⌝ }
+// The length of each word, where its entry stood. The lowest reachable invalid word, or the number of words.
+pub(crate) fn fill_lengths(marks: &[u8], lengths: &mut [u32]) -> usize
+    requires { ⌜ FillAsks (now marks) (now lengths) ⌝ }
+    ensures { λ r. ⌜ Fills unitWeight (now (lengths .entry)) (now (lengths .exit)) r ⌝ }
 {
-    let mut invalid = words.len();
-    let mut i = words.len();
+    let mut invalid = lengths.len();
+    let mut above: u32 = 0;
+    let mut i = lengths.len();
     while 0 < i {
         i -= 1;
-        let m = measure(table, words, marks, lengths, i, invalid);
+        let m = measure(marks, lengths, i, above, invalid);
         lengths[i] = m.length;
+        above = m.length;
         invalid = m.invalid;
     }
     invalid

@@ -2,7 +2,9 @@
 pub mod edges;
 mod lengths;
 pub mod longest;
+mod packing;
 mod search;
+mod settling;
 pub mod successors;
 
 pub use longest::Run;

@@ -2,12 +2,14 @@
 ghost use mathlib.Core.Path.{_≡_};
 ghost use lib.ListN.{length};
 ghost use Rattle.runs.specs.Run.{runOf, marksAfter, lengthsAfter};
-ghost use Rattle.runs.specs.Invariants.{Lent};
+ghost use Rattle.runs.specs.SearchInvariants.{Lent};
+ghost use Rattle.runs.specs.Outcome.{Decided};
 use crate::lengths::clear_lengths;
 use crate::lengths::fill_lengths;
 use crate::lengths::find_first;
 use crate::lengths::find_longest;
 use crate::search::mark_reachable;
+use crate::settling::settle_edges;
 use common::limits::MOST_WORDS;
 use common::numbers::*;
 
@@ -19,14 +21,13 @@ pub enum Run {
 // The run of words that pass the checks of their number and of the slices.
 fn run_of_words(words: &[u32], marks: &mut [u8], lengths: &mut [u32]) -> Run
     requires { ⌜ Lent (length (now words)) (now marks) (now lengths) ⌝ }
-    ensures { λ r. ⌜ r ≡ runOf (now (words .entry)) (length (now (marks .entry))) (length (now (lengths .entry))) ⌝ }
-    ensures { λ _. ⌜ now (marks .exit) ≡ marksAfter (now (words .entry)) (now (marks .entry)) (now (lengths .entry)) ⌝ }
-    ensures { λ _. ⌜ now (lengths .exit) ≡ lengthsAfter (now (words .entry)) (now (marks .entry)) (now (lengths .entry)) ⌝ }
+    ensures { λ r. ⌜ Decided (now (words .entry)) r (now (marks .exit)) (now (lengths .exit)) ⌝ }
 {
     let n = words.len();
     let table = fields::lookup::table();
-    mark_reachable(&table, words, marks, lengths);
-    let invalid = fill_lengths(&table, words, marks, lengths);
+    settle_edges(&table, words, lengths);
+    mark_reachable(marks, lengths);
+    let invalid = fill_lengths(marks, lengths);
     if invalid < n {
         clear_lengths(lengths, n);
         return Run::Refused {
@@ -71,5 +72,5 @@ pub fn longest_run(words: &[u32], marks: &mut [u8], lengths: &mut [u32]) -> Run
             place: 0,
         };
     }
-    run_of_words(words, marks, lengths)
+    run_of_words(words, &mut marks[..n], &mut lengths[..n])
 }

@@ -4,17 +4,18 @@ ghost use Prim.Native.Nat.{_+_, _<_, _^_};
 ghost use lib.IntN.{pos, _+ℤ_, _-ℤ_};
 ghost use lib.ListN.{length, getD};
 ghost use Rattle.fields.specs.Word.{bxOf, sjOf};
-ghost use Rattle.fields.specs.Table.{opcodeTable, jumpAfter, metamethodAfter, arithmeticBefore};
+ghost use Rattle.fields.specs.Table.{jumpAfter, metamethodAfter, arithmeticBefore};
 ghost use Rattle.runs.specs.Columns.{classFrom, companionFrom};
-ghost use Rattle.runs.specs.Successors.{one, two, opcodeAt, isBetween, nextOf, standsAt, unless, listOf, successorsOf, isSuccessor, servesOf};
-ghost use Rattle.runs.specs.Graph.{member};
+ghost use Rattle.graph.specs.Graph.{member};
+ghost use Rattle.runs.specs.Steps.{one, two, unless, listOf};
+ghost use Rattle.runs.specs.Successors.{opcodeAt, isBetween, nextOf, standsAt, successorsOf, isSuccessor};
 use crate::edges::Successors;
 use fields::columns::*;
 use fields::opcodes::*;
 
 const OFFSET_SJ: usize = fields::word::OFFSET_SJ as usize;
 
-fn one_of(n: usize, q: usize) -> Successors
+pub(crate) fn one_of(n: usize, q: usize) -> Successors
     ensures { λ r. ⌜ r ≡ one n (pos q) ⌝ }
 {
     if q < n {
@@ -35,7 +36,7 @@ fn two_of(n: usize, q: usize, r: usize) -> Successors
     }
 }
 
-fn jump(n: usize, word: u32, next: usize) -> Successors
+pub(crate) fn jump(n: usize, word: u32, next: usize) -> Successors
     requires { ⌜ next < 2 ^ 62 ⌝ }
     ensures { λ r. ⌜ r ≡ one n (pos next +ℤ sjOf word) ⌝ }
 {
@@ -139,7 +140,7 @@ fn stands_at(companion: u8, words: &[u32], p: usize) -> bool
 }
 
 // The successors of word p by its companion and its step class, as the opcode table numbers them.
-fn successors_by(companion: u8, class: u8, words: &[u32], p: usize) -> Successors
+pub(crate) fn successors_by(companion: u8, class: u8, words: &[u32], p: usize) -> Successors
     requires { ⌜ p < length (now words) ⌝ }
     ensures { λ r. ⌜ r ≡ unless (standsAt (companionFrom companion) (now (words .entry)) p) (nextOf (classFrom class) (length (now (words .entry))) (getD (now (words .entry)) p 0) p) ⌝ }
 {
@@ -152,7 +153,7 @@ fn successors_by(companion: u8, class: u8, words: &[u32], p: usize) -> Successor
 
 // The rows of the most frequent words that want a companion.
 
-fn test(words: &[u32], p: usize) -> Successors
+pub(crate) fn test(words: &[u32], p: usize) -> Successors
     requires { ⌜ p < length (now words) ⌝ }
     ensures { λ r. ⌜ r ≡ unless (standsAt jumpAfter (now (words .entry)) p) (two (length (now (words .entry))) (pos (p + 1)) (pos (p + 2))) ⌝ }
 {
@@ -162,7 +163,7 @@ fn test(words: &[u32], p: usize) -> Successors
     Successors::Invalid
 }
 
-fn arithmetic(words: &[u32], p: usize) -> Successors
+pub(crate) fn arithmetic(words: &[u32], p: usize) -> Successors
     requires { ⌜ p < length (now words) ⌝ }
     ensures { λ r. ⌜ r ≡ unless (standsAt metamethodAfter (now (words .entry)) p) (two (length (now (words .entry))) (pos (p + 1)) (pos (p + 2))) ⌝ }
 {
@@ -172,7 +173,7 @@ fn arithmetic(words: &[u32], p: usize) -> Successors
     Successors::Invalid
 }
 
-fn metamethod(words: &[u32], p: usize) -> Successors
+pub(crate) fn metamethod(words: &[u32], p: usize) -> Successors
     requires { ⌜ p < length (now words) ⌝ }
     ensures { λ r. ⌜ r ≡ unless (standsAt arithmeticBefore (now (words .entry)) p) (one (length (now (words .entry))) (pos (p + 1))) ⌝ }
 {
@@ -185,43 +186,7 @@ fn metamethod(words: &[u32], p: usize) -> Successors
     Successors::Invalid
 }
 
-// The successors of word p, by a lent copy of the opcode table: what loops call. The most frequent words come first, so that the
-// compiler puts them into the loop and calls only for the others.
-pub(crate) fn successors_in(table: &[u8; 512], words: &[u32], p: usize) -> Successors
-    requires { ⌜ now table ≡ opcodeTable ⌝ }
-    ensures { λ r. ⌜ r ≡ successorsOf (now (words .entry)) p ⌝ }
-{
-    if words.len() <= p {
-        return Successors::Invalid;
-    }
-    let word = words[p];
-    let companion = fields::lookup::companion_in(table, word);
-    let class = fields::lookup::step_class_in(table, word);
-    if companion == ALONE {
-        if class == FOLLOWING {
-            return one_of(words.len(), p + 1);
-        }
-        if class == JUMPING {
-            return jump(words.len(), word, p + 1);
-        }
-    }
-    if class == BRANCHING {
-        if companion == JUMP_AFTER {
-            return test(words, p);
-        }
-        if companion == METAMETHOD_AFTER {
-            return arithmetic(words, p);
-        }
-    }
-    if companion == ARITHMETIC_BEFORE {
-        if class == FOLLOWING {
-            return metamethod(words, p);
-        }
-    }
-    successors_by(companion, class, words, p)
-}
-
-// The successors of word p, by its companion and its step class in a byte. A word that wants nothing and a test come first, as in `successors_in`.
+// The successors of word p, by its companion and its step class in a byte. A word that wants nothing and a test come first.
 pub fn successors(words: &[u32], p: usize) -> Successors
     ensures { λ r. ⌜ r ≡ successorsOf (now (words .entry)) p ⌝ }
 {
@@ -258,11 +223,4 @@ pub fn is_successor(words: &[u32], p: usize, q: usize) -> bool
     ensures { λ r. ⌜ r ≡ isSuccessor (now (words .entry)) p q ⌝ }
 {
     has_successor(successors(words, p), q)
-}
-
-// Whether a step from p to q serves.
-pub fn serves(p: usize, q: usize) -> bool
-    ensures { λ r. ⌜ r ≡ servesOf p q ⌝ }
-{
-    q <= p
 }

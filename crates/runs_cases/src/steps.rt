@@ -3,7 +3,7 @@ use crate::print;
 use crate::words::*;
 use fields::opcodes::*;
 use fields::word::OFFSET_SJ;
-use runs::successors::serves;
+use runs::edges::serves;
 use runs::successors::successors;
 
 // The steps of the second of four words.

@@ -7,8 +7,8 @@ use native.Mathlib.Omega.{arith}
 use borrow.Author.Count.{below-more}
 use borrow.Author.Tests.{eq-eqb, ne-eqb}
 use lib.Dec.{eqb}
-use Rattle.runs.specs.Invariants.{at}
 use Rattle.common.proofs.Lowest.{lowest-laws}
+use Rattle.runs.specs.PassInvariants.{at}
 use Rattle.runs.proofs.lengths.find_first.Statement.{statement}
 use Rattle.runs.proofs.lengths.find_first.Tie as tie
 

@@ -2,9 +2,9 @@ use mathlib.Core.Path.{_≡_, refl, ap, _∙_}
 use mathlib.Core.Logic.{⊎-elim}
 use Prim.Native.Nat.{_-_, _≤_}
 use native.Mathlib.Omega.{arith}
-use Rattle.runs.specs.Longest.{most}
-use Rattle.runs.specs.Invariants.{at}
-use Rattle.runs.proofs.Lists.{most-more}
+use Rattle.graph.specs.Longest.{most}
+use Rattle.graph.proofs.Laws.{laws}
+use Rattle.runs.specs.PassInvariants.{at}
 use Rattle.runs.proofs.lengths.find_longest.Statement.{statement}
 use Rattle.runs.proofs.lengths.find_longest.Tie as tie
 
@@ -22,7 +22,7 @@ loop-again : tie.Need-loop-again Inv-loop μ-loop
 loop-again c =
     let l = c .before .before .before in
     let v = l .loop .inv in
-    let m = most-more (at (l .before .args .lengths .now)) (l .loop .i) in
+    let m = laws .most-more (at (l .before .args .lengths .now)) (l .loop .i) in
     (omega arith, ⊎-elim (λ w. omega (arith, w .0 .taken, w .2, v .1, m)) (λ w. omega (arith, w .0 .left, w .1, v .1, m)) (c .if1 .came))
 
 returns : tie.Need-returns Inv-loop μ-loop

@@ -1,102 +1,143 @@
-use mathlib.Core.Path.{_≡_, ap, subst, _∙_}
-use mathlib.Core.List.{List, _++_}
+use mathlib.Core.Path.{_≡_, sym, ap, subst, _∙_}
+use mathlib.Core.List.{List, _++_, append-nil}
 use Prim.Native.Nat.{ℕ, _≤_}
 use native.Mathlib.Omega.{arith}
+use lib.Dec.{eqb}
 use lib.ListN.{length, drop, replicate}
+use lib.Seq.{drop-length}
+use Rattle.common.specs.Lowest.{lowestFrom}
 use borrow.Author.Needs.{needs}
-use Rattle.runs.specs.Marks.{markOf}
-use Rattle.runs.specs.Longest.{lengthOf, longest}
-use Rattle.runs.specs.Instance.{graphOf, unitWeight}
-use Rattle.common.specs.Lists.{over}
-use Rattle.runs.specs.Run.{lowestInvalid}
-use Rattle.runs.specs.Invariants.{at}
+use Rattle.common.specs.Lists.{tabulate}
 use Rattle.common.proofs.Over.{over-laws}
-use Rattle.runs.proofs.Meaning.{longest-found, first-found}
-use Rattle.runs.proofs.Outcome.{outcome-invalid, outcome-accepted}
+use Rattle.graph.specs.Graph.{Graph}
+use Rattle.graph.specs.Marks.{markOf}
+use Rattle.graph.specs.Longest.{lengthOf, longest}
+use Rattle.graph.specs.Laws.{Passing}
+use Rattle.graph.proofs.Laws.{laws}
+use Rattle.runs.specs.Steps.{unitWeight}
+use Rattle.runs.specs.Successors.{successorsOf}
+use Rattle.runs.specs.Instance.{graphOf}
+use Rattle.runs.specs.Entries.{entries, graphIn, Settled}
+use Rattle.runs.specs.Run.{lowestInvalid}
+use Rattle.runs.specs.SearchInvariants.{Held, Marked}
+use Rattle.runs.specs.PassInvariants.{Lengths, FillAsks, at}
+use Rattle.runs.proofs.Entries.{carries}
+use Rattle.runs.proofs.Held.{held-of, held-on}
+use Rattle.runs.proofs.Lawful.{lawful}
+use Rattle.runs.proofs.Outcome.{decided-invalid, decided-accepted}
 use Rattle.runs.proofs.longest.run_of_words.Statement.{statement}
 use Rattle.runs.proofs.longest.run_of_words.Tie as tie
 
--- after the search
-module _ (c : tie.After-mark-reachable) where
+-- after the pass that settles the entries
+module _ (c : tie.After-settle-edges) where
   abbrev start : tie.Start
-  start = c .before .before .before .before .before .before .before .before
+  start = c .before .before .before .before .before .before .before
 
   abbrev words : List ℕ
   words = start .args .words .now
 
+  held : Held (start .args .marks .now) (c .settle-edges .last .1 .1 .0)
+  held = held-of (length words) (successorsOf words) (start .args .marks .now) (start .args .lengths .now) (c .settle-edges .last .1 .1 .0) (lawful words) (start .pre) (c .settle-edges .ensures) (c .settle-edges .kept .1 .1 .0)
+
+-- after the search
+module _ (c : tie.After-mark-reachable) where
+  abbrev settled : tie.After-settle-edges
+  settled = c .before .before .before .before .before
+
   abbrev marks : List ℕ
-  marks = c .mark-reachable .last .1 .1 .0
+  marks = c .mark-reachable .last .0
 
-  marks-long : length words ≤ length marks
-  marks-long = omega (arith, c .mark-reachable .kept .1 .1 .0, start .pre .m-long)
+  abbrev lengths : List ℕ
+  lengths = c .mark-reachable .last .1 .0
 
-  lengths-long : length words ≤ length (c .mark-reachable .last .1 .1 .1 .0)
-  lengths-long = omega (arith, c .mark-reachable .kept .1 .1 .1 .0, start .pre .l-long)
+  settled-yet : Settled (length (words settled)) (successorsOf (words settled)) (entries lengths)
+  settled-yet = subst (λ (es : List ℕ). Settled (length (words settled)) (successorsOf (words settled)) es) (sym (c .mark-reachable .ensures .kept)) (settled .settle-edges .ensures)
 
-  marks-are : marks ≡ over (markOf (graphOf words)) (length words) (start .args .marks .now)
-  marks-are = let r = c .mark-reachable .ensures .0 in over-laws .is (markOf (graphOf words)) (length words) (start .args .marks .now) marks marks-long (r .each) (r .rest)
+  graph-is : graphIn (entries lengths) ≡ graphOf (words settled)
+  graph-is = carries .graph (length (words settled)) (successorsOf (words settled)) (entries lengths) settled-yet
+
+  fill-asks : FillAsks marks lengths
+  fill-asks =
+      let e = c .mark-reachable .ensures in
+      record {
+        held = held-on (held settled) (e .kept) (c .mark-reachable .kept .0);
+        marked = subst (λ (es : List ℕ). Marked (graphIn es) marks) (sym (e .kept)) (e .marked);
+      }
+
+  marks-are : marks ≡ tabulate (markOf (graphOf (words settled))) 0 (length (words settled))
+  marks-are =
+      over-laws .whole (markOf (graphOf (words settled))) (length (words settled)) marks (fill-asks .held .lent .m-same ∙ settled-yet .same)
+      (subst (λ (g : Graph). Marked g marks) graph-is (fill-asks .marked))
 
 -- after the pass over the lengths
 module _ (c : tie.After-fill-lengths) where
   abbrev sought : tie.After-mark-reachable
-  sought = c .before .before .before .before .before .before .before .before
+  sought = c .before .before .before .before .before .before .before
 
-  abbrev lengths : List ℕ
-  lengths = c .fill-lengths .last .1 .1 .1 .0
+  abbrev ws : List ℕ
+  ws = words (settled sought)
 
-  rest : drop (length (words sought)) lengths ≡ drop (length (words sought)) (start sought .args .lengths .now)
-  rest = c .fill-lengths .ensures .0 .rest ∙ sought .mark-reachable .ensures .1
+  abbrev filled : List ℕ
+  filled = c .fill-lengths .last .1 .0
 
-  lengths-are : lengths ≡ over (lengthOf (graphOf (words sought)) unitWeight) (length (words sought)) (start sought .args .lengths .now)
-  lengths-are = over-laws .is (lengthOf (graphOf (words sought)) unitWeight) (length (words sought)) (start sought .args .lengths .now) lengths (omega (arith, c .fill-lengths .kept .1 .1 .1 .0, lengths-long sought)) (c .fill-lengths .ensures .0 .each) rest
+  filled-length : length filled ≡ length ws
+  filled-length = c .fill-lengths .kept .1 .0 ∙ fill-asks sought .held .lent .l-same ∙ settled-yet sought .same
+
+  each : Lengths (graphOf ws) unitWeight filled
+  each = subst (λ (g : Graph). Lengths g unitWeight filled) (graph-is sought) (c .fill-lengths .ensures .lengths)
+
+  lowest : c .fill-lengths .result ≡ lowestInvalid ws
+  unfolding lowestInvalid
+  lowest = c .fill-lengths .ensures .lowest-invalid ∙ carries .lowest-invalid (length ws) (successorsOf ws) (entries (lengths sought)) (settled-yet sought)
+
+  passing : Passing (graphOf ws) unitWeight
+  passing = laws .passing (graphOf ws) (lawful ws) unitWeight
 
   -- lengths that are cleared
-  cleared : {l : List ℕ} → l ≡ replicate (length (words sought)) 0 ++ drop (length (words sought)) lengths → l ≡ replicate (length (words sought)) 0 ++ drop (length (words sought)) (start sought .args .lengths .now)
-  cleared e = e ∙ ap (λ (x : List ℕ). replicate (length (words sought)) 0 ++ x) rest
+  cleared : {l : List ℕ} → l ≡ replicate (length ws) 0 ++ drop (length ws) filled → l ≡ tabulate (λ p. 0) 0 (length ws)
+  cleared {l} e =
+      let d : drop (length ws) filled ≡ drop (length filled) filled = ap (λ (n : ℕ). drop n filled) (sym filled-length) in
+      e ∙ ap (λ (x : List ℕ). replicate (length ws) 0 ++ x) (d ∙ drop-length filled) ∙ append-nil (replicate (length ws) 0) ∙ over-laws .zeros 0 (length ws)
 
 -- after the largest of them is found
 module _ (c : tie.After-find-longest) where
   abbrev fill : tie.After-fill-lengths
   fill = c .before .before .before .before .before
 
-  valid : length (words (sought fill)) ≤ lowestInvalid (words (sought fill))
-  valid = subst (λ (x : ℕ). length (words (sought fill)) ≤ x) (fill .fill-lengths .ensures .1) (c .before .before .if1 .left)
+  valid : length (ws fill) ≤ lowestInvalid (ws fill)
+  valid = subst (λ (x : ℕ). length (ws fill) ≤ x) (lowest fill) (c .before .before .if1 .left)
 
-  found : c .find-longest .result ≡ longest (graphOf (words (sought fill))) unitWeight
-  found = longest-found (graphOf (words (sought fill))) unitWeight (at (lengths fill)) (fill .fill-lengths .ensures .0 .each) (c .find-longest .ensures)
-
-fill-lengths-requires : tie.Need-fill-lengths-requires
-fill-lengths-requires c κs =
-    let d = c .before .before .before .before .before .before .before in
-    (d .before .before .before .before .table .ensures, record { few = start d .pre .few; m-long = marks-long d; l-long = lengths-long d; marks = d .mark-reachable .ensures .0 .each; from = λ q h l. absurd (omega arith) })
+  found : c .find-longest .result ≡ longest (graphOf (ws fill)) unitWeight
+  found = c .find-longest .ensures ∙ passing fill .longest-found (at (filled fill)) (each fill)
 
 returns : tie.Need-returns
 returns c =
     let k = c .before .before in
     let f = k .before .before .before .before .before in
-    let d = sought f in
-    outcome-invalid _ _ _ (start d .pre) (marks-are d) (f .fill-lengths .ensures .1) (k .before .before .if1 .taken) (cleared f (k .clear-lengths .ensures))
+    decided-invalid (ws f) (marks-are (sought f)) (lowest f) (k .before .before .if1 .taken) (cleared f (k .clear-lengths .ensures))
 
 returns-2 : tie.Need-returns-2
 returns-2 c =
     let h = c .before .before in
-    let d = sought (fill h) in
-    let first-is = first-found (graphOf (words d)) unitWeight (at (lengths (fill h))) (fill h .fill-lengths .ensures .0 .each) (found h) (c .find-first .ensures) in
-    outcome-accepted _ _ _ (start d .pre) (marks-are d) (valid h) (found h) first-is (lengths-are (fill h))
+    let f = fill h in
+    let first-is = c .find-first .ensures ∙ ap (λ (v : ℕ). lowestFrom (λ p. eqb (at (filled f) p) v) 0 (length (ws f))) (found h) ∙ passing f .first-found (at (filled f)) (each f) in
+    decided-accepted (ws f) (marks-are (sought f)) (valid h) (found h) first-is
+    (over-laws .whole (lengthOf (graphOf (ws f)) unitWeight) (length (ws f)) (filled f) (filled-length f) (each f))
 
 pub run-of-words-spec : {M : Type 1} → statement M
 run-of-words-spec =
     tie.close
     (tie.spec
     (λ c κs. search needs)
-    (λ c κs. search needs)
-    fill-lengths-requires
-    (λ c κs. search needs)
+    (λ c κs. let s = c .before .before .before .before .before .before in (c .before .before .table .ensures, s .pre .few, s .pre .l-same))
+    (λ c κs. held (c .before .before .before .before))
+    (λ c κs. fill-asks (c .before .before .before .before .before .before))
+    (λ c κs. let f = c .before .before .before .before in omega (arith, filled-length f))
     (λ c. search needs)
     (λ c. search needs)
     returns
-    (λ c κs. search needs)
-    (λ c κs. search needs)
+    (λ c κs. let f = c .before .before .before .before in omega (arith, filled-length f))
+    (λ c κs. let f = fill (c .before) in omega (arith, filled-length f))
     (λ c. search needs)
     (λ c. search needs)
     returns-2)

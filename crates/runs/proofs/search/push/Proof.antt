@@ -1,17 +1,16 @@
+use mathlib.Core.Path.{refl}
 use borrow.Author.Needs.{needs}
-use borrow.Author.Tests.{eq-eqb, ne-eqb}
 use native.Mathlib.Omega.{arith}
+use Rattle.runs.specs.SearchInvariants.{there}
+use Rattle.runs.proofs.Entries.{pushes-new}
 use Rattle.runs.proofs.search.push.Statement.{statement}
 use Rattle.runs.proofs.search.push.Tie as tie
 
-slice-write-queue : tie.Need-slice-write-queue
-slice-write-queue c = c .before .before .pre .1 (c .if1 .taken)
+slice-read-lengths : tie.Need-slice-read-lengths
+slice-read-lengths c = c .before .before .before .pre .in-l (c .before .if1 .taken)
 
-returns : tie.Need-returns
-returns c = let e = eq-eqb _ _ (c .if1 .taken) in (simp e, simp e, simp e)
-
-returns-2 : tie.Need-returns-2
-returns-2 c = let e = ne-eqb _ _ (c .if1 .left) in (simp e, simp e, simp e)
+slice-write-lengths : tie.Need-slice-write-lengths
+slice-write-lengths c = c .before .before .before .pre .in-l (c .before .if1 .taken)
 
 pub push-spec : {M : Type 1} → statement M
 push-spec =
@@ -19,11 +18,15 @@ push-spec =
     (tie.spec
     (λ c. search needs)
     (λ c. search needs)
-    (λ c. search needs)
-    (λ c. omega (arith, slice-write-queue c))
-    slice-write-queue
-    (λ c. omega (arith, slice-write-queue c))
+    (λ c. omega (arith, c .before .before .pre .in-l (c .if1 .taken)))
+    slice-read-lengths
     (λ c. search needs)
     (λ c. search needs)
-    returns
-    returns-2)
+    (λ c. search needs)
+    (λ c. omega (arith, slice-write-lengths c))
+    slice-write-lengths
+    (λ c. omega (arith, slice-write-lengths c))
+    (λ c. search needs)
+    (λ c. search needs)
+    (λ c. pushes-new _ _ _ _ (c .before .if1 .taken))
+    (λ c. record { queued = there (c .if1 .left); kept = refl }))

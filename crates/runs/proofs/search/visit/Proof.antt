@@ -1,108 +1,118 @@
-use mathlib.Core.Path.{_≡_, sym, ap, _∙_}
-use mathlib.Core.List.{[], _∷_}
-use Prim.Native.Nat.{_<_}
+use mathlib.Core.Path.{_≡_, refl, sym, subst}
+use mathlib.Core.List.{List, [], _∷_}
+use Prim.Native.Nat.{ℕ, _+_, _%_, _<_, _≤_}
 use native.Mathlib.Omega.{arith}
-use lib.ListN.{length}
+use lib.ListN.{length, getD}
 use borrow.Author.Needs.{needs}
-use Rattle.runs.specs.Graph.{Graph}
-use Rattle.runs.specs.Successors.{listOf}
-use Rattle.runs.specs.Instance.{graphOf}
-use Rattle.runs.proofs.Lawful.{lawful}
-use Rattle.runs.proofs.Turn.{first-in, turned-none, turned-old, turned-new, second-asks, first-long, turned-two-old, turned-two-new}
+use Rattle.common.specs.Limits.{mostWords}
+use Rattle.graph.specs.Graph.{Graph, Lawful}
+use Rattle.runs.specs.Entries.{«TARGETS», «ENTRIES», entries, queueOf, graphIn}
+use Rattle.runs.proofs.Entries.{entries-length, in-graph, none-in-graph, both-in-graph, entry-next, entry-target, entry-both}
+use Rattle.runs.proofs.Turn.{Both, first-in, turned-none, turned-one, second-asks, first-long, turned-two}
+use Rattle.runs.proofs.Held.{push-asks-in}
 use Rattle.runs.proofs.search.visit.Statement.{statement}
 use Rattle.runs.proofs.search.visit.Tie as tie
 
-abbrev graph : tie.Start → Graph
-graph s = graphOf (s .args .words .now)
+-- what the function is lent
+module _ (s : tie.Start) where
+  abbrev m : List ℕ
+  m = s .args .marks .now
 
--- from the call of `successors_in` to the function's entry
-abbrev enter : tie.After-successors-in → tie.Start
-enter c = c .before .before .before .before
+  abbrev l : List ℕ
+  l = s .args .lengths .now
 
--- the successors in the arms of One and Two
-one : (c : tie.After-s) → let s = enter (c .before .before) in c .s .given .0 .0 ∷ [] ≡ graph s .successors (s .args .p)
-one c = ap listOf (sym (c .s .given .1) ∙ c .before .before .successors-in .ensures)
+  abbrev graph : Graph
+  graph = graphIn (entries l)
 
-two : (c : tie.After-s2) → let s = enter (c .before .before) in c .s2 .given .0 .0 ∷ c .s2 .given .0 .1 .0 ∷ [] ≡ graph s .successors (s .args .p)
-two c = ap listOf (sym (c .s2 .given .1) ∙ c .before .before .successors-in .ensures)
+  abbrev entry : ℕ
+  entry = getD l (s .args .p) 0 % «ENTRIES»
+
+  law : Lawful graph
+  law = s .pre .held .law
+
+  few : graph .size ≤ mostWords
+  few = s .pre .held .lent .few
+
+  in-l : s .args .p < length l
+  in-l = omega (arith, s .pre .in-l, entries-length l)
+
+  in-m : {a : ℕ} → a ∷ [] ≡ graph .successors (s .args .p) → a < length m
+  in-m e = omega (arith, first-in graph law m (queueOf l) (s .args .p) (s .args .tail) (s .pre .room) e, s .pre .room .m-long)
+
+-- the places of the tests
+abbrev enter : tie.After-slice-known3 → tie.Start
+enter c = c .before .before .before
+
+next : (c : tie.Then1) → let s = enter (c .before) in (s .args .p + 1) ∷ [] ≡ graph s .successors (s .args .p)
+next c = let s = enter (c .before) in in-graph (l s) (s .args .p) (entry-next (entry s) (s .args .p) (c .if1 .taken))
+
+jump : (c : tie.Then3) → let s = enter (c .before .before .before) in (entry s % «TARGETS») ∷ [] ≡ graph s .successors (s .args .p)
+jump c = let s = enter (c .before .before .before) in in-graph (l s) (s .args .p) (entry-target (entry s) (s .args .p) (c .if3 .taken))
+
+fork : (c : tie.Else3) → let s = enter (c .before .before .before) in Both (graph s) (s .args .p) (s .args .p + 1) (entry s % «TARGETS»)
+fork c =
+    let s = enter (c .before .before .before) in
+    both-in-graph (l s) (s .args .p) (entry-both (entry s) (s .args .p) (c .before .if2 .left) (c .before .before .if1 .left) (c .if3 .left))
 
 returns : tie.Need-returns
 returns c =
-    let s = enter (c .before .before) in
-    turned-none (graph s) (lawful (s .args .words .now)) _ _ _ _ (s .pre .3) (ap listOf (sym (c .enum-told .given .1) ∙ c .before .before .successors-in .ensures))
+    let d = c .before .before .before .before in
+    let s = enter (d .before) in
+    record { turned = turned-one (graph s) (law s) _ _ _ _ (s .pre .room) (next d) (c .before .before .reach .ensures); kept = refl }
 
 returns-2 : tie.Need-returns-2
 returns-2 c =
     let s = enter (c .before .before) in
-    turned-none (graph s) (lawful (s .args .words .now)) _ _ _ _ (s .pre .3) (ap listOf (sym (c .enum-told2 .given .1) ∙ c .before .before .successors-in .ensures))
-
--- one successor
-one-long : (c : tie.After-s) → let s = enter (c .before .before) in c .s .given .0 .0 < length (s .args .marks .now)
-one-long c =
-    let s = enter (c .before .before) in
-    omega (arith, first-in (graph s) (lawful (s .args .words .now)) (s .args .marks .now) (s .args .queue .now) (s .args .p) (s .args .tail) (s .pre .3) (one c), s .pre .3 .m-long)
+    record { turned = turned-none (graph s) (law s) _ _ _ _ (s .pre .room) (none-in-graph (l s) (s .args .p) (c .if2 .taken)); kept = refl }
 
 returns-3 : tie.Need-returns-3
 returns-3 c =
-    let d = c .before .before .before in
-    let s = enter (d .before .before) in
-    turned-new (graph s) (lawful (s .args .words .now)) _ _ _ _ (s .pre .3) (one d) (c .if1 .taken)
+    let d = c .before .before .before .before in
+    let s = enter (d .before .before .before) in
+    record { turned = turned-one (graph s) (law s) _ _ _ _ (s .pre .room) (jump d) (c .before .before .reach2 .ensures); kept = refl }
+
+push-requires : tie.Need-push-requires
+push-requires c κs =
+    let d = c .before .before in
+    let s = enter (d .before .before .before) in
+    push-asks-in (second-asks (graph s) (law s) (m s) (queueOf (l s)) _ _ (s .pre .room) (fork d) (few s))
+
+-- after the target is pushed
+module _ (c : tie.After-push) where
+  abbrev forked : tie.Else3
+  forked = c .before .before .before
+
+  next-long : let s = enter (forked .before .before .before) in s .args .p + 1 < length (c .push .last .0)
+  next-long =
+      let s = enter (forked .before .before .before) in
+      let e = c .push .ensures in
+      first-long (graph s) (law s) (m s) (queueOf (l s)) (s .args .p) (s .args .tail) (s .pre .room) (fork forked) (e .queued)
 
 returns-4 : tie.Need-returns-4
 returns-4 c =
-    let d = c .before .before .before in
-    let s = enter (d .before .before) in
-    turned-old (graph s) (lawful (s .args .words .now)) _ _ _ _ (s .pre .3) (one d) (c .if1 .left)
-
--- two successors
-push-requires : tie.Need-push-requires
-push-requires c κs =
-    let d = c .before .before .before in
-    let s = enter (d .before .before) in
-    second-asks (graph s) (lawful (s .args .words .now)) _ _ _ _ (s .pre .3) (two d) (s .pre .1)
-
-two-long : (c : tie.After-push) → c .before .before .before .before .s2 .given .0 .0 < length (c .push .last .0)
-two-long c =
-    let d = c .before .before .before .before in
-    let s = enter (d .before .before) in
-    first-long (graph s) (lawful (s .args .words .now)) (s .args .marks .now) (s .args .queue .now) (s .args .p) (s .args .tail) (s .pre .3) (two d) (c .push .ensures)
-
-returns-5 : tie.Need-returns-5
-returns-5 c =
-    let q = c .before .before .before .before .before .before in
-    let d = q .before .before .before .before in
-    let s = enter (d .before .before) in
-    turned-two-new (graph s) (lawful (s .args .words .now)) _ _ _ _ (s .pre .3) (two d) (q .push .ensures) (c .if2 .taken)
-
-returns-6 : tie.Need-returns-6
-returns-6 c =
-    let q = c .before .before .before .before .before .before in
-    let d = q .before .before .before .before in
-    let s = enter (d .before .before) in
-    turned-two-old (graph s) (lawful (s .args .words .now)) _ _ _ _ (s .pre .3) (two d) (q .push .ensures) (c .if2 .left)
+    let u = c .before .before .before .before .before .before .before .before in
+    let s = enter (forked u .before .before .before) in
+    let e = u .push .ensures in
+    record { turned = turned-two (graph s) (law s) _ _ _ _ (s .pre .room) (fork (forked u)) (e .queued) (c .before .before .reach3 .ensures); kept = e .kept }
 
 pub visit-spec : {M : Type 1} → statement M
 visit-spec =
     tie.close
     (tie.spec
-    (λ c κs. search needs)
+    (λ c. let s = c .before .before in omega (arith, in-l s))
+    (λ c. in-l (c .before .before .before))
+    (λ c. let s = enter (c .before .before) in omega (arith, in-l s, s .pre .held .lent .l-same, few s))
+    (λ c κs. in-m (enter (c .before .before)) (next (c .before)))
     (λ c. search needs)
     returns
-    (λ c. search needs)
     returns-2
     (λ c. search needs)
-    (λ c. one-long (c .before .before))
-    (λ c. one-long (c .before .before .before))
+    (λ c κs. in-m (enter (c .before .before .before .before)) (jump (c .before)))
     (λ c. search needs)
     returns-3
-    returns-4
-    (λ c. search needs)
     push-requires
-    (λ c. two-long (c .before .before .before .before .before))
-    (λ c. two-long (c .before .before .before .before .before .before))
+    (λ c. let u = c .before .before .before .before .before in let s = enter (forked u .before .before .before) in omega (arith, in-l s, s .pre .held .lent .l-same, few s))
+    (λ c κs. next-long (c .before .before .before .before .before))
     (λ c. search needs)
     (λ c. search needs)
-    returns-5
-    (λ c. search needs)
-    (λ c. search needs)
-    returns-6)
+    returns-4)

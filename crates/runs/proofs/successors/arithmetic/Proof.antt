@@ -1,5 +1,5 @@
 -- `runs::successors::arithmetic` meets its contract. Assumes nothing.
-use Rattle.runs.specs.Successors.{unless}
+use Rattle.runs.specs.Steps.{unless}
 use borrow.Author.Needs.{needs}
 use Rattle.runs.proofs.successors.arithmetic.Statement.{statement}
 use Rattle.runs.proofs.successors.arithmetic.Tie as tie

@@ -6,9 +6,10 @@ use mathlib.Core.List.{List}
 use native.Mathlib.Omega.{arith}
 use lib.ListN.{length, getD}
 use Rattle.runs.specs.Columns.{classFrom, companionFrom}
-use Rattle.runs.specs.Successors.{unless, nextOf, standsAt, successorsOf}
+use Rattle.runs.specs.Steps.{unless}
+use Rattle.runs.specs.Successors.{nextOf, standsAt, successorsOf}
 use Rattle.runs.proofs.Columns.{class-of-byte, companion-of-byte}
-use Rattle.runs.proofs.Steps.{outside, by-columns}
+use Rattle.runs.proofs.Words.{outside, by-columns}
 use borrow.Author.Needs.{needs}
 use Rattle.runs.proofs.successors.successors.Statement.{statement}
 use Rattle.runs.proofs.successors.successors.Tie as tie

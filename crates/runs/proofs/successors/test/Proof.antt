@@ -1,7 +1,7 @@
 -- `runs::successors::test` meets its contract. Assumes nothing.
 use mathlib.Core.Path.{sym, _∙_}
 use Rattle.fields.specs.Opcodes.{«OP_JMP»}
-use Rattle.runs.specs.Successors.{unless}
+use Rattle.runs.specs.Steps.{unless}
 use borrow.Author.Needs.{needs}
 use borrow.Author.Tests.{eq-eqb, ne-eqb}
 use Rattle.runs.proofs.successors.test.Statement.{statement}

@@ -1,0 +1,12 @@
+pub mod Paths
+pub mod Marks
+pub mod Numbers
+pub mod Heaviest
+pub mod Lengths
+pub mod Meaning
+pub mod Laws
+pub mod Ceiling
+pub mod Monotone
+pub mod Unreachable
+pub mod Distance
+pub mod Crossing
