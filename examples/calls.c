@@ -1,5 +1,5 @@
-/* Every function of include/lawendeb.h, called with cases of document 01; a line and status 1 if an
-   answer, or anything lent, is not what the document says. It compiles as C and as C++. */
+/* Every function of include/lawendeb.h, called with cases of documents 01 and 02; a line and status
+   1 if an answer, or anything lent, is not what they say. It compiles as C and as C++. */
 #include <stdio.h>
 #include <string.h>
 
@@ -95,60 +95,135 @@ static int ran(struct lawendeb_run r, uint64_t number, uint64_t place, uint64_t 
     return r.number == number && r.place == place && r.longest == longest && r.first == first;
 }
 
+/* Weights of 1, and others: LOADI 10, ADDI 20, MMBINI 30, JMP 40, the unknown 83 50, the rest 255;
+   with a place more, to lend one too many. */
+static uint8_t ones[LAWENDEB_WEIGHTS], others[LAWENDEB_WEIGHTS + 1];
+
+static void weigh(void) {
+    memset(ones, 1, sizeof ones);
+    memset(others, 255, sizeof others);
+    others[1] = 10, others[21] = 20, others[47] = 30, others[56] = 40, others[83] = 50;
+}
+
+/* A run with so many of these weights, and slices of these lengths. */
+static struct lawendeb_run run_by(const uint8_t *weights, size_t weights_n, const uint32_t *words,
+                                  size_t n, size_t marks_n, size_t lengths_n) {
+    return lawendeb_longest_run(words, n, weights, weights_n, marks, marks_n, lengths, lengths_n);
+}
+
+static struct lawendeb_run run(const uint32_t *words, size_t n, size_t marks_n, size_t lengths_n) {
+    return run_by(ones, LAWENDEB_WEIGHTS, words, n, marks_n, lengths_n);
+}
+
 static void runs(void) {
     const uint32_t skips[3] = {word_jump(1), 0, RETURN0};
     const uint32_t two_bad[4] = {57, word_jump(1), 83, 83};
     size_t i;
     lend();
-    CHECK(ran(lawendeb_longest_run(sheet, 4, marks, 6, lengths, 5), LAWENDEB_ACCEPTED, 0, 4, 0));
+    CHECK(ran(run(sheet, 4, 6, 5), LAWENDEB_ACCEPTED, 0, 4, 0));
     for (i = 0; i < 4; i++)
         CHECK(marks[i] == 1 && lengths[i] == 4 - i);
     CHECK(lent_from(4));
 
     lend();
-    CHECK(ran(lawendeb_longest_run(skips, 3, marks, 3, lengths, 3), LAWENDEB_ACCEPTED, 0, 2, 0));
+    CHECK(ran(run(skips, 3, 3, 3), LAWENDEB_ACCEPTED, 0, 2, 0));
     CHECK(marks[0] == 1 && marks[1] == 0 && marks[2] == 1);
     CHECK(lengths[0] == 2 && lengths[1] == 0 && lengths[2] == 1);
     CHECK(lent_from(3));
 
     lend();
     many[LAWENDEB_MOST_WORDS - 1] = word_jump(-LAWENDEB_MOST_WORDS);
-    CHECK(ran(lawendeb_longest_run(many, LAWENDEB_MOST_WORDS, marks, MANY, lengths, MANY),
-              LAWENDEB_ACCEPTED, 0, LAWENDEB_MOST_WORDS, 0));
+    CHECK(ran(run(many, LAWENDEB_MOST_WORDS, MANY, MANY), LAWENDEB_ACCEPTED, 0,
+              LAWENDEB_MOST_WORDS, 0));
     CHECK(lengths[0] == LAWENDEB_MOST_WORDS && lengths[LAWENDEB_MOST_WORDS - 1] == 1);
     CHECK(lent_from(LAWENDEB_MOST_WORDS));
     many[LAWENDEB_MOST_WORDS - 1] = 0;
 
     lend();
-    CHECK(ran(lawendeb_longest_run(many, MANY, marks, 0, lengths, 0), LAWENDEB_TOO_MANY_WORDS, 0,
-              0, 0));
-    CHECK(ran(lawendeb_longest_run(sheet, 4, marks, 3, lengths, 4), LAWENDEB_SHORT_SLICE, 0, 0, 0));
-    CHECK(ran(lawendeb_longest_run(sheet, 4, marks, 4, lengths, 3), LAWENDEB_SHORT_SLICE, 0, 0, 0));
-    CHECK(ran(lawendeb_longest_run(sheet, 0, marks, 4, lengths, 4), LAWENDEB_NO_WORDS, 0, 0, 0));
+    CHECK(ran(run(many, MANY, 0, 0), LAWENDEB_TOO_MANY_WORDS, 0, 0, 0));
+    CHECK(ran(run(sheet, 4, 3, 4), LAWENDEB_SHORT_SLICE, 0, 0, 0));
+    CHECK(ran(run(sheet, 4, 4, 3), LAWENDEB_SHORT_SLICE, 0, 0, 0));
+    CHECK(ran(run(sheet, 0, 4, 4), LAWENDEB_NO_WORDS, 0, 0, 0));
     CHECK(lent_from(0));
 
-    CHECK(ran(lawendeb_longest_run(unknown, 1, marks, 2, lengths, 2), LAWENDEB_REACHES_INVALID, 0,
-              0, 0));
+    CHECK(ran(run(unknown, 1, 2, 2), LAWENDEB_REACHES_INVALID, 0, 0, 0));
     CHECK(marks[0] == 1 && lengths[0] == 0 && lent_from(1));
-    CHECK(ran(lawendeb_longest_run(two_bad, 4, marks, 4, lengths, 4), LAWENDEB_REACHES_INVALID, 2,
-              0, 0));
+    CHECK(ran(run(two_bad, 4, 4, 4), LAWENDEB_REACHES_INVALID, 2, 0, 0));
     for (i = 0; i < 4; i++)
         CHECK(marks[i] == 1 && lengths[i] == 0);
     CHECK(lent_from(4));
 }
 
+/* Runs by other weights than 1, and weights that are refused. */
+static void weighed_runs(void) {
+    const uint32_t sums[4] = {100, 90, 70, 40};
+    size_t i;
+    lend();
+    CHECK(ran(run_by(others, LAWENDEB_WEIGHTS, sheet, 4, 4, 4), LAWENDEB_ACCEPTED, 0, 100, 0));
+    for (i = 0; i < 4; i++)
+        CHECK(marks[i] == 1 && lengths[i] == sums[i]);
+    CHECK(lent_from(4));
+
+    lend();
+    many[LAWENDEB_MOST_WORDS - 1] = RETURN0;
+    CHECK(ran(run_by(others, LAWENDEB_WEIGHTS, many, LAWENDEB_MOST_WORDS, MANY, MANY),
+              LAWENDEB_ACCEPTED, 0, 255 * LAWENDEB_MOST_WORDS, 0));
+    CHECK(lengths[0] == 255 * LAWENDEB_MOST_WORDS && lent_from(LAWENDEB_MOST_WORDS));
+    many[LAWENDEB_MOST_WORDS - 1] = 0;
+
+    lend();
+    for (i = 0; i <= LAWENDEB_WEIGHTS + 1; i++)
+        if (i != LAWENDEB_WEIGHTS)
+            CHECK(ran(run_by(others, i, sheet, 4, 4, 4), LAWENDEB_WEIGHTS_REFUSED, 0, 0, 0));
+    others[82] = others[127] = 0;
+    CHECK(ran(run_by(others, LAWENDEB_WEIGHTS, sheet, 4, 4, 4), LAWENDEB_WEIGHTS_REFUSED, 82, 0,
+              0));
+    CHECK(ran(run_by(others, LAWENDEB_WEIGHTS + 1, sheet, 4, 4, 4), LAWENDEB_WEIGHTS_REFUSED, 0, 0,
+              0));
+    /* 1 and 6 before 18, 18 before 7 and 8 */
+    CHECK(ran(run_by(others, LAWENDEB_WEIGHTS, many, MANY, 4, 4), LAWENDEB_TOO_MANY_WORDS, 0, 0,
+              0));
+    CHECK(ran(run_by(others, LAWENDEB_WEIGHTS, sheet, 4, 3, 4), LAWENDEB_SHORT_SLICE, 0, 0, 0));
+    CHECK(ran(run_by(others, LAWENDEB_WEIGHTS, sheet, 0, 4, 4), LAWENDEB_WEIGHTS_REFUSED, 82, 0,
+              0));
+    CHECK(ran(run_by(others, LAWENDEB_WEIGHTS, unknown, 1, 4, 4), LAWENDEB_WEIGHTS_REFUSED, 82, 0,
+              0));
+    CHECK(lent_from(0));
+    others[82] = others[127] = 255;
+}
+
 /* ---- the meter */
+
+static int answered(struct lawendeb_answer a, uint64_t number, uint64_t place) {
+    return a.number == number && a.place == place;
+}
 
 static int shows(struct lawendeb_meter m, uint32_t begun, uint32_t last, uint32_t count,
                  uint32_t services) {
     return m.begun == begun && m.last == last && m.count == count && m.services == services;
 }
 
+/* A feed by weights of 1, or by these, that is accepted. */
+static int feeds_by(const uint8_t *weights, struct lawendeb_meter *m, const uint32_t *words,
+                    size_t n, size_t q) {
+    return answered(lawendeb_feed(words, n, weights, LAWENDEB_WEIGHTS, m, q), LAWENDEB_ACCEPTED, 0);
+}
+
+static int feeds(struct lawendeb_meter *m, const uint32_t *words, size_t n, size_t q) {
+    return feeds_by(ones, m, words, n, q);
+}
+
 /* A feed of any meter: the answer, and the meter as it was. */
-static int refuses(struct lawendeb_meter m, const uint32_t *words, size_t n, size_t q,
-                   uint32_t number) {
+static int refuses_by(const uint8_t *weights, size_t weights_n, struct lawendeb_meter m,
+                      const uint32_t *words, size_t n, size_t q, uint64_t number, uint64_t place) {
     struct lawendeb_meter before = m;
-    return lawendeb_feed(words, n, &m, q) == number && memcmp(&m, &before, sizeof m) == 0;
+    return answered(lawendeb_feed(words, n, weights, weights_n, &m, q), number, place) &&
+           memcmp(&m, &before, sizeof m) == 0;
+}
+
+static int refuses(struct lawendeb_meter m, const uint32_t *words, size_t n, size_t q,
+                   uint64_t number) {
+    return refuses_by(ones, LAWENDEB_WEIGHTS, m, words, n, q, number, 0);
 }
 
 static struct lawendeb_meter meter(uint32_t begun, uint32_t last, uint32_t count,
@@ -162,41 +237,73 @@ static void meters(void) {
     lawendeb_begin(&m);
     CHECK(shows(m, 0, 0, 0, 40));
     CHECK(refuses(m, sheet, 4, 1, LAWENDEB_NO_STEP));
-    CHECK(lawendeb_feed(sheet, 4, &m, 0) == LAWENDEB_ACCEPTED && shows(m, 1, 0, 1, 40));
-    CHECK(lawendeb_feed(sheet, 4, &m, 1) == LAWENDEB_ACCEPTED && shows(m, 1, 1, 2, 40));
+    CHECK(feeds(&m, sheet, 4, 0) && shows(m, 1, 0, 1, 40));
+    CHECK(feeds(&m, sheet, 4, 1) && shows(m, 1, 1, 2, 40));
     CHECK(refuses(m, sheet, 4, 1, LAWENDEB_NO_STEP));
     CHECK(refuses(m, sheet, 4, 4, LAWENDEB_NO_STEP));
     CHECK(refuses(m, sheet, 4, SIZE_MAX, LAWENDEB_NO_STEP));
-    CHECK(lawendeb_feed(sheet, 4, &m, 3) == LAWENDEB_ACCEPTED && shows(m, 1, 3, 3, 40));
-    CHECK(lawendeb_feed(sheet, 4, &m, 1) == LAWENDEB_ACCEPTED && shows(m, 1, 1, 1, 41));
+    CHECK(feeds(&m, sheet, 4, 3) && shows(m, 1, 3, 3, 40));
+    CHECK(feeds(&m, sheet, 4, 1) && shows(m, 1, 1, 1, 41));
     lawendeb_begin(&m);
     CHECK(shows(m, 0, 0, 0, 41));
     /* the first word, bad or not; nothing follows a bad one */
-    CHECK(lawendeb_feed(unknown, 1, &m, 0) == LAWENDEB_ACCEPTED && shows(m, 1, 0, 1, 41));
+    CHECK(feeds(&m, unknown, 1, 0) && shows(m, 1, 0, 1, 41));
     CHECK(refuses(m, unknown, 1, 0, LAWENDEB_NO_STEP));
     /* a call does not serve; services stay at their ceiling; any begun but 0 is begun */
     m = meter(1, 0, 1, 4294967294u);
-    CHECK(lawendeb_feed(call, 2, &m, 1) == LAWENDEB_ACCEPTED && shows(m, 1, 1, 2, 4294967294u));
+    CHECK(feeds(&m, call, 2, 1) && shows(m, 1, 1, 2, 4294967294u));
     m = meter(1, 3, 4, 4294967294u);
-    CHECK(lawendeb_feed(sheet, 4, &m, 1) == LAWENDEB_ACCEPTED && shows(m, 1, 1, 1, 4294967295u));
+    CHECK(feeds(&m, sheet, 4, 1) && shows(m, 1, 1, 1, 4294967295u));
     m = meter(2, 3, 1, 4294967295u);
-    CHECK(lawendeb_feed(sheet, 4, &m, 1) == LAWENDEB_ACCEPTED && shows(m, 1, 1, 1, 4294967295u));
+    CHECK(feeds(&m, sheet, 4, 1) && shows(m, 1, 1, 1, 4294967295u));
 
     CHECK(refuses(meter(0, 0, 0, 5), sheet, 0, 0, LAWENDEB_NO_STEP));
     CHECK(refuses(meter(1, 4, 1, 5), sheet, 4, 1, LAWENDEB_FOREIGN_METER));
     CHECK(refuses(meter(1, 3, 0, 5), sheet, 4, 1, LAWENDEB_FOREIGN_METER));
-    CHECK(refuses(meter(1, 3, 5, 5), sheet, 4, 1, LAWENDEB_FOREIGN_METER));
+    CHECK(refuses(meter(1, 3, 255 * 4 + 1, 5), sheet, 4, 1, LAWENDEB_FOREIGN_METER));
     CHECK(refuses(meter(0, 1, 0, 5), sheet, 4, 0, LAWENDEB_FOREIGN_METER));
     CHECK(refuses(meter(0, 0, 1, 5), sheet, 4, 0, LAWENDEB_FOREIGN_METER));
     /* 11 before 10, 1 before both */
-    CHECK(refuses(meter(1, 3, 5, 5), sheet, 4, 9, LAWENDEB_FOREIGN_METER));
+    CHECK(refuses(meter(1, 3, 255 * 4 + 1, 5), sheet, 4, 9, LAWENDEB_FOREIGN_METER));
+    CHECK(refuses(meter(1, 3, 255 * 4, 5), sheet, 4, 9, LAWENDEB_NO_STEP));
     CHECK(refuses(meter(1, 3, 0, 5), many, MANY, 9, LAWENDEB_TOO_MANY_WORDS));
     m = meter(1, LAWENDEB_MOST_WORDS - 2, LAWENDEB_MOST_WORDS - 1, 5);
-    CHECK(lawendeb_feed(many, LAWENDEB_MOST_WORDS, &m, LAWENDEB_MOST_WORDS - 2) ==
-          LAWENDEB_NO_STEP);
-    CHECK(lawendeb_feed(many, LAWENDEB_MOST_WORDS, &m, LAWENDEB_MOST_WORDS - 1) ==
-              LAWENDEB_ACCEPTED &&
+    CHECK(refuses(m, many, LAWENDEB_MOST_WORDS, LAWENDEB_MOST_WORDS - 2, LAWENDEB_NO_STEP));
+    CHECK(feeds(&m, many, LAWENDEB_MOST_WORDS, LAWENDEB_MOST_WORDS - 1) &&
           shows(m, 1, LAWENDEB_MOST_WORDS - 1, LAWENDEB_MOST_WORDS, 5));
+}
+
+/* Feeds by other weights than 1, by changing ones, and weights that are refused. */
+static void weighed_meters(void) {
+    struct lawendeb_meter m = meter(0, 0, 0, 40);
+    size_t i;
+    CHECK(feeds_by(others, &m, sheet, 4, 0) && shows(m, 1, 0, 10, 40));
+    CHECK(feeds_by(others, &m, sheet, 4, 1) && shows(m, 1, 1, 30, 40));
+    CHECK(feeds_by(others, &m, sheet, 4, 2) && shows(m, 1, 2, 60, 40));
+    CHECK(feeds_by(others, &m, sheet, 4, 3) && shows(m, 1, 3, 100, 40));
+    CHECK(feeds_by(others, &m, sheet, 4, 1) && shows(m, 1, 1, 20, 41));
+    CHECK(feeds(&m, sheet, 4, 2) && shows(m, 1, 2, 21, 41));
+    CHECK(feeds_by(others, &m, sheet, 4, 3) && shows(m, 1, 3, 61, 41));
+    CHECK(feeds(&m, sheet, 4, 1) && shows(m, 1, 1, 1, 42));
+    lawendeb_begin(&m);
+    CHECK(feeds_by(others, &m, unknown, 1, 0) && shows(m, 1, 0, 50, 42));
+    m = meter(1, LAWENDEB_MOST_WORDS - 2, 255 * (LAWENDEB_MOST_WORDS - 1), 5);
+    CHECK(feeds_by(others, &m, many, LAWENDEB_MOST_WORDS, LAWENDEB_MOST_WORDS - 1) &&
+          shows(m, 1, LAWENDEB_MOST_WORDS - 1, 255 * LAWENDEB_MOST_WORDS, 5));
+
+    m = meter(1, 1, 2, 5);
+    for (i = 0; i <= LAWENDEB_WEIGHTS + 1; i++)
+        if (i != LAWENDEB_WEIGHTS)
+            CHECK(refuses_by(others, i, m, sheet, 4, 3, LAWENDEB_WEIGHTS_REFUSED, 0));
+    for (i = 0; i < LAWENDEB_WEIGHTS; i++) {
+        ones[i] = 0;
+        CHECK(refuses_by(ones, LAWENDEB_WEIGHTS, m, sheet, 4, 3, LAWENDEB_WEIGHTS_REFUSED, i));
+        ones[i] = 1;
+    }
+    /* 1 before 18, 18 before 11 and 10 */
+    CHECK(refuses_by(ones, 0, m, many, MANY, 3, LAWENDEB_TOO_MANY_WORDS, 0));
+    CHECK(refuses_by(ones, 127, meter(1, 3, 0, 5), sheet, 4, 1, LAWENDEB_WEIGHTS_REFUSED, 0));
+    CHECK(refuses_by(ones, 127, m, sheet, 4, 0, LAWENDEB_WEIGHTS_REFUSED, 0));
 }
 
 /* ---- records */
@@ -234,10 +341,6 @@ static struct lawendeb_answer lift(const uint32_t *words, size_t n, const struct
         numbers[i] = lent_number(i);
     return lawendeb_lift(words, n, t->tags, t->tags_n, t->payloads, t->payloads_n, t->names,
                          t->names_n, t->bytes, t->bytes_n, numbers, room);
-}
-
-static int answered(struct lawendeb_answer a, uint64_t number, uint64_t place) {
-    return a.number == number && a.place == place;
 }
 
 /* Refused, with every number as it was lent. */
@@ -369,9 +472,12 @@ static void refusals(void) {
 }
 
 int main(void) {
+    weigh();
     steps();
     runs();
+    weighed_runs();
     meters();
+    weighed_meters();
     records();
     values();
     refusals();

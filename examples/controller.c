@@ -1,7 +1,9 @@
 /* A controller in small. Before a script runs, it asks for the longest run; while it runs, it lends
-   one meter at each word that the script goes to, and holds the count against what was foretold. */
+   one meter at each word that the script goes to, and holds the count against what was foretold.
+   Both are lent the same weights: here each word weighs 1, so that words are counted. */
 #include <inttypes.h>
 #include <stdio.h>
+#include <string.h>
 
 #include "lawendeb.h"
 
@@ -10,12 +12,14 @@ static const uint32_t script[] = {2147483649u, 2147483669u, 109051951u, 21474831
 
 enum { WORDS = sizeof script / sizeof *script };
 
-/* The most words of the script that can pass without a service, 0 if it is refused. */
+static uint8_t weights[LAWENDEB_WEIGHTS];
+
+/* The most weight of the script that can pass without a service, 0 if it is refused. */
 static uint64_t longest(void) {
     uint8_t marks[WORDS];
     uint32_t lengths[WORDS];
-    struct lawendeb_run run =
-        lawendeb_longest_run(script, WORDS, marks, WORDS, lengths, WORDS);
+    struct lawendeb_run run = lawendeb_longest_run(script, WORDS, weights, LAWENDEB_WEIGHTS, marks,
+                                                   WORDS, lengths, WORDS);
     if (run.number != LAWENDEB_ACCEPTED) {
         printf("refused: number %" PRIu64 ", place %" PRIu64 "\n", run.number, run.place);
         return 0;
@@ -23,6 +27,10 @@ static uint64_t longest(void) {
     printf("at most %" PRIu64 " words without a service, from word %" PRIu64 " on\n", run.longest,
            run.first);
     return run.longest;
+}
+
+static uint64_t feed(struct lawendeb_meter *m, size_t q) {
+    return lawendeb_feed(script, WORDS, weights, LAWENDEB_WEIGHTS, m, q).number;
 }
 
 static void show(const struct lawendeb_meter *m) {
@@ -37,11 +45,11 @@ static int follow(const char *title, struct lawendeb_meter *m, uint64_t most, co
     puts(title);
     lawendeb_begin(m);
     for (size_t i = 0; i < length; i++) {
-        uint32_t number = lawendeb_feed(script, WORDS, m, path[i]);
-        printf("  word %zu: %" PRIu32 "; ", path[i], number);
+        uint64_t number = feed(m, path[i]);
+        printf("  word %zu: %" PRIu64 "; ", path[i], number);
         show(m);
         if (m->count > most) {
-            puts("  ALARM: more words than were foretold");
+            puts("  ALARM: more than was foretold");
             return 1;
         }
         if (number != LAWENDEB_ACCEPTED)
@@ -55,13 +63,16 @@ int main(void) {
     struct lawendeb_meter m = {0, 0, 0, 0};
     const size_t legal[] = {0, 1, 2, 3, 1, 3, 1};
     const size_t refused[] = {0, 1, 2, 1, 3};
-    uint64_t most = longest();
-    int alarms = most == 0;
+    uint64_t most;
+    int alarms;
+    memset(weights, 1, sizeof weights);
+    most = longest();
+    alarms = most == 0;
     alarms += follow("a legal path", &m, most, legal, sizeof legal / sizeof *legal);
     alarms += follow("a refused one", &m, most, refused, sizeof refused / sizeof *refused);
     puts("another function's meter");
     m.last = WORDS;
-    printf("  word 1: %" PRIu32 "; ", lawendeb_feed(script, WORDS, &m, 1));
+    printf("  word 1: %" PRIu64 "; ", feed(&m, 1));
     show(&m);
     return alarms != 0;
 }

@@ -29,13 +29,14 @@ extern "C" {
 /* The release of this header. It rises when a function's parameters, a struct or a meaning changes;
    such a function has a new symbol behind its name then, so that an archive of another release
    does not link. */
-#define LAWENDEB_RELEASE 2
+#define LAWENDEB_RELEASE 3
 
-/* Release 2: a call does not serve any more; only a step that does not go forward does. */
-#define lawendeb_feed lawendeb_feed_2
-#define lawendeb_longest_run lawendeb_longest_run_2
+/* Release 2: a call does not serve any more; only a step that does not go forward does.
+   Release 3: a run and a feed are lent weights, and a feed's answer has a place. */
+#define lawendeb_feed lawendeb_feed_3
+#define lawendeb_longest_run lawendeb_longest_run_3
 
-/* ---- answers, by document 01's numbers. The place is 0 unless one is named. */
+/* ---- answers, by the numbers of documents 01 and 02. The place is 0 unless one is named. */
 
 #define LAWENDEB_ACCEPTED 0
 #define LAWENDEB_TOO_MANY_WORDS 1    /* more than LAWENDEB_MOST_WORDS words */
@@ -50,10 +51,29 @@ extern "C" {
 #define LAWENDEB_FOREIGN_METER 11    /* the meter is not of this function */
 #define LAWENDEB_MALFORMED_LINE 12   /* of a sheet; by the program alone */
 #define LAWENDEB_TOO_MANY_LINES 13   /* of a sheet; by the program alone */
+#define LAWENDEB_WEIGHTS_REFUSED 18  /* not 128 weights; or one is 0, place: the lowest such */
 
 #define LAWENDEB_MOST_WORDS 32768
 #define LAWENDEB_MOST_CONSTANTS 65536
 #define LAWENDEB_MOST_NAMES 255
+#define LAWENDEB_WEIGHTS 128
+
+struct lawendeb_answer {
+    uint64_t number, place;
+};
+
+/* ---- weights: how long a word keeps the motors waiting, in a unit of the caller's
+
+   A run and a feed are lent LAWENDEB_WEIGHTS weights of 1 to 255. A word weighs what stands at its
+   low seven bits, weights[word & 127], whether its opcode is known or not. A meter's count, a run's
+   lengths and its longest are sums of weights, at most 255 times 32,768. With all weights 1 they
+   count words.
+
+   On an accepted function, a meter that was begun and is lent the run's weights at each feed never
+   shows a count above that run's longest. A meter fed with other weights than before is not refused
+   for that. Its count is then still what the words since the last service weighed, each by the
+   weights of its own feed, and nothing is lost or wraps; but it can't be held against the longest
+   of a run with other weights. */
 
 /* ---- the meter: libmeter.a */
 
@@ -62,7 +82,7 @@ extern "C" {
 struct lawendeb_meter {
     uint32_t begun;    /* 0: not begun; any other number: begun */
     uint32_t last;     /* the last word number fed */
-    uint32_t count;    /* words since service */
+    uint32_t count;    /* weight of the words since service */
     uint32_t services; /* services passed; stays at 4,294,967,295 */
 };
 
@@ -74,10 +94,14 @@ LAWENDEB_ASSERT(sizeof(struct lawendeb_meter) == 16 && offsetof(struct lawendeb_
 /* The script starts anew: not begun, 0, 0; the services stay. Nobody else writes `m` meanwhile. */
 void lawendeb_begin(struct lawendeb_meter *m);
 
-/* The script goes to word `q` of its `n` words. The answer is 0, or a refusal: 1, 11 and 10 are
-   tried in this order, and leave the meter as it was. `m` lies apart from the words, and nobody
-   else writes it meanwhile. */
-uint32_t lawendeb_feed(const uint32_t *words, size_t n, struct lawendeb_meter *m, size_t q);
+/* The script goes to word `q` of its `n` words. The first word fed makes the count its own weight,
+   and so does a step that serves with the word it leads to; another step adds that word's weight.
+   The answer is 0, or a refusal: 1, 18, 11 and 10 are tried in this order, and leave the meter as
+   it was. A begun meter is refused by 11 if its last word is not below n, or its count is 0 or
+   above 255 times (last + 1); one not begun if last or count is not 0. `m` lies apart from words
+   and weights, and nobody else writes it meanwhile. */
+struct lawendeb_answer lawendeb_feed(const uint32_t *words, size_t n, const uint8_t *weights,
+                                     size_t weights_n, struct lawendeb_meter *m, size_t q);
 
 /* ---- steps and the longest run: libexports.a */
 
@@ -93,23 +117,21 @@ struct lawendeb_successors {
 
 struct lawendeb_successors lawendeb_successors(const uint32_t *words, size_t n, size_t p);
 
-/* The longest run and the lowest word at which it begins; or a refusal's number and place. */
+/* The longest run, which is the heaviest, and the lowest word at which it begins; or a refusal's
+   number and place. */
 struct lawendeb_run {
     uint64_t number, place, longest, first;
 };
 
-/* Both slices need n places at least. They get, for each word, 1 if it is reachable, else 0; and
-   the most words that pass from there without a service. What lies past n stays as it was. Refusals
-   are 1, 6, 7 and 8, tried in this order. They alter nothing, but that 8 leaves the marks and n
-   zero lengths. */
-struct lawendeb_run lawendeb_longest_run(const uint32_t *words, size_t n, uint8_t *marks,
-                                         size_t marks_n, uint32_t *lengths, size_t lengths_n);
+/* Marks and lengths need n places at least. They get, for each word, 1 if it is reachable, else 0;
+   and the most weight that passes from there without a service, its own included, 0 if it is not
+   reachable. What lies past n stays as it was. Refusals are 1, 6, 18, 7 and 8, tried in this order.
+   They alter nothing, but that 8 leaves the marks and n zero lengths. */
+struct lawendeb_run lawendeb_longest_run(const uint32_t *words, size_t n, const uint8_t *weights,
+                                         size_t weights_n, uint8_t *marks, size_t marks_n,
+                                         uint32_t *lengths, size_t lengths_n);
 
 /* ---- records: libexports.a */
-
-struct lawendeb_answer {
-    uint64_t number, place;
-};
 
 /* A constant has a tag and a payload: the integer, the float's bits, or a string's place in the
    bytes, start in the low 32 bits, length in the high 32. Other payloads are ignored. An upvalue's

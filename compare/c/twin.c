@@ -59,12 +59,27 @@ static size_t mark(const uint32_t *w, size_t n, uint8_t *marks, uint32_t *queue)
     }
     return lowest;
 }
+/* Whether the weights are turned away. All are looked at, for gcc to take many at a time. */
+static inline bool refuses_weights(const uint8_t *weights, size_t weights_n) {
+    if (weights_n != TWIN_WEIGHTS) return true;
+    uint8_t zero = 0;
+    for (size_t i = 0; i < TWIN_WEIGHTS; i++) zero |= weights[i] == 0;
+    return zero;
+}
+static size_t weights_place(const uint8_t *weights, size_t weights_n) {
+    size_t i = 0;
+    if (weights_n == TWIN_WEIGHTS)
+        while (weights[i]) i++;
+    return i;
+}
 static inline uint32_t on(const uint32_t *lengths, size_t p, size_t q) {
     return serves(p, q) ? 0 : lengths[q];
 }
-struct twin_run twin_longest_run(const uint32_t *w, size_t n, uint8_t *marks, size_t marks_n, uint32_t *lengths, size_t lengths_n) {
+struct twin_run twin_longest_run(const uint32_t *w, size_t n, const uint8_t *weights, size_t weights_n, uint8_t *marks,
+    size_t marks_n, uint32_t *lengths, size_t lengths_n) {
     if (n > TWIN_WORDS) return (struct twin_run){1, 0, 0, 0};
     if (marks_n < n || lengths_n < n) return (struct twin_run){6, 0, 0, 0};
+    if (refuses_weights(weights, weights_n)) return (struct twin_run){18, weights_place(weights, weights_n), 0, 0};
     if (n == 0) return (struct twin_run){7, 0, 0, 0};
     size_t lowest = mark(w, n, marks, lengths);
     memset(lengths, 0, n * sizeof *lengths);
@@ -75,7 +90,7 @@ struct twin_run twin_longest_run(const uint32_t *w, size_t n, uint8_t *marks, si
         uint32_t most = 0;
         if (s.kind >= 2) most = on(lengths, p, s.first);
         if (s.kind == 3) { uint32_t other = on(lengths, p, s.second); if (other > most) most = other; }
-        lengths[p] = most + 1;
+        lengths[p] = most + weights[op(w[p])];
     }
     size_t first = 0;
     for (size_t p = 1; p < n; p++)
@@ -83,26 +98,30 @@ struct twin_run twin_longest_run(const uint32_t *w, size_t n, uint8_t *marks, si
     return (struct twin_run){0, 0, lengths[first], first};
 }
 
+static inline struct twin_answer answer(uint64_t number) { return (struct twin_answer){number, 0}; }
+
 void twin_begin(struct twin_meter *m) { m->begun = 0; m->last = 0; m->since = 0; }
 
-uint32_t twin_feed(const uint32_t *w, size_t n, struct twin_meter *m, size_t q) {
-    if (n > TWIN_WORDS) return 1;
+struct twin_answer twin_feed(const uint32_t *w, size_t n, const uint8_t *weights, size_t weights_n, struct twin_meter *m,
+    size_t q) {
+    if (n > TWIN_WORDS) return answer(1);
+    if (refuses_weights(weights, weights_n)) return (struct twin_answer){18, weights_place(weights, weights_n)};
     if (!m->begun) {
-        if (m->last || m->since) return 11;
-        if (q != 0 || n == 0) return 10;
+        if (m->last || m->since) return answer(11);
+        if (q != 0 || n == 0) return answer(10);
         m->begun = 1;
-        m->since = 1;
-        return 0;
+        m->since = weights[op(w[0])];
+        return answer(0);
     }
     size_t p = m->last;
-    if (p >= n || m->since == 0 || m->since > p + 1) return 11;
+    if (p >= n || m->since == 0 || m->since > TWIN_HEAVIEST * (p + 1)) return answer(11);
     struct twin_successors s = successors(w, n, p);
-    if (!(s.kind >= 2 && s.first == q) && !(s.kind == 3 && s.second == q)) return 10;
+    if (!(s.kind >= 2 && s.first == q) && !(s.kind == 3 && s.second == q)) return answer(10);
     if (serves(p, q)) {
-        m->since = 1;
+        m->since = weights[op(w[q])];
         if (m->services < UINT32_MAX) m->services++;
     } else
-        m->since++;
+        m->since += weights[op(w[q])];
     m->last = (uint32_t)q;
-    return 0;
+    return answer(0);
 }

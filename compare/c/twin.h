@@ -1,12 +1,12 @@
 /* The C twin: the same algorithms as the proved library, by hand, for gcc -O3. Speed is compared with it, and it is one
-   more independent implementation of document 01 in the differential tests. */
+   more independent implementation of documents 01 and 02 in the differential tests. */
 #ifndef TWIN_H
 #define TWIN_H
 #include <stdbool.h>
 #include <stddef.h>
 #include <stdint.h>
 
-enum { TWIN_WORDS = 32768, TWIN_CONSTANTS = 65536, TWIN_NAMES = 255 };
+enum { TWIN_WORDS = 32768, TWIN_CONSTANTS = 65536, TWIN_NAMES = 255, TWIN_WEIGHTS = 128, TWIN_HEAVIEST = 255 };
 
 /* kind: 0 invalid, 1 stop, 2 one, 3 two; steps lower first */
 struct twin_successors { uint64_t kind, first, second; };
@@ -29,9 +29,11 @@ struct twin_record {
 _Static_assert(sizeof(struct twin_record) == 53 * 8, "53 numbers");
 
 struct twin_successors twin_successors(const uint32_t *words, size_t n, size_t p);
-struct twin_run twin_longest_run(const uint32_t *words, size_t n, uint8_t *marks, size_t marks_n, uint32_t *lengths, size_t lengths_n);
+struct twin_run twin_longest_run(const uint32_t *words, size_t n, const uint8_t *weights, size_t weights_n, uint8_t *marks,
+    size_t marks_n, uint32_t *lengths, size_t lengths_n);
 void twin_begin(struct twin_meter *m);
-uint32_t twin_feed(const uint32_t *words, size_t n, struct twin_meter *m, size_t q);
+struct twin_answer twin_feed(const uint32_t *words, size_t n, const uint8_t *weights, size_t weights_n, struct twin_meter *m,
+    size_t q);
 struct twin_answer twin_lift(const uint32_t *words, size_t n, const uint8_t *tags, size_t tags_n, const uint64_t *payloads,
     size_t payloads_n, const uint8_t *bytes, size_t bytes_n, const uint64_t *names, size_t names_n,
     struct twin_record *records, size_t records_n);

@@ -8,20 +8,24 @@
 
 #ifdef RATTLE
 struct twin_successors lawendeb_successors(const uint32_t *words, size_t n, size_t p);
-struct twin_run lawendeb_longest_run_2(const uint32_t *words, size_t n, uint8_t *marks, size_t marks_n, uint32_t *lengths,
-    size_t lengths_n);
+struct twin_run lawendeb_longest_run_3(const uint32_t *words, size_t n, const uint8_t *weights, size_t weights_n,
+    uint8_t *marks, size_t marks_n, uint32_t *lengths, size_t lengths_n);
 void lawendeb_begin(struct twin_meter *m);
-uint32_t lawendeb_feed_2(const uint32_t *words, size_t n, struct twin_meter *m, size_t q);
+struct twin_answer lawendeb_feed_3(const uint32_t *words, size_t n, const uint8_t *weights, size_t weights_n,
+    struct twin_meter *m, size_t q);
 #define successors lawendeb_successors
-#define longest_run lawendeb_longest_run_2
+#define longest_run lawendeb_longest_run_3
 #define begin lawendeb_begin
-#define feed lawendeb_feed_2
+#define feed lawendeb_feed_3
 #else
 #define successors twin_successors
 #define longest_run twin_longest_run
 #define begin twin_begin
 #define feed twin_feed
 #endif
+
+/* L and the meters count words here. */
+static const uint8_t ones[TWIN_WEIGHTS] = {[0 ... TWIN_WEIGHTS - 1] = 1};
 
 struct lw_function {
     struct lw_function *next;
@@ -54,7 +58,7 @@ static struct lw_function *function_of(const uint32_t *code, size_t n) {
     memcpy(f->words, code, n * 4);
     uint8_t *marks = malloc(n);
     uint32_t *lengths = malloc(n * 4);
-    f->run = longest_run(f->words, n, marks, n, lengths, n);
+    f->run = longest_run(f->words, n, ones, sizeof ones, marks, n, lengths, n);
     free(marks);
     free(lengths);
     if (f->run.number == 1) large++;
@@ -118,7 +122,7 @@ void lw_word(struct lw_activation *a, size_t q) {
     }
     if (!a->off) {
         uint32_t before = m->services;
-        if (feed(f->words, f->n, m, q)) fail(f, p == SIZE_MAX ? 0 : p, q, "a feed was refused");
+        if (feed(f->words, f->n, ones, sizeof ones, m, q).number) fail(f, p == SIZE_MAX ? 0 : p, q, "a feed was refused");
         if (m->since > f->run.longest) fail(f, p, q, "a meter above L");
         services += m->services - before;
         metered++;

@@ -65,6 +65,16 @@ fn tables(words: Vec<u32>) -> Input {
     input
 }
 
+/// Weights of 1, and random ones.
+fn tables_of_weights() -> [(&'static str, Vec<u8>); 2] {
+    let mut s = Sequence(17);
+    [("", vec![1; 128]), (", random weights", (0..128).map(|_| 1 + s.below(255) as u8).collect())]
+}
+
+/// A kind of code: its name and how it is made in a length.
+type Kind = (&'static str, fn(usize) -> Vec<u32>);
+const KINDS: [Kind; 3] = [("real", real::of_length), ("straight", straight), ("scattered", scattered)];
+
 /// A walk of `many` words along steps, from 0, begun anew where none leads on; one list a course.
 fn courses(words: &[u32], many: usize) -> Vec<Vec<u32>> {
     let mut s = Sequence(7);
@@ -128,9 +138,8 @@ impl<'a> Columns<'a> {
     }
 }
 
-fn run_rows(columns: &Columns, sides: &[Side], rounds: usize) {
-    let kinds: [(&str, fn(usize) -> Vec<u32>); 3] = [("real", real::of_length), ("straight", straight), ("scattered", scattered)];
-    for (name, make) in kinds {
+fn run_rows(columns: &Columns, sides: &[Side], rounds: usize, (name, make): Kind) {
+    for (weighed, weights) in &tables_of_weights() {
         let mut rows = vec![];
         for n in SIZES {
             let words = make(n);
@@ -141,21 +150,20 @@ fn run_rows(columns: &Columns, sides: &[Side], rounds: usize) {
                 let words = &words;
                 calls.push(Box::new(move || {
                     for _ in 0..repeat {
-                        let answer = (side.run)(black_box(words), &mut marks, &mut lengths);
+                        let answer = (side.run)(black_box(words), black_box(weights), &mut marks, &mut lengths);
                         assert_eq!(answer.number, 0);
                     }
                 }));
             }
             let times = best(rounds, &mut calls);
-            rows.push(columns.row("longest run", name, n, &times, (repeat * n) as f64));
+            rows.push(columns.row("longest run", &format!("{name}{weighed}"), n, &times, (repeat * n) as f64));
         }
         columns.flat_row(&rows);
     }
 }
 
-fn feed_rows(columns: &Columns, sides: &[Side], rounds: usize) {
-    let kinds: [(&str, fn(usize) -> Vec<u32>); 3] = [("real", real::of_length), ("straight", straight), ("scattered", scattered)];
-    for (name, make) in kinds {
+fn feed_rows(columns: &Columns, sides: &[Side], rounds: usize, (name, make): Kind) {
+    for (weighed, weights) in &tables_of_weights() {
         let mut rows = vec![];
         for n in SIZES {
             let words = make(n);
@@ -167,13 +175,13 @@ fn feed_rows(columns: &Columns, sides: &[Side], rounds: usize) {
                 calls.push(Box::new(move || {
                     let mut m = Meter::default();
                     for list in lists {
-                        assert_eq!((side.feed_all)(black_box(words), &mut m, list), 0);
+                        assert_eq!((side.feed_all)(black_box(words), black_box(weights), &mut m, list), 0);
                     }
                     black_box(m);
                 }));
             }
             let times = best(rounds, &mut calls);
-            rows.push(columns.row("feed", name, n, &times, many as f64));
+            rows.push(columns.row("feed", &format!("{name}{weighed}"), n, &times, many as f64));
         }
         columns.flat_row(&rows);
     }
@@ -225,14 +233,15 @@ fn memory_rows(sides: &[Side]) {
     println!("\n| call, 32,768 words | side | lent bytes a word | heap bytes a word | stack bytes |\n|---|---|---|---|---|");
     let n = 32_768;
     let input = tables(real::of_length(n));
+    let ones = [1; 128];
     for side in sides {
         let (mut marks, mut lengths) = (vec![0u8; n], vec![0u32; n]);
         let mut records = vec![Record::default(); n];
         let mut m = Meter::default();
-        let run = stack::used(|| assert_eq!((side.run)(&input.words, &mut marks, &mut lengths).number, 0));
+        let run = stack::used(|| assert_eq!((side.run)(&input.words, &ones, &mut marks, &mut lengths).number, 0));
         println!("| longest run | {} | 5 | 0 | {run} |", side.name);
-        (side.feed)(&input.words, &mut m, 0);
-        let feed = stack::used(|| assert_eq!((side.feed)(&input.words, &mut m, 1), 0));
+        (side.feed)(&input.words, &ones, &mut m, 0);
+        let feed = stack::used(|| assert_eq!((side.feed)(&input.words, &ones, &mut m, 1).number, 0));
         println!("| feed | {} | 0 | 0 | {feed} |", side.name);
         if let Some(lift) = side.lift {
             let depth = stack::used(|| assert_eq!(lift(&input, &mut records).number, 0));
@@ -253,8 +262,12 @@ fn main() {
     let sides = sides::sides();
     let columns = Columns::over_first(sides.iter().map(|s| s.name).collect());
     columns.head();
-    run_rows(&columns, &sides, rounds);
-    feed_rows(&columns, &sides, rounds);
+    for kind in KINDS {
+        run_rows(&columns, &sides, rounds, kind);
+    }
+    for kind in KINDS {
+        feed_rows(&columns, &sides, rounds, kind);
+    }
     let lifting: Vec<Side> = sides.into_iter().filter(|s| s.lift.is_some()).collect();
     let mut columns = Columns::over_first(lifting.iter().map(|s| s.name).chain(["luad"]).collect());
     columns.quotients.extend((1..lifting.len()).map(|i| (lifting.len(), i)));

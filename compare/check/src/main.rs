@@ -8,6 +8,7 @@ mod records;
 mod rng;
 mod runs;
 mod shrink;
+mod weights;
 mod wrong;
 
 use std::collections::BTreeMap;
@@ -58,9 +59,10 @@ fn main() {
     let start = Instant::now();
     let c = meters::all(&sides, seed, lists);
     println!(
-        "meters: {} lists of {} feeds against the feeding book; {} single calls on any meter, answers by number: {}",
+        "meters: {} lists of {} feeds against the feeding book, {} of them against L; {} single calls on any meter, answers by number: {}",
         c.lists,
         c.feeds,
+        c.below,
         c.singles,
         by_number(&c.answers)
     );

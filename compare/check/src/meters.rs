@@ -3,9 +3,12 @@
 use crate::gen;
 use crate::rng::Rng;
 use crate::shrink::{shorter, shrink, words as smaller_words};
+use crate::weights::{self, Weights};
 use model::book::{Book, Call};
 use model::meter::{begin, feed, Meter};
+use model::run::run;
 use model::steps::steps;
+use model::Answer;
 use sides::Side;
 use std::collections::BTreeMap;
 
@@ -14,36 +17,59 @@ pub struct Counts {
     pub lists: u64,
     pub feeds: u64,
     pub singles: u64,
+    /// Lists on an accepted function with the same weights at each feed: held against L.
+    pub below: u64,
+    /// Answers of single calls.
     pub answers: BTreeMap<u64, u64>,
 }
 
-/// A meter, a function and calls on it.
+/// A meter, a function and calls on it. The calls take the weights in turn.
 #[derive(Clone, Debug)]
 pub struct Case {
     pub words: Vec<u32>,
+    pub weights: Vec<Weights>,
     pub start: Meter,
     pub calls: Vec<Call>,
 }
 
-fn call(side: &Side, words: &[u32], m: &mut Meter, c: Call) -> u32 {
-    match c {
-        Call::Begin => {
-            (side.begin)(m);
-            0
-        }
-        Call::Feed(q) => (side.feed)(words, m, q),
+impl Case {
+    /// What call i is lent.
+    fn weights(&self, i: usize) -> &[u8] {
+        &self.weights[i % self.weights.len()].0
+    }
+
+    /// The longest run that no count may pass: if the function is accepted, and the weights are the same at each feed.
+    fn longest(&self) -> Option<u64> {
+        let n = self.words.len();
+        let answer = run(&self.words, self.weights(0), &mut vec![0; n], &mut vec![0; n]);
+        (self.weights.len() == 1 && answer.number == 0).then_some(answer.longest)
     }
 }
 
-/// After a begin, every prefix of the list is a list: the side's meter against the book, answers too.
+fn call(side: &Side, words: &[u32], weights: &[u8], m: &mut Meter, c: Call) -> Answer {
+    match c {
+        Call::Begin => {
+            (side.begin)(m);
+            Answer::default()
+        }
+        Call::Feed(q) => (side.feed)(words, weights, m, q),
+    }
+}
+
+/// After a begin, every prefix of the list is a list: the side's meter against the book, answers and places too, and its
+/// count against L.
 pub fn compare_list(side: &Side, case: &Case) -> Result<(), String> {
     let mut m = case.start;
     (side.begin)(&mut m);
     let mut book = Book::new(&case.words, case.start.services);
+    let longest = case.longest();
     for (i, &c) in case.calls.iter().enumerate() {
-        let (got, want) = (call(side, &case.words, &mut m, c), book.call(c));
+        let (got, want) = (call(side, &case.words, case.weights(i), &mut m, c), book.call(case.weights(i), c));
         if got != want {
-            return Err(format!("call {i}, {c:?}: answer {got}, by the feeding book {want}"));
+            return Err(format!("call {i}, {c:?}: {got:?}, by the feeding book {want:?}"));
+        }
+        if longest.is_some_and(|l| u64::from(m.since) > l) {
+            return Err(format!("after call {i}, {c:?}: {m:?}, above L {longest:?}"));
         }
         // The book counts its course anew each time: on a list of thousands look at times only.
         if (i < 1_000 || i + 1 == case.calls.len() || i % 64 == 0) && m != book.meter() {
@@ -56,20 +82,20 @@ pub fn compare_list(side: &Side, case: &Case) -> Result<(), String> {
 /// One call on any meter, of this function or not, against the model.
 pub fn compare_single(side: &Side, case: &Case) -> Result<u64, String> {
     let (mut got, mut want) = (case.start, case.start);
-    for &c in &case.calls {
-        let number = call(side, &case.words, &mut got, c);
+    for (i, &c) in case.calls.iter().enumerate() {
+        let answer = call(side, &case.words, case.weights(i), &mut got, c);
         let wanted = match c {
             Call::Begin => {
                 begin(&mut want);
-                0
+                Answer::default()
             }
-            Call::Feed(q) => feed(&case.words, &mut want, q),
+            Call::Feed(q) => feed(&case.words, case.weights(i), &mut want, q),
         };
-        if number != wanted || got != want {
-            return Err(format!("{c:?} of {:?}: {number}, {got:?}; by document 01 {wanted}, {want:?}", case.start));
+        if answer != wanted || got != want {
+            return Err(format!("{c:?} of {:?}: {answer:?}, {got:?}; by the documents {wanted:?}, {want:?}", case.start));
         }
         if let Call::Feed(_) = c {
-            return Ok(u64::from(number));
+            return Ok(answer.number);
         }
     }
     Ok(0)
@@ -78,6 +104,14 @@ pub fn compare_single(side: &Side, case: &Case) -> Result<u64, String> {
 fn smaller(case: &Case) -> Vec<Case> {
     let mut all: Vec<Case> = shorter(&case.calls).into_iter().map(|calls| Case { calls, ..case.clone() }).collect();
     all.extend(smaller_words(&case.words).into_iter().map(|words| Case { words, ..case.clone() }));
+    all.extend((case.weights.len() > 1).then(|| Case { weights: case.weights[..1].to_vec(), ..case.clone() }));
+    for (i, table) in case.weights.iter().enumerate() {
+        all.extend(weights::smaller(table).into_iter().map(|table| {
+            let mut copy = case.clone();
+            copy.weights[i] = table;
+            copy
+        }));
+    }
     if case.start.services > 0 {
         let start = Meter { services: 0, ..case.start };
         all.push(Case { start, ..case.clone() });
@@ -97,6 +131,7 @@ fn hold(sides: &[Side], case: &Case, counts: &mut Counts) {
             std::process::exit(1);
         }
     }
+    counts.below += u64::from(case.longest().is_some());
     counts.feeds += case.calls.iter().filter(|&&c| c != Call::Begin).count() as u64;
     counts.lists += 1;
 }
@@ -128,12 +163,27 @@ fn calls(rng: &mut Rng, words: &[u32], many: usize) -> Vec<Call> {
     out
 }
 
-/// A meter of a function of n words, or at times any.
+/// The weights of a list: mostly the same at each feed, else several in turn, some of them turned away.
+fn tables(rng: &mut Rng) -> Vec<Weights> {
+    if !rng.once_in(4) {
+        return vec![weights::sound(rng)];
+    }
+    (0..2 + rng.below(3)).map(|_| weights::any(rng)).collect()
+}
+
+/// A meter of a function of n words, with a count at its limit or just above it among them, or at times any.
 fn any_meter(rng: &mut Rng, n: usize) -> Meter {
     if n > 0 && !rng.once_in(4) {
         let last = rng.below(n) as u32;
         let services = if rng.once_in(3) { u32::MAX - rng.below(2) as u32 } else { rng.next() as u32 };
-        return Meter { begun: true, last, since: 1 + rng.below(last as usize + 1) as u32, services };
+        let most = 255 * (last + 1);
+        let since = match rng.below(8) {
+            0 => most - rng.below(3) as u32,
+            1 => most + 1 + rng.below(2) as u32,
+            2 | 3 => 1 + rng.below(last as usize + 1) as u32,
+            _ => 1 + rng.below(most as usize) as u32,
+        };
+        return Meter { begun: true, last, since, services };
     }
     let near = |rng: &mut Rng| if rng.once_in(8) { rng.next() as u32 } else { rng.below(n + 3) as u32 };
     let (last, since) = (near(rng), near(rng));
@@ -146,16 +196,33 @@ fn single(sides: &[Side], rng: &mut Rng, words: Vec<u32>, counts: &mut Counts) {
     let list = steps(&words, start.last as usize);
     let q = if !list.list().is_empty() && !rng.once_in(3) { rng.pick(list.list()) } else { rng.below(words.len() + 3) };
     let calls = if rng.once_in(16) { vec![Call::Begin] } else { vec![Call::Feed(q)] };
-    let case = Case { words, start, calls };
+    let case = Case { words, weights: vec![weights::any(rng)], start, calls };
+    hold_single(sides, &case, counts);
+}
+
+fn hold_single(sides: &[Side], case: &Case, counts: &mut Counts) {
     let mut number = 0;
     for side in sides {
-        number = compare_single(side, &case).unwrap_or_else(|_| {
-            println!("MISMATCH of {}", report(side, &case, compare_single));
+        number = compare_single(side, case).unwrap_or_else(|_| {
+            println!("MISMATCH of {}", report(side, case, compare_single));
             std::process::exit(1);
         });
     }
     *counts.answers.entry(number).or_default() += 1;
     counts.singles += 1;
+}
+
+/// Each weight alone a zero and every count around 128, with meters that 11 or 10 would refuse among them.
+fn each_weight(sides: &[Side], rng: &mut Rng, counts: &mut Counts) {
+    let words = [0, gen::abc(71, 0, 0, 1, 0)];
+    let zeros = (0..128).map(|i| Weights((0..128).map(|j| u8::from(i != j)).collect()));
+    let miscounted = (0..260).map(|n| Weights(vec![255; n]));
+    for weights in zeros.chain(miscounted) {
+        for q in 0..3 {
+            let case = Case { words: words.to_vec(), weights: vec![weights.clone()], start: any_meter(rng, 2), calls: vec![Call::Feed(q)] };
+            hold_single(sides, &case, counts);
+        }
+    }
 }
 
 /// Everything, until `wanted` lists and as many single calls were compared.
@@ -169,17 +236,21 @@ pub fn all(sides: &[Side], seed: u64, wanted: u64) -> Counts {
     }
     let mut straight = vec![0; 32_768];
     straight[32_767] = gen::jump(-32_768);
-    let round = (0..70_000).map(|i| Call::Feed(i % 32_768)).collect();
+    let round: Vec<Call> = (0..70_000).map(|i| Call::Feed(i % 32_768)).collect();
     let start = Meter { services: u32::MAX - 1, ..Meter::default() };
-    hold(sides, &Case { words: straight, start, calls: round }, &mut counts);
+    for weights in [vec![weights::all(1)], vec![weights::all(255)], vec![weights::random(&mut rng), weights::all(255)]] {
+        hold(sides, &Case { words: straight.clone(), weights, start, calls: round.clone() }, &mut counts);
+    }
+    each_weight(sides, &mut rng, &mut counts);
     while counts.lists < wanted {
         let most = if rng.once_in(100) { 300 } else { 14 };
         let words = gen::function(&mut rng, most);
         let many = if rng.once_in(100) { 400 } else { rng.below(24) };
         let calls = calls(&mut rng, &words, many);
         let start = any_meter(&mut rng, words.len());
+        let weights = tables(&mut rng);
         single(sides, &mut rng, words.clone(), &mut counts);
-        hold(sides, &Case { words, start, calls }, &mut counts);
+        hold(sides, &Case { words, weights, start, calls }, &mut counts);
     }
     counts
 }
@@ -190,5 +261,5 @@ pub fn case(rng: &mut Rng) -> Case {
     let many = rng.below(24);
     let calls = calls(rng, &words, many);
     let start = any_meter(rng, words.len());
-    Case { words, start, calls }
+    Case { words, weights: tables(rng), start, calls }
 }

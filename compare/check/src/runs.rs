@@ -1,8 +1,9 @@
-//! Steps, serving steps and the longest run: the model, held to the definitions by brute force, against every side.
+//! Steps, serving steps and the longest run by weights: the model, held to the definitions by brute force, against every side.
 
 use crate::gen;
 use crate::rng::Rng;
-use crate::shrink::{shrink, words as smaller};
+use crate::shrink::{shrink, words as smaller_words};
+use crate::weights::{self, Weights};
 use model::run::{brute, run, RunAnswer};
 use sides::{model_side, Side};
 use std::collections::BTreeMap;
@@ -14,6 +15,17 @@ pub struct Counts {
     pub words: u64,
     pub edges: u64,
     pub answers: BTreeMap<u64, u64>,
+}
+
+/// Words and the weights lent with them.
+#[derive(Clone, Debug)]
+pub struct Function {
+    pub words: Vec<u32>,
+    pub weights: Weights,
+}
+
+fn function(words: &[u32], weights: &Weights) -> Function {
+    Function { words: words.to_vec(), weights: weights.clone() }
 }
 
 /// Slices that are longer than the words by these, or shorter if negative.
@@ -38,11 +50,12 @@ fn compare_steps(side: &Side, words: &[u32], p: usize) -> Result<u64, String> {
 }
 
 /// The run on one function with these slices.
-fn compare_run(side: &Side, words: &[u32], spare: Spare) -> Result<RunAnswer, String> {
+fn compare_run(side: &Side, f: &Function, spare: Spare) -> Result<RunAnswer, String> {
+    let (words, weights) = (&f.words, &f.weights.0);
     let (mut marks, mut lengths) = lent(words.len(), spare);
     let (mut own_marks, mut own_lengths) = lent(words.len(), spare);
-    let want = run(words, &mut own_marks, &mut own_lengths);
-    let got = (side.run)(words, &mut marks, &mut lengths);
+    let want = run(words, weights, &mut own_marks, &mut own_lengths);
+    let got = (side.run)(words, weights, &mut marks, &mut lengths);
     if got != want {
         return Err(format!("{got:?}, by document 01 {want:?}"));
     }
@@ -56,62 +69,69 @@ fn compare_run(side: &Side, words: &[u32], spare: Spare) -> Result<RunAnswer, St
 }
 
 /// The model's linear run against the definitions.
-fn compare_brute(words: &[u32]) -> Result<(), String> {
+fn compare_brute(f: &Function) -> Result<(), String> {
+    let (words, weights) = (&f.words, &f.weights.0);
     let (mut marks, mut lengths) = (vec![0; words.len()], vec![0; words.len()]);
-    let got = run(words, &mut marks, &mut lengths);
-    let want = brute(words);
+    let got = run(words, weights, &mut marks, &mut lengths);
+    let want = brute(words, weights);
     if (got, marks, lengths) != want {
         return Err(format!("{got:?}, by the definitions {want:?}"));
     }
     Ok(())
 }
 
-fn fail(side: &str, words: &[u32], test: impl Fn(&[u32]) -> Result<(), String>) -> ! {
-    println!("MISMATCH of {}", report(side, words, test));
+fn smaller(f: &Function) -> Vec<Function> {
+    let mut all: Vec<Function> = smaller_words(&f.words).into_iter().map(|words| Function { words, ..f.clone() }).collect();
+    all.extend(weights::smaller(&f.weights).into_iter().map(|weights| Function { weights, ..f.clone() }));
+    all
+}
+
+fn fail(side: &str, f: &Function, test: impl Fn(&Function) -> Result<(), String>) -> ! {
+    println!("MISMATCH of {}", report(side, f, test));
     std::process::exit(1);
 }
 
-pub fn report(side: &str, words: &[u32], test: impl Fn(&[u32]) -> Result<(), String>) -> String {
-    let small = shrink(words.to_vec(), |w| smaller(w), |w| test(w).is_err());
+pub fn report(side: &str, f: &Function, test: impl Fn(&Function) -> Result<(), String>) -> String {
+    let small = shrink(f.clone(), smaller, |f| test(f).is_err());
     format!("steps or runs, {side}: {}\n  smallest function: {small:?}", test(&small).unwrap_err())
 }
 
 /// Steps of every word and the run, for one side.
-pub fn compare(side: &Side, words: &[u32], spare: Spare) -> Result<(RunAnswer, u64), String> {
+pub fn compare(side: &Side, f: &Function, spare: Spare) -> Result<(RunAnswer, u64), String> {
     let mut edges = 0;
-    for p in 0..words.len() + 2 {
-        edges += compare_steps(side, words, p)?;
+    for p in 0..f.words.len() + 2 {
+        edges += compare_steps(side, &f.words, p)?;
     }
-    let answer = compare_run(side, words, spare)?;
+    let answer = compare_run(side, f, spare)?;
     Ok((answer, edges))
 }
 
-fn hold(sides: &[Side], words: &[u32], spare: Spare, counts: &mut Counts) {
+fn hold(sides: &[Side], f: &Function, spare: Spare, counts: &mut Counts) {
     let mut all = (RunAnswer::default(), 0);
     for side in sides {
-        all = compare(side, words, spare).unwrap_or_else(|_| fail(side.name, words, |w| compare(side, w, spare).map(|_| ())));
+        all = compare(side, f, spare).unwrap_or_else(|_| fail(side.name, f, |f| compare(side, f, spare).map(|_| ())));
     }
     *counts.answers.entry(all.0.number).or_default() += 1;
     counts.edges += all.1;
-    if words.len() <= 12 {
+    if f.words.len() <= 12 {
         counts.brute += 1;
-        if compare_brute(words).is_err() {
-            fail("the model's own run", words, compare_brute);
+        if compare_brute(f).is_err() {
+            fail("the model's own run", f, compare_brute);
         }
     }
     counts.functions += 1;
-    counts.words += words.len() as u64;
+    counts.words += f.words.len() as u64;
 }
 
 /// All pairs of opcodes, and all triples of those that matter to companions, before a return.
-fn neighbours(sides: &[Side], counts: &mut Counts) {
+fn neighbours(sides: &[Side], weights: &Weights, counts: &mut Counts) {
     let end = gen::abc(71, 0, 0, 1, 0);
     for first in 0..128 {
         for second in 0..128 {
             for k in 0..2 {
                 let pair = [gen::abc(first, 3, k, 1, 2), gen::abc(second, 1, k, 0, 0)];
-                hold(sides, &pair, (0, 0), counts);
-                hold(sides, &[pair[0], pair[1], end], (0, 0), counts);
+                hold(sides, &function(&pair, weights), (0, 0), counts);
+                hold(sides, &function(&[pair[0], pair[1], end], weights), (0, 0), counts);
             }
         }
     }
@@ -119,18 +139,18 @@ fn neighbours(sides: &[Side], counts: &mut Counts) {
     for &first in &telling {
         for &second in &telling {
             for &third in &telling {
-                hold(sides, &[first, second, third], (0, 0), counts);
-                hold(sides, &[first, second, third, end, end], (1, 1), counts);
+                hold(sides, &function(&[first, second, third], weights), (0, 0), counts);
+                hold(sides, &function(&[first, second, third, end, end], weights), (1, 1), counts);
             }
         }
     }
 }
 
 /// Word 0 of every boundary, with a landing place for short jumps.
-fn boundaries(sides: &[Side], counts: &mut Counts) {
+fn boundaries(sides: &[Side], weights: &Weights, counts: &mut Counts) {
     for word in gen::boundaries() {
         let end = gen::abc(71, 0, 0, 1, 0);
-        hold(sides, &[end, word, end, end], (0, 0), counts);
+        hold(sides, &function(&[end, word, end, end], weights), (0, 0), counts);
     }
 }
 
@@ -147,7 +167,9 @@ fn limits(sides: &[Side], rng: &mut Rng, counts: &mut Counts) {
             let mut cut = gen::whole(rng, n.max(1));
             cut.resize(n, gen::abc(71, 0, 0, 1, 0));
             for words in [straight, back, mixed, cut] {
-                hold(sides, &words, spare, counts);
+                for weights in [weights::all(255), weights::any(rng), weights::zeros(rng, 2), weights::miscounted(rng)] {
+                    hold(sides, &function(&words, &weights), spare, counts);
+                }
             }
         }
     }
@@ -157,9 +179,32 @@ fn limits(sides: &[Side], rng: &mut Rng, counts: &mut Counts) {
         words[0] = gen::abx(74, 0, n as u32 - 3);
         words[n - 2] = gen::abx(73, 0, n as u32 - 2);
         words[n - 1] = gen::abc(71, 0, 0, 1, 0);
-        hold(sides, &words, (0, 0), counts);
+        hold(sides, &function(&words, &weights::distinct()), (0, 0), counts);
         words[0] = gen::jump(n as i64 - 2);
-        hold(sides, &words, (0, 0), counts);
+        hold(sides, &function(&words, &weights::distinct()), (0, 0), counts);
+    }
+}
+
+/// Each weight alone a zero, and every count around 128; each weight alone another than the rest, for each opcode value.
+fn each_weight(sides: &[Side], counts: &mut Counts) {
+    let end = gen::abc(71, 0, 0, 1, 0);
+    for i in 0..128 {
+        let words = [0, gen::abc(i as u32, 3, 0, 1, 2), end, end];
+        for weight in [0, 1, 2, 255] {
+            let mut weights = weights::all(7);
+            weights.0[i] = weight;
+            hold(sides, &function(&words, &weights), (0, 0), counts);
+            hold(sides, &function(&words[1..], &weights), (0, 0), counts);
+            hold(sides, &function(&[], &weights), (0, 0), counts);
+        }
+    }
+    for n in 0..260 {
+        for weight in [0, 1, 255] {
+            let weights = Weights(vec![weight; n]);
+            hold(sides, &function(&[end], &weights), (0, 0), counts);
+            hold(sides, &function(&[end], &weights), (0, -1), counts);
+            hold(sides, &function(&[], &weights), (0, 0), counts);
+        }
     }
 }
 
@@ -167,14 +212,19 @@ fn limits(sides: &[Side], rng: &mut Rng, counts: &mut Counts) {
 pub fn all(sides: &[Side], seed: u64, wanted: u64) -> Counts {
     let mut counts = Counts::default();
     let mut rng = Rng::new(seed);
-    neighbours(sides, &mut counts);
-    boundaries(sides, &mut counts);
+    for weights in [weights::all(1), weights::distinct()] {
+        neighbours(sides, &weights, &mut counts);
+        boundaries(sides, &weights, &mut counts);
+    }
+    each_weight(sides, &mut counts);
     limits(sides, &mut rng, &mut counts);
     for (name, input) in model::real::functions() {
-        hold(sides, &input.words, (0, 0), &mut counts);
         let n = input.words.len();
-        let answer = run(&input.words, &mut vec![0; n], &mut vec![0; n]);
-        assert_eq!(answer.number, 0, "{name}, which luac made, is accepted");
+        for weights in [weights::all(1), weights::all(255), weights::distinct(), weights::random(&mut rng)] {
+            hold(sides, &function(&input.words, &weights), (0, 0), &mut counts);
+            let answer = run(&input.words, &weights.0, &mut vec![0; n], &mut vec![0; n]);
+            assert_eq!(answer.number, 0, "{name}, which luac made, is accepted");
+        }
     }
     let until = counts.functions + wanted;
     while counts.functions < until {
@@ -186,7 +236,8 @@ pub fn all(sides: &[Side], seed: u64, wanted: u64) -> Counts {
         };
         let words = gen::function(&mut rng, most);
         let spare = if rng.once_in(8) { (rng.below(4) as isize - 1, rng.below(4) as isize - 1) } else { (0, 0) };
-        hold(sides, &words, spare, &mut counts);
+        let weights = weights::any(&mut rng);
+        hold(sides, &Function { words, weights }, spare, &mut counts);
     }
     counts
 }

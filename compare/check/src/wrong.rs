@@ -1,7 +1,7 @@
-//! Wrong on purpose: records, a step, a run and a feed that are each a little off must be caught, or the comparison is blind.
+//! Wrong on purpose: records, a step, runs and feeds that are each a little off must be caught, or the comparison is blind.
 
 use crate::rng::Rng;
-use crate::{gen, meters, records, runs};
+use crate::{gen, meters, records, runs, weights};
 use model::flat::Record;
 use model::input::Input;
 use model::Answer;
@@ -9,7 +9,7 @@ use sides::{ffi::twin, Side, Successors};
 
 /// Every wrong side with the report that caught it; panics if one was not caught.
 pub fn all(seed: u64) -> Vec<String> {
-    vec![record(seed), past(seed), room(seed), step(seed), stretch(seed), service(seed)]
+    vec![record(seed), past(seed), room(seed), step(seed), stretch(seed), table(seed), taken_along(seed), service(seed), first(seed), zero(seed)]
 }
 
 fn lift(input: &Input, out: &mut [Record]) -> Answer {
@@ -96,8 +96,8 @@ fn stretch(seed: u64) -> String {
     // A run that ends one word late where a serving step leads on.
     let side = Side {
         name: "wrong run",
-        run: |words, marks, lengths| {
-            let mut answer = (twin::side().run)(words, marks, lengths);
+        run: |words, weights, marks, lengths| {
+            let mut answer = (twin::side().run)(words, weights, marks, lengths);
             if answer.number == 0 && answer.longest > 3 {
                 answer.first += 1;
             }
@@ -108,12 +108,39 @@ fn stretch(seed: u64) -> String {
     by_runs(seed, &side)
 }
 
+fn table(seed: u64) -> String {
+    // A longer table of weights is taken for its first 128.
+    let side = Side {
+        name: "wrong count of weights",
+        run: |words, weights, marks, lengths| (twin::side().run)(words, &weights[..weights.len().min(128)], marks, lengths),
+        ..twin::side()
+    };
+    by_runs(seed, &side)
+}
+
+fn taken_along(seed: u64) -> String {
+    // A JMP, which a test takes along, weighs 1.
+    let side = Side {
+        name: "wrong weight",
+        run: |words, weights, marks, lengths| {
+            let mut copy = weights.to_vec();
+            if copy.len() == 128 && copy[56] != 0 {
+                copy[56] = 1;
+            }
+            (twin::side().run)(words, &copy, marks, lengths)
+        },
+        ..twin::side()
+    };
+    by_runs(seed, &side)
+}
+
 fn by_runs(seed: u64, side: &Side) -> String {
     let mut rng = Rng::new(seed);
     for _ in 0..1_000_000 {
         let words = gen::function(&mut rng, 24);
-        if runs::compare(side, &words, (0, 0)).is_err() {
-            return runs::report(side.name, &words, |w| runs::compare(side, w, (0, 0)).map(|_| ()));
+        let function = runs::Function { words, weights: weights::any(&mut rng) };
+        if runs::compare(side, &function, (0, 0)).is_err() {
+            return runs::report(side.name, &function, |f| runs::compare(side, f, (0, 0)).map(|_| ()));
         }
     }
     panic!("{} was not caught", side.name);
@@ -123,22 +150,54 @@ fn service(seed: u64) -> String {
     // Services wrap at the top.
     let side = Side {
         name: "wrong feed",
-        feed: |words, m, q| {
+        feed: |words, weights, m, q| {
             let before = *m;
-            let number = (twin::side().feed)(words, m, q);
-            if number == 0 && before.begun && m.since == 1 && before.services == u32::MAX {
+            let answer = (twin::side().feed)(words, weights, m, q);
+            if answer.number == 0 && before.begun && q <= before.last as usize && before.services == u32::MAX {
                 m.services = 0;
             }
-            number
+            answer
         },
         ..twin::side()
     };
+    by_lists(seed, &side)
+}
+
+fn first(seed: u64) -> String {
+    // The first word fed makes the count 1.
+    let side = Side {
+        name: "wrong first word",
+        feed: |words, weights, m, q| {
+            let begun = m.begun;
+            let answer = (twin::side().feed)(words, weights, m, q);
+            if answer.number == 0 && !begun {
+                m.since = 1;
+            }
+            answer
+        },
+        ..twin::side()
+    };
+    by_lists(seed, &side)
+}
+
+fn zero(seed: u64) -> String {
+    // A feed drops the place of the zero weight.
+    let side = Side {
+        name: "wrong place",
+        feed: |words, weights, m, q| Answer { place: 0, ..(twin::side().feed)(words, weights, m, q) },
+        ..twin::side()
+    };
+    by_lists(seed, &side)
+}
+
+/// A wrong feed is tried on random lists of calls.
+fn by_lists(seed: u64, side: &Side) -> String {
     let mut rng = Rng::new(seed);
     for _ in 0..1_000_000 {
         let case = meters::case(&mut rng);
-        if meters::compare_list(&side, &case).is_err() {
-            return meters::report(&side, &case, meters::compare_list);
+        if meters::compare_list(side, &case).is_err() {
+            return meters::report(side, &case, meters::compare_list);
         }
     }
-    panic!("a wrong feed was not caught");
+    panic!("{} was not caught", side.name);
 }

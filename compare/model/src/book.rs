@@ -1,7 +1,12 @@
 //! The feeding book: what a meter must show after a list of calls.
+//!
+//! Request C-17: "a meter compared with a run or with the book is lent the same weights at each feed". Where a list changes them
+//! the book holds what include/lawendeb.h promises then: each word weighs by the weights of its own feed.
 
 use crate::meter::Meter;
 use crate::steps::{is_step, serves};
+use crate::weights::{self, weight};
+use crate::Answer;
 
 #[derive(Clone, Copy, Debug, PartialEq, Eq)]
 pub enum Call {
@@ -14,32 +19,40 @@ pub struct Book<'a> {
     /// Services held at the start.
     start: u32,
     course: Vec<usize>,
+    /// What each word of the course weighed when it was written.
+    weighed: Vec<u32>,
     tally: u64,
 }
 
 impl<'a> Book<'a> {
     pub fn new(words: &'a [u32], start: u32) -> Self {
-        Book { words, start, course: vec![], tally: 0 }
+        Book { words, start, course: vec![], weighed: vec![], tally: 0 }
     }
 
-    /// The call's answer.
-    pub fn call(&mut self, call: Call) -> u32 {
+    /// The call's answer. A feed whose weights are turned away writes nothing.
+    pub fn call(&mut self, weights: &[u8], call: Call) -> Answer {
+        let answer = |number, place| Answer { number, place };
         let Call::Feed(q) = call else {
             self.course.clear();
-            return 0;
+            self.weighed.clear();
+            return answer(0, 0);
         };
+        if let Some(place) = weights::refused(weights) {
+            return answer(18, place as u64);
+        }
         let written = match self.course.last() {
             None => q == 0 && !self.words.is_empty(),
             Some(&p) => is_step(self.words, p, q),
         };
         if !written {
-            return 10;
+            return answer(10, 0);
         }
         if let Some(&p) = self.course.last() {
             self.tally += u64::from(serves(p, q));
         }
         self.course.push(q);
-        0
+        self.weighed.push(weight(self.words, weights, q));
+        answer(0, 0)
     }
 
     /// The meter after the list.
@@ -53,7 +66,7 @@ impl<'a> Book<'a> {
         Meter {
             begun: !self.course.is_empty(),
             last: self.course.last().map_or(0, |&q| q as u32),
-            since: (self.course.len() - from) as u32,
+            since: self.weighed[from..].iter().sum(),
             services: (u64::from(self.start) + self.tally).min(4_294_967_295) as u32,
         }
     }

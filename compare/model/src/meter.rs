@@ -1,14 +1,15 @@
 //! The meter: begin and feed.
 
 use crate::steps::{is_step, serves};
-use crate::WORDS;
+use crate::weights::{self, weight};
+use crate::{Answer, WORDS};
 
 #[repr(C)]
 #[derive(Clone, Copy, Debug, PartialEq, Eq, Default)]
 pub struct Meter {
     pub begun: bool,
     pub last: u32,
-    /// Words since service.
+    /// The weight of the words since service.
     pub since: u32,
     pub services: u32,
 }
@@ -17,33 +18,38 @@ pub fn begin(m: &mut Meter) {
     *m = Meter { services: m.services, ..Meter::default() };
 }
 
-/// The refusal's number, 0 when accepted.
-pub fn feed(words: &[u32], m: &mut Meter, q: usize) -> u32 {
+/// Request C-17: 18 is checked after 1, and "Number 11 now means a count above 255 times (last + 1), with its other conditions
+/// kept".
+pub fn feed(words: &[u32], weights: &[u8], m: &mut Meter, q: usize) -> Answer {
+    let answer = |number, place| Answer { number, place };
     let n = words.len();
     if n > WORDS {
-        return 1;
+        return answer(1, 0);
+    }
+    if let Some(place) = weights::refused(weights) {
+        return answer(18, place as u64);
     }
     let (last, since) = (m.last as usize, m.since as usize);
-    let foreign = if m.begun { last >= n || since == 0 || since > last + 1 } else { last != 0 || since != 0 };
+    let foreign = if m.begun { last >= n || since == 0 || since > 255 * (last + 1) } else { last != 0 || since != 0 };
     if foreign {
-        return 11;
+        return answer(11, 0);
     }
     if !m.begun {
         if q != 0 || n == 0 {
-            return 10;
+            return answer(10, 0);
         }
-        *m = Meter { begun: true, last: 0, since: 1, services: m.services };
-        return 0;
+        *m = Meter { begun: true, last: 0, since: weight(words, weights, 0), services: m.services };
+        return answer(0, 0);
     }
     if q >= n || !is_step(words, last, q) {
-        return 10;
+        return answer(10, 0);
     }
     if serves(last, q) {
-        m.since = 1;
+        m.since = weight(words, weights, q);
         m.services = m.services.saturating_add(1);
     } else {
-        m.since += 1;
+        m.since += weight(words, weights, q);
     }
     m.last = q as u32;
-    0
+    answer(0, 0)
 }

@@ -1,6 +1,7 @@
 //! The longest run: the linear form, and the definition itself by brute force.
 
 use crate::steps::{serves, steps};
+use crate::weights::{self, weight};
 use crate::WORDS;
 
 /// Number and place of the refusal, L and its first word.
@@ -17,14 +18,18 @@ fn refused(number: u64, place: usize) -> RunAnswer {
     RunAnswer { number, place: place as u64, ..RunAnswer::default() }
 }
 
-/// The run with its two lent work slices.
-pub fn run(words: &[u32], marks: &mut [u8], lengths: &mut [u32]) -> RunAnswer {
+/// The run with its two lent work slices. Request C-17: "The work slice, L and the meter's count become sums of weights"; 18 is
+/// "checked after 6".
+pub fn run(words: &[u32], weights: &[u8], marks: &mut [u8], lengths: &mut [u32]) -> RunAnswer {
     let n = words.len();
     if n > WORDS {
         return refused(1, 0);
     }
     if marks.len() < n || lengths.len() < n {
         return refused(6, 0);
+    }
+    if let Some(place) = weights::refused(weights) {
+        return refused(18, place);
     }
     if n == 0 {
         return refused(7, 0);
@@ -46,18 +51,23 @@ pub fn run(words: &[u32], marks: &mut [u8], lengths: &mut [u32]) -> RunAnswer {
     }
     for p in (0..n).rev().filter(|&p| marks[p] == 1) {
         let on = steps(words, p).list().iter().filter(|&&q| !serves(p, q)).map(|&q| lengths[q]).max();
-        lengths[p] = 1 + on.unwrap_or(0);
+        lengths[p] = weight(words, weights, p) + on.unwrap_or(0);
     }
     let longest = lengths[..n].iter().copied().max().unwrap_or(0);
     let first = lengths[..n].iter().position(|&l| l == longest).unwrap_or(0);
     RunAnswer { number: 0, place: 0, longest: u64::from(longest), first: first as u64 }
 }
 
-/// The same by the definitions, for functions of a few words: reachable by closing the relation n times, the most words
+/// The same by the definitions, for functions of a few words: reachable by closing the relation n times, the most weight
 /// of a stretch by walking every one. Nothing is remembered between walks.
-pub fn brute(words: &[u32]) -> (RunAnswer, Vec<u8>, Vec<u32>) {
+pub fn brute(words: &[u32], weights: &[u8]) -> (RunAnswer, Vec<u8>, Vec<u32>) {
     let n = words.len();
     let mut marks = vec![0u8; n];
+    let zeros = (0..weights.len()).filter(|&i| weights[i] == 0);
+    if weights.len() != 128 || weights.contains(&0) {
+        let place = if weights.len() == 128 { zeros.min().unwrap() } else { 0 };
+        return (refused(18, place), marks, vec![0; n]);
+    }
     if n == 0 {
         return (refused(7, 0), marks, vec![]);
     }
@@ -75,18 +85,19 @@ pub fn brute(words: &[u32]) -> (RunAnswer, Vec<u8>, Vec<u32>) {
     if let Some(p) = bad {
         return (refused(8, p), marks, vec![0; n]);
     }
-    let most: Vec<u32> = (0..n).map(|p| if marks[p] == 1 { walk(words, p) } else { 0 }).collect();
+    let most: Vec<u32> = (0..n).map(|p| if marks[p] == 1 { walk(words, weights, p) } else { 0 }).collect();
     let longest = *most.iter().max().unwrap();
     let first = (0..n).filter(|&p| most[p] == longest).min().unwrap();
     (RunAnswer { number: 0, place: 0, longest: u64::from(longest), first: first as u64 }, marks, most)
 }
 
-/// The most words of any walk from p along steps that do not serve.
-fn walk(words: &[u32], p: usize) -> u32 {
-    let mut most = 1;
+/// The most weight of any walk from p along steps that do not serve: "A stretch beginning at a word weighs that word too."
+fn walk(words: &[u32], weights: &[u8], p: usize) -> u32 {
+    let own = u32::from(weights[(words[p] & 127) as usize]);
+    let mut most = own;
     for &q in steps(words, p).list() {
         if !serves(p, q) {
-            most = most.max(1 + walk(words, q));
+            most = most.max(own + walk(words, weights, q));
         }
     }
     most

@@ -52,13 +52,15 @@ pub mod twin {
         fn twin_longest_run(
             words: *const u32,
             n: usize,
+            weights: *const u8,
+            weights_n: usize,
             marks: *mut u8,
             marks_n: usize,
             lengths: *mut u32,
             lengths_n: usize,
         ) -> RunAnswer;
         fn twin_begin(m: *mut LentMeter);
-        fn twin_feed(words: *const u32, n: usize, m: *mut LentMeter, q: usize) -> u32;
+        fn twin_feed(words: *const u32, n: usize, weights: *const u8, weights_n: usize, m: *mut LentMeter, q: usize) -> Answer;
         fn twin_lift(
             words: *const u32,
             n: usize,
@@ -79,13 +81,16 @@ pub mod twin {
         Side {
             name: "C twin",
             successors: |w, p| unsafe { twin_successors(w.as_ptr(), w.len(), p) }.into(),
-            run: |w, m, l| unsafe { twin_longest_run(w.as_ptr(), w.len(), m.as_mut_ptr(), m.len(), l.as_mut_ptr(), l.len()) },
+            run: |w, t, m, l| unsafe {
+                twin_longest_run(w.as_ptr(), w.len(), t.as_ptr(), t.len(), m.as_mut_ptr(), m.len(), l.as_mut_ptr(), l.len())
+            },
             begin: |m| lend(m, |m| unsafe { twin_begin(m) }),
-            feed: |w, m, q| lend(m, |m| unsafe { twin_feed(w.as_ptr(), w.len(), m, q) }),
-            feed_all: |w, m, list| {
+            feed: |w, t, m, q| lend(m, |m| unsafe { twin_feed(w.as_ptr(), w.len(), t.as_ptr(), t.len(), m, q) }),
+            feed_all: |w, t, m, list| {
                 lend(m, |m| unsafe {
                     twin_begin(m);
-                    list.iter().map(|&q| u64::from(twin_feed(w.as_ptr(), w.len(), m, q as usize) != 0)).sum()
+                    let refused = |&q: &u32| twin_feed(w.as_ptr(), w.len(), t.as_ptr(), t.len(), m, q as usize).number != 0;
+                    list.iter().map(refused).map(u64::from).sum()
                 })
             },
             lift: Some(|i: &Input, records| unsafe {
@@ -114,29 +119,34 @@ pub mod rattle {
 
     extern "C" {
         fn lawendeb_successors(words: *const u32, n: usize, p: usize) -> FlatSuccessors;
-        fn lawendeb_longest_run_2(
+        fn lawendeb_longest_run_3(
             words: *const u32,
             n: usize,
+            weights: *const u8,
+            weights_n: usize,
             marks: *mut u8,
             marks_n: usize,
             lengths: *mut u32,
             lengths_n: usize,
         ) -> RunAnswer;
         fn lawendeb_begin(m: *mut LentMeter);
-        fn lawendeb_feed_2(words: *const u32, n: usize, m: *mut LentMeter, q: usize) -> u32;
+        fn lawendeb_feed_3(words: *const u32, n: usize, weights: *const u8, weights_n: usize, m: *mut LentMeter, q: usize) -> Answer;
     }
 
     pub fn side() -> Side {
         Side {
             name: "Rattle",
             successors: |w, p| unsafe { lawendeb_successors(w.as_ptr(), w.len(), p) }.into(),
-            run: |w, m, l| unsafe { lawendeb_longest_run_2(w.as_ptr(), w.len(), m.as_mut_ptr(), m.len(), l.as_mut_ptr(), l.len()) },
+            run: |w, t, m, l| unsafe {
+                lawendeb_longest_run_3(w.as_ptr(), w.len(), t.as_ptr(), t.len(), m.as_mut_ptr(), m.len(), l.as_mut_ptr(), l.len())
+            },
             begin: |m| lend(m, |m| unsafe { lawendeb_begin(m) }),
-            feed: |w, m, q| lend(m, |m| unsafe { lawendeb_feed_2(w.as_ptr(), w.len(), m, q) }),
-            feed_all: |w, m, list| {
+            feed: |w, t, m, q| lend(m, |m| unsafe { lawendeb_feed_3(w.as_ptr(), w.len(), t.as_ptr(), t.len(), m, q) }),
+            feed_all: |w, t, m, list| {
                 lend(m, |m| unsafe {
                     lawendeb_begin(m);
-                    list.iter().map(|&q| u64::from(lawendeb_feed_2(w.as_ptr(), w.len(), m, q as usize) != 0)).sum()
+                    let refused = |&q: &u32| lawendeb_feed_3(w.as_ptr(), w.len(), t.as_ptr(), t.len(), m, q as usize).number != 0;
+                    list.iter().map(refused).map(u64::from).sum()
                 })
             },
             lift: Some(records::lift),

@@ -18,11 +18,13 @@ pub struct Successors {
 pub struct Side {
     pub name: &'static str,
     pub successors: fn(&[u32], usize) -> Successors,
-    pub run: fn(&[u32], &mut [u8], &mut [u32]) -> RunAnswer,
+    /// Words, weights, marks, lengths.
+    pub run: fn(&[u32], &[u8], &mut [u8], &mut [u32]) -> RunAnswer,
     pub begin: fn(&mut Meter),
-    pub feed: fn(&[u32], &mut Meter, usize) -> u32,
+    /// Words, weights, meter, word number.
+    pub feed: fn(&[u32], &[u8], &mut Meter, usize) -> Answer,
     /// A begin and a feed of each word of the list; how many were refused.
-    pub feed_all: fn(&[u32], &mut Meter, &[u32]) -> u64,
+    pub feed_all: fn(&[u32], &[u8], &mut Meter, &[u32]) -> u64,
     /// The answer, and on 0 a record for each word; `input.records` and `input.spare` say what is lent.
     pub lift: Option<fn(&Input, &mut [Record]) -> Answer>,
 }
@@ -43,9 +45,9 @@ pub fn model_side() -> Side {
         run: model::run::run,
         begin: model::meter::begin,
         feed: model::meter::feed,
-        feed_all: |words, m, list| {
+        feed_all: |words, weights, m, list| {
             model::meter::begin(m);
-            list.iter().map(|&q| u64::from(model::meter::feed(words, m, q as usize) != 0)).sum()
+            list.iter().map(|&q| u64::from(model::meter::feed(words, weights, m, q as usize).number != 0)).sum()
         },
         lift: None,
     }

@@ -7,6 +7,7 @@ use Rattle.runs.specs.Successors.{opcodeAt, isBetween, companionPresent, succes
 use Rattle.graph.specs.Marks.{leads, markOf}
 use Rattle.common.specs.Lowest.{lowestFrom}
 use Rattle.graph.specs.Longest.{within, heaviest, lengthOf, most, longest, first}
+use Rattle.runs.specs.Weights.{lowestZero, refusesWeights}
 use Rattle.runs.specs.Run.{lowestInvalid, runOf}
 use Rattle.values.specs.Values.{choose, constantOf}
 use Rattle.families.specs.Parts.{plus, eventOf, constant, arguments, results}
@@ -14,6 +15,6 @@ use Rattle.records.specs.Lift.{extendedIndex, wrap, loads, arithmetic, control,
 use Rattle.cases.specs.Cases.{Hold, cases}
 
 pub cases-hold : Hold cases
-unfolding unless one ordered two opcodeAt isBetween companionPresent successorsOf servesOf classOf companionOf fallbackOf leads markOf within heaviest lengthOf most lowestFrom longest first lowestInvalid runOf choose constantOf plus eventOf constant arguments results extendedIndex wrap loads arithmetic control calls bodyOf before companionPc confidenceOf liftOf
+unfolding unless one ordered two opcodeAt isBetween companionPresent successorsOf servesOf classOf companionOf fallbackOf leads markOf within heaviest lengthOf most lowestFrom longest first lowestZero refusesWeights lowestInvalid runOf choose constantOf plus eventOf constant arguments results extendedIndex wrap loads arithmetic control calls bodyOf before companionPc confidenceOf liftOf
 cases-hold =
-    ((refl, refl, refl), (refl, (refl, (refl, (refl, ((refl, refl), ((refl, refl), ((refl, refl), ((refl, refl), (refl, (refl, (refl, (refl, (refl, (refl, (refl, (refl, (refl, (refl, (refl, (refl, (refl, (refl, tt)))))))))))))))))))))))
+    ((refl, refl, refl), (refl, (refl, (refl, (refl, ((refl, refl), ((refl, refl), ((refl, refl), ((refl, refl), (refl, (refl, (refl, (refl, (refl, (refl, (refl, (refl, (refl, (refl, (refl, (refl, (refl, (refl, (refl, tt))))))))))))))))))))))))

@@ -5,7 +5,7 @@ use mathlib.Core.Path.{_≡_}
 use mathlib.Core.Bool.{Bool, true}
 use mathlib.Core.List.{List, [], _∷_}
 use lib.IntN.{ℤ, pos}
-use lib.ListN.{length}
+use lib.ListN.{length, replicate}
 use Rattle.fields.specs.Opcodes.{«OP_MOVE», «OP_LOADI», «OP_FORLOOP»}
 use Rattle.fields.specs.Events.{«TM_ADD»}
 use Rattle.fields.specs.Word.{opcodeOf, aOf, sbxOf}
@@ -15,6 +15,8 @@ use Rattle.runs.specs.declared.longest.Run.the-variants.{Accepted}
 use Rattle.runs.specs.Steps.{servesOf}
 use Rattle.runs.specs.Successors.{successorsOf}
 use Rattle.runs.specs.Run.{runOf}
+use Rattle.runs.specs.Weights.{weightCount, heaviestWeight}
+use Rattle.runs.specs.Counted.{ones}
 use Rattle.values.specs.declared.ir.TypedOperand.{TypedOperand}
 use Rattle.values.specs.declared.ir.TypedOperand.the-variants as O
 use Rattle.values.specs.declared.ir.EffectTarget.{EffectTarget}
@@ -40,8 +42,10 @@ pub data Case : Type 0 where
   steps : List ℕ → ℕ → Successors → Case
   -- a step from the one word to the other serves or not
   serving : ℕ → ℕ → Bool → Case
-  -- these words have this L and this first word
+  -- these words have this L and this first word, with all weights 1
   run : List ℕ → ℕ → ℕ → Case
+  -- .. with these weights
+  weighed : List ℕ → List ℕ → ℕ → ℕ → Case
   -- of these words, the record of this number has this jump target
   jumps : List ℕ → ℕ → OptionalPc → Case
   -- .. these reads and these writes
@@ -63,7 +67,8 @@ abbrev pub HoldsOf : Case → Type 0
 HoldsOf (fields word opcode a sbx) = (opcodeOf word ≡ opcode) × (aOf word ≡ a) × (sbxOf word ≡ sbx)
 HoldsOf (steps words p s) = successorsOf words p ≡ s
 HoldsOf (serving p q t) = servesOf p q ≡ t
-HoldsOf (run words longest first) = runOf words (length words) (length words) ≡ Accepted longest first
+HoldsOf (run words longest first) = runOf words ones (length words) (length words) ≡ Accepted longest first
+HoldsOf (weighed words weights longest first) = runOf words weights (length words) (length words) ≡ Accepted longest first
 HoldsOf (jumps words pc target) = recordAt words pc .«jump_target» ≡ target
 HoldsOf (touches words pc reads writes) =
     (recordAt words pc .reads ≡ readsOf reads) × (recordAt words pc .writes ≡ writesOf writes)
@@ -114,6 +119,8 @@ cases =
     ∷ serving 0 0 true
     -- "the sheet above: L 4, first 0", and the steps that its listing shows
     ∷ run sheet 4 0
+    -- request C-17: the same words, where each weighs 255
+    ∷ weighed sheet (replicate weightCount heaviestWeight) 1020 0
     ∷ steps sheet 0 (One 1)
     ∷ steps sheet 1 (Two 2 3)
     ∷ steps sheet 2 (One 3)

@@ -53,3 +53,7 @@ abbrev pub «MALFORMED_LINE» : ℕ
 -- "line 4,097 exists"
 abbrev pub «TOO_MANY_LINES» : ℕ
 «TOO_MANY_LINES» = 13
+
+-- request C-17: "a weight count other than 128, or a weight of 0"
+abbrev pub «WEIGHTS_REFUSED» : ℕ
+«WEIGHTS_REFUSED» = 18

@@ -37,3 +37,6 @@ pub const MALFORMED_LINE: u8 = 12;
 
 // Line 4,097 exists.
 pub const TOO_MANY_LINES: u8 = 13;
+
+// Request C-17: a weight count other than 128, or a weight of 0.
+pub const WEIGHTS_REFUSED: u8 = 18;

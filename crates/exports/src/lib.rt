@@ -80,14 +80,15 @@ pub extern "C" fn lawendeb_successors(words: &[u32], p: usize) -> FlatSuccessors
 }
 
 #[no_mangle]
-pub extern "C" fn lawendeb_longest_run_2(
+pub extern "C" fn lawendeb_longest_run_3(
     words: &[u32],
+    weights: &[u8],
     marks: &mut [u8],
     lengths: &mut [u32],
 ) -> FlatRun
-    ensures { λ r. ⌜ r ≡ flatRun (runOf (now (words .entry)) (length (now (marks .entry))) (length (now (lengths .entry)))) ⌝ }
-    ensures { λ _. ⌜ now (marks .exit) ≡ marksAfter (now (words .entry)) (now (marks .entry)) (now (lengths .entry)) ⌝ }
-    ensures { λ _. ⌜ now (lengths .exit) ≡ lengthsAfter (now (words .entry)) (now (marks .entry)) (now (lengths .entry)) ⌝ }
+    ensures { λ r. ⌜ r ≡ flatRun (runOf (now (words .entry)) (now (weights .entry)) (length (now (marks .entry))) (length (now (lengths .entry)))) ⌝ }
+    ensures { λ _. ⌜ now (marks .exit) ≡ marksAfter (now (words .entry)) (now (weights .entry)) (now (marks .entry)) (now (lengths .entry)) ⌝ }
+    ensures { λ _. ⌜ now (lengths .exit) ≡ lengthsAfter (now (words .entry)) (now (weights .entry)) (now (marks .entry)) (now (lengths .entry)) ⌝ }
 {
-    flat_run(runs::longest_run(words, marks, lengths))
+    flat_run(runs::longest_run(words, weights, marks, lengths))
 }

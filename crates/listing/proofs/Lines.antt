@@ -11,6 +11,7 @@ use Rattle.common.proofs.Put.{put-laws}
 use Rattle.runs.specs.declared.longest.Run.{Run}
 use Rattle.runs.specs.declared.longest.Run.the-variants.{Accepted, Refused}
 use Rattle.runs.specs.Run.{runOf}
+use Rattle.runs.specs.Counted.{ones}
 use Rattle.sheet.specs.declared.reading.Sheet.{Sheet}
 use Rattle.sheet.specs.declared.reading.Sheet.the-variants.{Words, Malformed, TooLong}
 use Rattle.sheet.specs.Format.{sheetOf, wordsOf, numberOf, placeOf}
@@ -43,7 +44,7 @@ length-tell words (Refused number place) = omega (arith, laws .pair number place
 
 pub length-run : (words : List ℕ) → length (runText words) ≤ 31 * length words + 13
 unfolding runText
-length-run words = length-tell words (runOf words (length words) (length words))
+length-run words = length-tell words (runOf words ones (length words) (length words))
 
 -- ---- the lines put one after another
 
@@ -68,19 +69,19 @@ module _ (words lengths l o o′ : List ℕ) where
 -- ---- what is said
 
 module _ (words : List ℕ) where
-  told : (run : Run) → runOf words (length words) (length words) ≡ run → runText words ≡ tell words run
+  told : (run : Run) → runOf words ones (length words) (length words) ≡ run → runText words ≡ tell words run
   unfolding runText
   told run e = rw e
 
   pub accepted-text : (part page out : List ℕ) (r longest first : ℕ) → part ≡ lengthsOf words
-      → runOf words (length words) (length words) ≡ Accepted longest first → r ≡ 31 * length words + 13
+      → runOf words ones (length words) (length words) ≡ Accepted longest first → r ≡ 31 * length words + 13
       → out ≡ put page 0 (listingOf words part longest first)
       → (r ≡ length (runText words)) × (out ≡ put page 0 (runText words))
   accepted-text part page out r longest first p e k o =
       rw (told (Accepted longest first) e) (k ∙ sym (length-listing words (lengthsOf words) longest first), o ∙ rw p)
 
   pub refused-text : (page out : List ℕ) (r number place : ℕ)
-      → runOf words (length words) (length words) ≡ Refused number place → r ≡ 13
+      → runOf words ones (length words) (length words) ≡ Refused number place → r ≡ 13
       → out ≡ put page 0 (refusalLineOf number place) → (r ≡ length (runText words)) × (out ≡ put page 0 (runText words))
   refused-text page out r number place e k o =
       rw (told (Refused number place) e) (k ∙ sym (laws .pair number place), o)

@@ -11,6 +11,7 @@ use Rattle.runs.specs.Successors.{successorsOf}
 use Rattle.runs.specs.declared.longest.Run.{Run}
 use Rattle.runs.specs.declared.longest.Run.the-variants.{Accepted, Refused}
 use Rattle.runs.specs.Run.{runOf, lengthsAfter}
+use Rattle.runs.specs.Counted.{ones}
 use Rattle.sheet.specs.declared.reading.Sheet.{Sheet}
 use Rattle.sheet.specs.declared.reading.Sheet.the-variants.{Words, Malformed, TooLong}
 use Rattle.sheet.specs.Format.{sheetOf, wordsOf, numberOf, placeOf}
@@ -46,9 +47,9 @@ linesOf words lengths (suc k) = linesOf words lengths k ++ lineAt words lengths 
 unfoldable pub listingOf : List ℕ → List ℕ → ℕ → ℕ → List ℕ
 listingOf words lengths longest first = linesOf words lengths (length words) ++ lastLineOf longest first
 
--- the work slice of lengths after the run: it held zeros, as many as there are words, and so did that of marks
+-- request C-17, "The sheet program uses weights of 1": the work slice of lengths after the run. It held zeros, as many as there are words, and so did that of marks
 abbrev pub lengthsOf : List ℕ → List ℕ
-lengthsOf words = lengthsAfter words (replicate (length words) 0) (replicate (length words) 0)
+lengthsOf words = lengthsAfter words ones (replicate (length words) 0) (replicate (length words) 0)
 
 -- the listing, or "On refusal the only line is the number and the place"
 abbrev pub tell : List ℕ → Run → List ℕ
@@ -57,7 +58,7 @@ tell words (Refused number place) = refusalLineOf number place
 
 -- what is written for words
 unfoldable pub runText : List ℕ → List ℕ
-runText words = tell words (runOf words (length words) (length words))
+runText words = tell words (runOf words ones (length words) (length words))
 
 -- "the sheet 12 and 13 first"
 abbrev pub reply : List ℕ → Sheet → List ℕ

@@ -25,7 +25,7 @@ fn put_refusal(number: u8, place: usize, page: &mut [u8]) -> usize
 }
 
 // Puts what is to be written for words, and answers how long it is. Of the run's refusals only 7 and 8 can come: 4,096
-// words are below 32,768 (1), and the parts that are lent have a place for each word (6).
+// words are below 32,768 (1), the parts that are lent have a place for each word (6), and no weight is 0 (18).
 fn put_run(words: &[u32], page: &mut [u8]) -> usize
     requires { ⌜ (length (now words) ≤ mostLines) × (pageLength ≤ length (now page)) ⌝ }
     ensures { λ r. ⌜ r ≡ length (runText (now (words .entry))) ⌝ }
@@ -34,7 +34,8 @@ fn put_run(words: &[u32], page: &mut [u8]) -> usize
     let n = words.len();
     let mut marks = [0u8; 4096];
     let mut lengths = [0u32; 4096];
-    let run = runs::longest_run(words, &mut marks[..n], &mut lengths[..n]);
+    let weights = [1u8; 128];
+    let run = runs::longest_run(words, &weights, &mut marks[..n], &mut lengths[..n]);
     match run {
         Run::Accepted { longest, first } => {
             return put_listing(words, &lengths[..n], longest, first, page);

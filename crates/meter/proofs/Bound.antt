@@ -5,24 +5,29 @@ use mathlib.Core.Bool.{Bool, true, false, cond, _||_, true≢false}
 use mathlib.Core.Path.{_≡_, refl, sym, ap, subst, _∙_}
 use mathlib.Core.List.{List, [], _∷_, _++_, append-assoc, append-nil}
 use native.Mathlib.Omega.{arith}
-use lib.ListN.{length, replicate, length-append}
+use lib.ListN.{length, replicate}
 use borrow.Author.Tests.{eq-eqb, lt-ltb}
-use Rattle.common.specs.Limits.{mostWords}
-use Rattle.graph.specs.Graph.{In, Graph, Lawful, Along, Path, Unserved, Segment}
+use Rattle.graph.specs.Graph.{In, Graph, Along, Path, Unserved, Segment, weigh}
 use Rattle.graph.proofs.Laws.{laws}
 use Rattle.meter.specs.declared.step.Meter.{Meter}
-use Rattle.meter.specs.Feed.{follows, ceiling, beginOf}
-use Rattle.meter.specs.Model.{Call, begin, feed, Model, emptyModel, lastFrom, writes, servesTo, fed, called, answerTo, modelAfter, modelAnswers, anyServes, sinceService, wordsSince}
+use Rattle.meter.specs.Feed.{Scale, follows, ceiling, beginOf}
+use Rattle.meter.specs.Model.{Call, begin, feed, Model, emptyModel, lastFrom, writes, servesTo, fed, called, answerTo, modelAfter, modelAnswers, anyServes, sinceService, weightSince}
 use Rattle.meter.specs.Calls.{meterAfter}
 use Rattle.meter.specs.Bound.{feeds, ShownOn, Bound}
 use Rattle.meter.proofs.Paths.{last-more}
-use Rattle.meter.proofs.Calls.{first-word, follows-model}
+use Rattle.meter.proofs.Calls.{Sound, first-word, follows-model}
 
-module _ (g : Graph) (law : Lawful g) where
+module _ (scale : Scale) (sound : Sound scale) where
+  abbrev g : Graph
+  g = scale .graph
+
+  abbrev w : ℕ → ℕ
+  w = scale .weight
+
   -- What the model writes down is a path, or nothing.
 
   along-more : (p : ℕ) (ps : List ℕ) (q : ℕ) → Along g p ps → follows g (lastFrom p ps) q ≡ true → Along g p (ps ++ (q ∷ []))
-  along-more p [] q a h = let i : In q (g .successors p) = laws .member-in q (g .successors p) .0 h in (a, i, law .inside p q i)
+  along-more p [] q a h = let i : In q (g .successors p) = laws .member-in q (g .successors p) .0 h in (a, i, sound .law .inside p q i)
   along-more p (x ∷ ps) q a h = (a .0, a .1, along-more x ps q (a .2) h)
 
   abbrev PathOrNone : List ℕ → Type 0
@@ -30,7 +35,7 @@ module _ (g : Graph) (law : Lawful g) where
   PathOrNone (p ∷ ps) = Path g (p ∷ ps)
 
   path-more : (ps : List ℕ) (q : ℕ) → PathOrNone ps → writes g ps q ≡ true → PathOrNone (ps ++ (q ∷ []))
-  path-more [] q k h = let f : (q ≡ 0) × (0 < g .size) = first-word g law q h in (f .0, omega arith)
+  path-more [] q k h = let f : (q ≡ 0) × (0 < g .size) = first-word scale sound q h in (f .0, omega arith)
   path-more (p ∷ ps) q k h = (k .0, along-more p ps q (k .1) h)
 
   path-fed : (b : Model) (q : ℕ) (t : Bool) → writes g (b .path) q ≡ t → PathOrNone (b .path) → PathOrNone (fed g b q .path)
@@ -74,9 +79,9 @@ module _ (g : Graph) (law : Lawful g) where
       record { before = s .before; after = []; path = rw (append-nil (s .rest)) (subst (λ (l : List ℕ). Path g l) (s .whole) path); unserved = s .unserved }
 
   abbrev AtMost : ℕ → Type 0
-  AtMost longest = (p : ℕ) (ps : List ℕ) → Segment g p ps → length (p ∷ ps) ≤ longest
+  AtMost longest = (p : ℕ) (ps : List ℕ) → Segment g p ps → weigh w (p ∷ ps) ≤ longest
 
-  since-most : (longest : ℕ) → AtMost longest → (ps : List ℕ) → PathOrNone ps → wordsSince g ps ≤ longest
+  since-most : (longest : ℕ) → AtMost longest → (ps : List ℕ) → PathOrNone ps → weightSince g w ps ≤ longest
   since-most longest most [] k = omega arith
   since-most longest most (p ∷ ps) k =
       let s : Split p ps = split p ps in
@@ -124,21 +129,26 @@ module _ (g : Graph) (law : Lawful g) where
       let later : anyServes g q qs ≡ false = since-whole q qs (u .1) .0 in
       (rw (u .0, later), rw (u .0, later))
 
+  -- words before others add to what they weigh
+  weigh-after : (bs cs : List ℕ) → weigh w cs ≤ weigh w (bs ++ cs)
+  weigh-after [] cs = omega arith
+  weigh-after (b ∷ bs) cs = let h = weigh-after bs cs in omega arith
+
   module _ (p : ℕ) (ps : List ℕ) (u : Unserved g p ps) where
-    since-least : (b : ℕ) (bs : List ℕ) → length (p ∷ ps) ≤ length (sinceService g b (bs ++ (p ∷ ps)))
+    since-least : (b : ℕ) (bs : List ℕ) → weigh w (p ∷ ps) ≤ weigh w (sinceService g b (bs ++ (p ∷ ps)))
     since-least b [] = go (anyServes g b (p ∷ ps))
       where
-        go : (t : Bool) → length (p ∷ ps) ≤ length (cond t (sinceService g p ps) (b ∷ p ∷ ps))
+        go : (t : Bool) → weigh w (p ∷ ps) ≤ weigh w (cond t (sinceService g p ps) (b ∷ p ∷ ps))
         go true = rw (since-whole p ps u .1) (omega arith)
         go false = omega arith
     since-least b (x ∷ xs) = go (anyServes g b (x ∷ (xs ++ (p ∷ ps)))) (since-least x xs)
       where
-        go : (t : Bool) → length (p ∷ ps) ≤ length (sinceService g x (xs ++ (p ∷ ps)))
-            → length (p ∷ ps) ≤ length (cond t (sinceService g x (xs ++ (p ∷ ps))) (b ∷ x ∷ (xs ++ (p ∷ ps))))
+        go : (t : Bool) → weigh w (p ∷ ps) ≤ weigh w (sinceService g x (xs ++ (p ∷ ps)))
+            → weigh w (p ∷ ps) ≤ weigh w (cond t (sinceService g x (xs ++ (p ∷ ps))) (b ∷ x ∷ (xs ++ (p ∷ ps))))
         go true later = later
-        go false later = omega (arith, length-append xs (p ∷ ps))
+        go false later = omega (arith, weigh-after xs (p ∷ ps))
 
-    ends-least : (bs : List ℕ) → length (p ∷ ps) ≤ wordsSince g (bs ++ (p ∷ ps))
+    ends-least : (bs : List ℕ) → weigh w (p ∷ ps) ≤ weightSince g w (bs ++ (p ∷ ps))
     ends-least [] = rw (since-whole p ps u .1) (omega arith)
     ends-least (b ∷ bs) = since-least b bs
 
@@ -152,29 +162,29 @@ module _ (g : Graph) (law : Lawful g) where
 
   -- The bound.
 
-  module _ (small : g .size ≤ mostWords) (m : Meter) (fits : m .services ≤ ceiling) (longest : ℕ) (most : AtMost longest) where
-    never : (calls : List Call) → meterAfter g (beginOf m) calls .count ≤ longest
+  module _ (m : Meter) (fits : m .services ≤ ceiling) (longest : ℕ) (most : AtMost longest) where
+    never : (calls : List Call) → meterAfter scale (beginOf m) calls .count ≤ longest
     never calls =
-        rw (follows-model g law small m calls fits .count)
+        rw (follows-model scale sound m calls fits .count)
         (since-most longest most (modelAfter g emptyModel calls .path) (path-after emptyModel tt calls))
 
-    fed-count : (words : List ℕ) → Path g words → meterAfter g (beginOf m) (feeds words) .count ≡ wordsSince g words
-    fed-count words path = follows-model g law small m (feeds words) fits .count ∙ ap (wordsSince g) (written-path words path .0)
+    fed-count : (words : List ℕ) → Path g words → meterAfter scale (beginOf m) (feeds words) .count ≡ weightSince g w words
+    fed-count words path = follows-model scale sound m (feeds words) fits .count ∙ ap (weightSince g w) (written-path words path .0)
 
-    reached : (p : ℕ) (ps : List ℕ) → Segment g p ps → length (p ∷ ps) ≡ longest → ShownOn g m longest
+    reached : (p : ℕ) (ps : List ℕ) → Segment g p ps → weigh w (p ∷ ps) ≡ longest → ShownOn scale m longest
     reached p ps s e =
         let words : List ℕ = s .before ++ (p ∷ ps) in
         let path : Path g words = path-start (s .before) p ps (s .after) (s .path) in
-        let count : ℕ = meterAfter g (beginOf m) (feeds words) .count in
+        let count : ℕ = meterAfter scale (beginOf m) (feeds words) .count in
         let most-shown : count ≤ longest = never (feeds words) in
-        let is-since : count ≡ wordsSince g words = fed-count words path in
-        let least-shown : length (p ∷ ps) ≤ wordsSince g words = ends-least p ps (s .unserved) (s .before) in
+        let is-since : count ≡ weightSince g w words = fed-count words path in
+        let least-shown : weigh w (p ∷ ps) ≤ weightSince g w words = ends-least p ps (s .unserved) (s .before) in
         record { words = words; path = path; shows = omega arith }
 
-    pub bound : (p : ℕ) (ps : List ℕ) → Segment g p ps → length (p ∷ ps) ≡ longest → Bound g m longest
+    pub bound : (p : ℕ) (ps : List ℕ) → Segment g p ps → weigh w (p ∷ ps) ≡ longest → Bound scale m longest
     bound p ps s e =
         record {
-          taken = λ words path. follows-model g law small m (feeds words) fits .answers ∙ written-path words path .1;
+          taken = λ words path. follows-model scale sound m (feeds words) fits .answers ∙ written-path words path .1;
           never = never;
           reached = reached p ps s e;
         }

@@ -1,6 +1,6 @@
 -- Demand 3, its second half: a meter just begun shows what the reference model holds, whatever calls follow.
 -- Assumes nothing.
-use Prim.Native.Nat.{ℕ, _+_, _<_, _≤_, min}
+use Prim.Native.Nat.{ℕ, _+_, _*_, _<_, _≤_, min}
 use mathlib.Core.Bool.{Bool, true, false, cond, not, _&&_, or-true, false≢true}
 use mathlib.Core.Path.{_≡_, refl, ap}
 use mathlib.Core.List.{List, [], _∷_, _++_}
@@ -12,10 +12,11 @@ use Rattle.graph.specs.Graph.{Graph, Lawful}
 use Rattle.graph.proofs.Laws.{laws}
 use Rattle.meter.specs.declared.step.Meter.{Meter}
 use Rattle.meter.specs.declared.step.Fed.{Fed}
-use Rattle.meter.specs.Feed.{follows, ceiling, oneService, movedTo, isForeign, isStray, beginOf, feedOf}
-use Rattle.meter.specs.Model.{Call, begin, feed, Model, emptyModel, lastFrom, writes, fed, called, answerTo, modelAfter, modelAnswers, hasWord, lastOr0, wordsSince}
+use Rattle.runs.specs.Weights.{heaviestWeight, refusesWeights}
+use Rattle.meter.specs.Feed.{Scale, follows, ceiling, oneService, movedTo, isForeign, isStray, beginOf, feedOf}
+use Rattle.meter.specs.Model.{Call, begin, feed, Model, emptyModel, lastFrom, writes, fed, called, answerTo, modelAfter, modelAnswers, hasWord, lastOr0, weightSince}
 use Rattle.meter.specs.Calls.{meterAfter, meterAnswers, FollowsModel}
-use Rattle.meter.proofs.Paths.{last-more, words-more}
+use Rattle.meter.proofs.Paths.{last-more, weight-more}
 
 -- The ceiling.
 
@@ -28,26 +29,41 @@ more-services s k = go (ltb (min (s + k) ceiling) ceiling) refl
     go false e = omega (arith, ltb-false (min (s + k) ceiling) ceiling e)
 
 -- the meter that shows a model, from these services on
-abbrev shows : Graph → ℕ → Model → Meter
-shows g start b =
-    record { begun = cond (hasWord (b .path)) 1 0; last = lastOr0 (b .path); count = wordsSince g (b .path); services = min (start + b .tally) ceiling }
+abbrev shows : Scale → ℕ → Model → Meter
+shows s start b =
+    record { begun = cond (hasWord (b .path)) 1 0; last = lastOr0 (b .path); count = weightSince (s .graph) (s .weight) (b .path); services = min (start + b .tally) ceiling }
 
-module _ (g : Graph) (law : Lawful g) where
+-- a scale that a meter can go by: the graph is lawful and not too large, and the table's weights are 1 to 255
+pub record Sound (s : Scale) : Type 0 where
+  pub law : Lawful (s .graph)
+  pub few : s .graph .size ≤ mostWords
+  pub weighed : refusesWeights (s .table) ≡ false
+  pub some : (q : ℕ) → 0 < s .weight q
+  pub light : (q : ℕ) → s .weight q ≤ heaviestWeight
+
+module _ (s : Scale) (sound : Sound s) where
+  abbrev g : Graph
+  g = s .graph
+
+  abbrev w : ℕ → ℕ
+  w = s .weight
+
   step-inside : (p q : ℕ) → follows g p q ≡ true → q < g .size
-  step-inside p q h = law .inside p q (laws .member-in q (g .successors p) .0 h)
+  step-inside p q h = sound .law .inside p q (laws .member-in q (g .successors p) .0 h)
 
-  -- The invariant: the path's last word is a word, and the count is from 1 to that word's number and one more.
+  -- The invariant: the path's last word is a word, and the count is from 1 to 255 for each word up to that one.
 
   abbrev Fits : ℕ → ℕ → Type 0
-  Fits last count = (last < g .size) × ((0 < count) × (count ≤ last + 1))
+  Fits last count = (last < g .size) × ((0 < count) × (count ≤ heaviestWeight * (last + 1)))
 
-  abbrev Sound : List ℕ → Type 0
-  Sound [] = Unit {0}
-  Sound (p ∷ ps) = Fits (lastFrom p ps) (wordsSince g (p ∷ ps))
+  abbrev Counted : List ℕ → Type 0
+  Counted [] = Unit {0}
+  Counted (p ∷ ps) = Fits (lastFrom p ps) (weightSince g w (p ∷ ps))
 
-  fits-next : (p q k : ℕ) (t : Bool) → g .serves p q ≡ t → follows g p q ≡ true → k ≤ p + 1 → Fits q (cond t 1 (k + 1))
-  fits-next p q k true e h l = (step-inside p q h, (omega arith, omega arith))
-  fits-next p q k false e h l = (step-inside p q h, (omega arith, omega (arith, law .forward p q (laws .member-in q (g .successors p) .0 h) e)))
+  fits-next : (p q k : ℕ) (t : Bool) → g .serves p q ≡ t → follows g p q ≡ true → k ≤ heaviestWeight * (p + 1) → Fits q (cond t (w q) (k + w q))
+  fits-next p q k true e h l = (step-inside p q h, (sound .some q, omega (arith, sound .light q)))
+  fits-next p q k false e h l =
+      (step-inside p q h, (omega (arith, sound .some q), omega (arith, sound .light q, sound .law .forward p q (laws .member-in q (g .successors p) .0 h) e)))
 
   pub first-word : (q : ℕ) → writes g [] q ≡ true → (q ≡ 0) × (0 < g .size)
   first-word q h = go (eqb q 0) refl h
@@ -56,81 +72,86 @@ module _ (g : Graph) (law : Lawful g) where
       go true e d = (eqb-true q 0 e, ltb-true 0 (g .size) d)
       go false e d = absurd (false≢true d)
 
-  sound-more : (ps : List ℕ) (q : ℕ) → Sound ps → writes g ps q ≡ true → Sound (ps ++ (q ∷ []))
-  sound-more [] q s h = let f : (q ≡ 0) × (0 < g .size) = first-word q h in (omega arith, (omega arith, omega arith))
-  sound-more (p ∷ ps) q s h =
-      rw (last-more p ps q, words-more g p ps q)
-      (fits-next (lastFrom p ps) q (wordsSince g (p ∷ ps)) (g .serves (lastFrom p ps) q) refl h (s .1 .1))
+  counted-more : (ps : List ℕ) (q : ℕ) → Counted ps → writes g ps q ≡ true → Counted (ps ++ (q ∷ []))
+  counted-more [] q c h =
+      let f : (q ≡ 0) × (0 < g .size) = first-word q h in (omega arith, (omega (arith, sound .some q), omega (arith, sound .light q)))
+  counted-more (p ∷ ps) q c h =
+      rw (last-more p ps q, weight-more g w p ps q)
+      (fits-next (lastFrom p ps) q (weightSince g w (p ∷ ps)) (g .serves (lastFrom p ps) q) refl h (c .1 .1))
 
-  sound-fed : (b : Model) (q : ℕ) (t : Bool) → writes g (b .path) q ≡ t → Sound (b .path) → Sound (fed g b q .path)
-  sound-fed b q true e s = rw e (sound-more (b .path) q s e)
-  sound-fed b q false e s = rw e s
+  counted-fed : (b : Model) (q : ℕ) (t : Bool) → writes g (b .path) q ≡ t → Counted (b .path) → Counted (fed g b q .path)
+  counted-fed b q true e c = rw e (counted-more (b .path) q c e)
+  counted-fed b q false e c = rw e c
 
-  -- Number 11 never refuses a meter that shows a sound model.
+  -- Number 11 never refuses a meter that shows such a model.
 
-  not-foreign : (start k : ℕ) (ps : List ℕ) → Sound ps → isForeign (g .size) (shows g start (record { path = ps; tally = k })) ≡ false
+  not-foreign : (start k : ℕ) (ps : List ℕ) → Counted ps → isForeign (g .size) (shows s start (record { path = ps; tally = k })) ≡ false
   unfolding isForeign
-  not-foreign start k [] s = refl
-  not-foreign start k (p ∷ ps) s =
-      rw (lt-leb (g .size) (lastFrom p ps) (s .0), ne-eqb (wordsSince g (p ∷ ps)) 0 (λ e. omega arith), le-ltb (lastFrom p ps + 1) (wordsSince g (p ∷ ps)) (s .1 .1))
+  not-foreign start k [] c = refl
+  not-foreign start k (p ∷ ps) c =
+      rw (lt-leb (g .size) (lastFrom p ps) (c .0), ne-eqb (weightSince g w (p ∷ ps)) 0 (λ e. omega arith), le-ltb (heaviestWeight * (lastFrom p ps + 1)) (weightSince g w (p ∷ ps)) (c .1 .1))
 
   -- One feed: the meter and the answer are the model's.
 
   abbrev Told : ℕ → Model → ℕ → Fed
-  Told start b q = record { meter = shows g start (fed g b q); number = answerTo g b q }
+  Told start b q = record { meter = shows s start (fed g b q); answer = record { number = answerTo g b q; place = 0 } }
 
-  first-fed : (start k q : ℕ) (t u : Bool) → eqb q 0 ≡ t → ltb 0 (g .size) ≡ u → g .size ≤ mostWords
-      → feedOf g (shows g start (record { path = []; tally = k })) q ≡ Told start (record { path = []; tally = k }) q
+  -- the first word weighs its own weight
+  alone : (q : ℕ) → w q ≡ w q + 0
+  alone q = omega arith
+
+  first-fed : (start k q : ℕ) (t u : Bool) → eqb q 0 ≡ t → ltb 0 (g .size) ≡ u
+      → feedOf s (shows s start (record { path = []; tally = k })) q ≡ Told start (record { path = []; tally = k }) q
   unfolding feedOf isForeign isStray movedTo
-  first-fed start k q true true e d h = rw (le-ltb mostWords (g .size) h, eqb-true q 0 e, lt-leb (g .size) 0 (ltb-true 0 (g .size) d), d)
-  first-fed start k q true false e d h = rw (le-ltb mostWords (g .size) h, eqb-true q 0 e, le-leb (g .size) 0 (ltb-false 0 (g .size) d), d)
-  first-fed start k q false u e d h = rw (le-ltb mostWords (g .size) h, e, or-true)
+  first-fed start k q true true e d = rw (le-ltb mostWords (g .size) (sound .few), sound .weighed, eqb-true q 0 e, lt-leb (g .size) 0 (ltb-true 0 (g .size) d), d, ← alone 0)
+  first-fed start k q true false e d = rw (le-ltb mostWords (g .size) (sound .few), sound .weighed, eqb-true q 0 e, le-leb (g .size) 0 (ltb-false 0 (g .size) d), d)
+  first-fed start k q false u e d = rw (le-ltb mostWords (g .size) (sound .few), sound .weighed, e, or-true)
 
-  next-fed : (start k p : ℕ) (ps : List ℕ) (q : ℕ) (t u : Bool) → follows g (lastFrom p ps) q ≡ t → g .serves (lastFrom p ps) q ≡ u → g .size ≤ mostWords → Sound (p ∷ ps)
-      → feedOf g (shows g start (record { path = p ∷ ps; tally = k })) q ≡ Told start (record { path = p ∷ ps; tally = k }) q
+  next-fed : (start k p : ℕ) (ps : List ℕ) (q : ℕ) (t u : Bool) → follows g (lastFrom p ps) q ≡ t → g .serves (lastFrom p ps) q ≡ u → Counted (p ∷ ps)
+      → feedOf s (shows s start (record { path = p ∷ ps; tally = k })) q ≡ Told start (record { path = p ∷ ps; tally = k }) q
   unfolding feedOf isStray movedTo
-  next-fed start k p ps q true true e d h s =
-      rw (le-ltb mostWords (g .size) h, not-foreign start k (p ∷ ps) s, lt-leb (g .size) q (step-inside (lastFrom p ps) q e), e, d, last-more p ps q, words-more g p ps q, d, more-services start k)
-  next-fed start k p ps q true false e d h s =
-      rw (le-ltb mostWords (g .size) h, not-foreign start k (p ∷ ps) s, lt-leb (g .size) q (step-inside (lastFrom p ps) q e), e, d, last-more p ps q, words-more g p ps q, d)
-  next-fed start k p ps q false u e d h s = rw (le-ltb mostWords (g .size) h, not-foreign start k (p ∷ ps) s, e, or-true)
+  next-fed start k p ps q true true e d c =
+      rw (le-ltb mostWords (g .size) (sound .few), sound .weighed, not-foreign start k (p ∷ ps) c, lt-leb (g .size) q (step-inside (lastFrom p ps) q e), e, d, last-more p ps q, weight-more g w p ps q, d, more-services start k)
+  next-fed start k p ps q true false e d c =
+      rw (le-ltb mostWords (g .size) (sound .few), sound .weighed, not-foreign start k (p ∷ ps) c, lt-leb (g .size) q (step-inside (lastFrom p ps) q e), e, d, last-more p ps q, weight-more g w p ps q, d)
+  next-fed start k p ps q false u e d c = rw (le-ltb mostWords (g .size) (sound .few), sound .weighed, not-foreign start k (p ∷ ps) c, e, or-true)
 
-  fed-as : (start k : ℕ) (ps : List ℕ) (q : ℕ) → g .size ≤ mostWords → Sound ps
-      → feedOf g (shows g start (record { path = ps; tally = k })) q ≡ Told start (record { path = ps; tally = k }) q
-  fed-as start k [] q h s = first-fed start k q (eqb q 0) (ltb 0 (g .size)) refl refl h
-  fed-as start k (p ∷ ps) q h s = next-fed start k p ps q (follows g (lastFrom p ps) q) (g .serves (lastFrom p ps) q) refl refl h s
+  fed-as : (start k : ℕ) (ps : List ℕ) (q : ℕ) → Counted ps
+      → feedOf s (shows s start (record { path = ps; tally = k })) q ≡ Told start (record { path = ps; tally = k }) q
+  fed-as start k [] q c = first-fed start k q (eqb q 0) (ltb 0 (g .size)) refl refl
+  fed-as start k (p ∷ ps) q c = next-fed start k p ps q (follows g (lastFrom p ps) q) (g .serves (lastFrom p ps) q) refl refl c
 
   -- Every list of calls, by induction.
 
   abbrev Same : ℕ → Model → List Call → Type 0
   Same start b calls =
-      (meterAnswers g (shows g start b) calls ≡ modelAnswers g b calls)
-      × (meterAfter g (shows g start b) calls ≡ shows g start (modelAfter g b calls))
+      (meterAnswers s (shows s start b) calls ≡ modelAnswers g b calls)
+      × (meterAfter s (shows s start b) calls ≡ shows s start (modelAfter g b calls))
 
-  same : (start : ℕ) → g .size ≤ mostWords → (b : Model) → Sound (b .path) → (calls : List Call) → Same start b calls
+  same : (start : ℕ) (b : Model) → Counted (b .path) → (calls : List Call) → Same start b calls
   unfolding beginOf
-  same start h b s [] = (refl, refl)
-  same start h b s (begin ∷ cs) = same start h (called g b begin) tt cs
-  same start h b s (feed q ∷ cs) =
-      let rest : Same start (fed g b q) cs = same start h (fed g b q) (sound-fed b q (writes g (b .path) q) refl s) cs in
-      rw (fed-as start (b .tally) (b .path) q h s) (ap (λ (l : List ℕ). answerTo g b q ∷ l) (rest .0), rest .1)
+  same start b c [] = (refl, refl)
+  same start b c (begin ∷ cs) = same start (called g b begin) tt cs
+  same start b c (feed q ∷ cs) =
+      let rest : Same start (fed g b q) cs = same start (fed g b q) (counted-fed b q (writes g (b .path) q) refl c) cs in
+      rw (fed-as start (b .tally) (b .path) q c) (ap (λ (l : List ℕ). answerTo g b q ∷ l) (rest .0), rest .1)
 
-  begun-empty : (m : Meter) → m .services ≤ ceiling → beginOf m ≡ shows g (m .services) emptyModel
+  begun-empty : (m : Meter) → m .services ≤ ceiling → beginOf m ≡ shows s (m .services) emptyModel
   unfolding beginOf
-  begun-empty m h = ap (λ (s : ℕ). record { begun = 0; last = 0; count = 0; services = s }) (omega arith)
+  begun-empty m h = ap (λ (n : ℕ). record { begun = 0; last = 0; count = 0; services = n }) (omega arith)
 
   begun-if : (ps : List ℕ) (n : ℕ) → n ≡ cond (hasWord ps) 1 0 → not (eqb n 0) ≡ hasWord ps
   begun-if [] n e = rw e
   begun-if (p ∷ ps) n e = rw e
 
-  pub follows-model : g .size ≤ mostWords → (m : Meter) (calls : List Call) → m .services ≤ ceiling → FollowsModel g m calls
-  follows-model h m calls fits =
-      let all : Same (m .services) emptyModel calls = same (m .services) h emptyModel tt calls in
-      let start : beginOf m ≡ shows g (m .services) emptyModel = begun-empty m fits in
-      let after : meterAfter g (beginOf m) calls ≡ shows g (m .services) (modelAfter g emptyModel calls) = rw start (all .1) in
+  pub follows-model : (m : Meter) (calls : List Call) → m .services ≤ ceiling → FollowsModel s m calls
+  follows-model m calls fits =
+      let all : Same (m .services) emptyModel calls = same (m .services) emptyModel tt calls in
+      let start : beginOf m ≡ shows s (m .services) emptyModel = begun-empty m fits in
+      let after : meterAfter s (beginOf m) calls ≡ shows s (m .services) (modelAfter g emptyModel calls) = rw start (all .1) in
       record {
         answers = rw start (all .0);
-        begun = begun-if (modelAfter g emptyModel calls .path) (meterAfter g (beginOf m) calls .begun) (ap (λ (z : Meter). z .begun) after);
+        begun = begun-if (modelAfter g emptyModel calls .path) (meterAfter s (beginOf m) calls .begun) (ap (λ (z : Meter). z .begun) after);
         last = ap (λ (z : Meter). z .last) after;
         count = ap (λ (z : Meter). z .count) after;
         services = ap (λ (z : Meter). z .services) after;

@@ -1,6 +1,6 @@
 -- What the checks of a feed leave: a fed word among the words, and a count that 32 bits can add to.
 -- Assumes nothing.
-use Prim.Native.Nat.{ℕ, _+_, _<_, _≤_}
+use Prim.Native.Nat.{ℕ, _+_, _*_, _<_, _≤_}
 use mathlib.Core.Bool.{Bool, true, false, cond, not, _||_, true≢false}
 use mathlib.Core.Path.{_≡_, refl}
 use mathlib.Core.List.{List}
@@ -11,19 +11,20 @@ use Rattle.common.specs.Limits.{mostWords}
 use Rattle.runs.specs.Successors.{isSuccessor}
 use Rattle.graph.specs.Graph.{Graph}
 use Rattle.runs.specs.Instance.{graphOf}
+use Rattle.runs.specs.Weights.{heaviestWeight}
 use Rattle.meter.specs.declared.step.Meter.{Meter}
 use Rattle.meter.specs.Feed.{isBegun, follows, isForeign, isStray}
 
 -- two tests that both fail
-neither : (t u : Bool) → t || u ≡ false → (t ≡ false) × (u ≡ false)
+pub neither : (t u : Bool) → t || u ≡ false → (t ≡ false) × (u ≡ false)
 neither true u e = absurd (true≢false e)
 neither false u e = (refl, e)
 
-small : (n last count : ℕ) (t : Bool) → cond t (leb n last || (eqb count 0 || ltb (last + 1) count)) (not (eqb last 0) || not (eqb count 0)) ≡ false → n ≤ mostWords → count ≤ mostWords
+small : (n last count : ℕ) (t : Bool) → cond t (leb n last || (eqb count 0 || ltb (heaviestWeight * (last + 1)) count)) (not (eqb last 0) || not (eqb count 0)) ≡ false → n ≤ mostWords → count ≤ heaviestWeight * mostWords
 small n last count true h k =
-    let a : (leb n last ≡ false) × (eqb count 0 || ltb (last + 1) count ≡ false) = neither (leb n last) (eqb count 0 || ltb (last + 1) count) h in
-    let b : (eqb count 0 ≡ false) × (ltb (last + 1) count ≡ false) = neither (eqb count 0) (ltb (last + 1) count) (a .1) in
-    omega (arith, leb-false n last (a .0), ltb-false (last + 1) count (b .1))
+    let a : (leb n last ≡ false) × (eqb count 0 || ltb (heaviestWeight * (last + 1)) count ≡ false) = neither (leb n last) (eqb count 0 || ltb (heaviestWeight * (last + 1)) count) h in
+    let b : (eqb count 0 ≡ false) × (ltb (heaviestWeight * (last + 1)) count ≡ false) = neither (eqb count 0) (ltb (heaviestWeight * (last + 1)) count) (a .1) in
+    omega (arith, leb-false n last (a .0), ltb-false (heaviestWeight * (last + 1)) count (b .1))
 small n last count false h k =
     let a : (not (eqb last 0) ≡ false) × (not (eqb count 0) ≡ false) = neither (not (eqb last 0)) (not (eqb count 0)) h in
     omega (arith, eqb-true count 0 (not-false (eqb count 0) (a .1)))
@@ -34,7 +35,7 @@ unfolding isSuccessor
 successor-follows ws p q = refl
 
 -- what number 11 lets pass
-pub count-small : (n : ℕ) (m : Meter) → isForeign n m ≡ false → n ≤ mostWords → m .count ≤ mostWords
+pub count-small : (n : ℕ) (m : Meter) → isForeign n m ≡ false → n ≤ mostWords → m .count ≤ heaviestWeight * mostWords
 unfolding isForeign
 count-small n m = small n (m .last) (m .count) (isBegun m)
 

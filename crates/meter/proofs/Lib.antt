@@ -3,3 +3,4 @@ pub mod Paths
 pub mod Calls
 pub mod Bound
 pub mod Demand3
+pub mod Earlier

@@ -4,9 +4,9 @@ use Prim.Native.Nat.{ℕ, _+_}
 use mathlib.Core.Bool.{Bool, true, false, cond, _||_, or-assoc, or-false, or-true}
 use mathlib.Core.Path.{_≡_, refl, sym, ap, _∙_}
 use mathlib.Core.List.{List, [], _∷_, _++_}
-use lib.ListN.{length, length-append}
-use Rattle.graph.specs.Graph.{Graph}
-use Rattle.meter.specs.Model.{lastFrom, anyServes, sinceService, wordsSince}
+use native.Mathlib.Omega.{arith}
+use Rattle.graph.specs.Graph.{Graph, weigh}
+use Rattle.meter.specs.Model.{lastFrom, anyServes, sinceService, weightSince}
 
 pub last-more : (p : ℕ) (ps : List ℕ) (q : ℕ) → lastFrom p (ps ++ (q ∷ [])) ≡ q
 last-more p [] q = refl
@@ -32,9 +32,14 @@ module _ (g : Graph) where
       go true later = later
       go false later = refl
 
-  pub words-more : (p : ℕ) (ps : List ℕ) (q : ℕ) → wordsSince g (p ∷ (ps ++ (q ∷ []))) ≡ cond (g .serves (lastFrom p ps) q) 1 (wordsSince g (p ∷ ps) + 1)
-  words-more p ps q = go (g .serves (lastFrom p ps) q) refl
-    where
-      go : (t : Bool) → g .serves (lastFrom p ps) q ≡ t → wordsSince g (p ∷ (ps ++ (q ∷ []))) ≡ cond t 1 (wordsSince g (p ∷ ps) + 1)
-      go true e = ap length (since-served p ps q e)
-      go false e = ap length (since-more p ps q e) ∙ length-append (sinceService g p ps) (q ∷ [])
+  module _ (w : ℕ → ℕ) where
+    weigh-more : (xs : List ℕ) (q : ℕ) → weigh w (xs ++ (q ∷ [])) ≡ weigh w xs + w q
+    weigh-more [] q = omega arith
+    weigh-more (x ∷ xs) q = omega (arith, weigh-more xs q)
+
+    pub weight-more : (p : ℕ) (ps : List ℕ) (q : ℕ) → weightSince g w (p ∷ (ps ++ (q ∷ []))) ≡ cond (g .serves (lastFrom p ps) q) (w q) (weightSince g w (p ∷ ps) + w q)
+    weight-more p ps q = go (g .serves (lastFrom p ps) q) refl
+      where
+        go : (t : Bool) → g .serves (lastFrom p ps) q ≡ t → weightSince g w (p ∷ (ps ++ (q ∷ []))) ≡ cond t (w q) (weightSince g w (p ∷ ps) + w q)
+        go true e = ap (weigh w) (since-served p ps q e) ∙ omega arith
+        go false e = ap (weigh w) (since-more p ps q e) ∙ weigh-more (sinceService g p ps) q

@@ -3,40 +3,39 @@
 use mathlib.Core.Path.{_≡_}
 use mathlib.Core.List.{List, [], _∷_}
 use Prim.Native.Nat.{ℕ, _+_, min}
-use Rattle.graph.specs.Graph.{Graph}
 use Rattle.meter.specs.declared.step.Meter.{Meter}
-use Rattle.meter.specs.Feed.{ceiling, isBegun, feedOf, beginOf}
-use Rattle.meter.specs.Model.{Call, begin, feed, Model, emptyModel, modelAfter, modelAnswers, hasWord, lastOr0, wordsSince}
+use Rattle.meter.specs.Feed.{Scale, ceiling, isBegun, feedOf, beginOf}
+use Rattle.meter.specs.Model.{Call, begin, feed, Model, emptyModel, modelAfter, modelAnswers, hasWord, lastOr0, weightSince}
 
 -- "Each call is lent the meter as the call before left it, refused or not; nobody else writes it meanwhile.": the meter after
 -- the calls, by the definitions that the contracts of `begin` and `feed` cite
-abbrev pub meterAfter : Graph → Meter → List Call → Meter
-meterAfter g m [] = m
-meterAfter g m (begin ∷ cs) = meterAfter g (beginOf m) cs
-meterAfter g m (feed q ∷ cs) = meterAfter g (feedOf g m q .meter) cs
+abbrev pub meterAfter : Scale → Meter → List Call → Meter
+meterAfter s m [] = m
+meterAfter s m (begin ∷ cs) = meterAfter s (beginOf m) cs
+meterAfter s m (feed q ∷ cs) = meterAfter s (feedOf s m q .meter) cs
 
 -- the answers to the feeds among the calls
-abbrev pub meterAnswers : Graph → Meter → List Call → List ℕ
-meterAnswers g m [] = []
-meterAnswers g m (begin ∷ cs) = meterAnswers g (beginOf m) cs
-meterAnswers g m (feed q ∷ cs) = feedOf g m q .number ∷ meterAnswers g (feedOf g m q .meter) cs
+abbrev pub meterAnswers : Scale → Meter → List Call → List ℕ
+meterAnswers s m [] = []
+meterAnswers s m (begin ∷ cs) = meterAnswers s (beginOf m) cs
+meterAnswers s m (feed q ∷ cs) = feedOf s m q .answer .number ∷ meterAnswers s (feedOf s m q .meter) cs
 
 -- "It starts from any meter after a begin." "That is a single claim about the list, and not one for each call."
-module _ (g : Graph) (m : Meter) (calls : List Call) where
+module _ (s : Scale) (m : Meter) (calls : List Call) where
   abbrev pub shown : Meter
-  shown = meterAfter g (beginOf m) calls
+  shown = meterAfter s (beginOf m) calls
 
   abbrev pub model : Model
-  model = modelAfter g emptyModel calls
+  model = modelAfter (s .graph) emptyModel calls
 
   pub record FollowsModel : Type 0 where
     -- "Any other feed writes nothing; its answer is 10, and that of a written one 0."
-    pub answers : meterAnswers g (beginOf m) calls ≡ modelAnswers g emptyModel calls
+    pub answers : meterAnswers s (beginOf m) calls ≡ modelAnswers (s .graph) emptyModel calls
     -- "After the list the meter is begun exactly if the course has a word"
     pub begun : isBegun shown ≡ hasWord (model .path)
     -- "last is the course's last word, or 0"
     pub last : shown .last ≡ lastOr0 (model .path)
-    -- "words since service count from the word its last serving step leads to (all of them if none serves, 0 if empty)"
-    pub count : shown .count ≡ wordsSince g (model .path)
+    -- "words since service count from the word its last serving step leads to (all of them if none serves, 0 if empty)", by weight
+    pub count : shown .count ≡ weightSince (s .graph) (s .weight) (model .path)
     -- "services are those at the start plus the tally, at most 4,294,967,295"
     pub services : shown .services ≡ min (m .services + model .tally) ceiling

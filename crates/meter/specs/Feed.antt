@@ -1,14 +1,28 @@
--- Document 01, "Meter": begin and feed, over any graph of words. The contracts give the graph of the words lent.
+-- Document 01, "Meter", with the weights of request C-17: begin and feed, over any graph of words and any weights. The contracts give the
+-- graph of the words lent and what each word weighs by the table lent.
 -- Assumes nothing.
 use mathlib.Core.Bool.{Bool, cond, not, _||_}
-use Prim.Native.Nat.{ℕ, _+_}
+use mathlib.Core.List.{List}
+use Prim.Native.Nat.{ℕ, _+_, _*_}
 use lib.Dec.{ltb, leb, eqb}
 use Rattle.common.specs.Limits.{mostWords}
-use Rattle.common.specs.Numbers.{«ACCEPTED», «TOO_MANY_WORDS», «NO_STEP», «FOREIGN_METER»}
+use Rattle.common.specs.Numbers.{«ACCEPTED», «TOO_MANY_WORDS», «NO_STEP», «FOREIGN_METER», «WEIGHTS_REFUSED»}
 use Rattle.common.specs.Chain.{refuseIf}
 use Rattle.graph.specs.Graph.{member, Graph}
+use Rattle.runs.specs.Instance.{graphOf}
+use Rattle.runs.specs.Weights.{heaviestWeight, weightOf, refusesWeights, weightsPlace}
 use Rattle.meter.specs.declared.step.Meter.{Meter}
 use Rattle.meter.specs.declared.step.Fed.{Fed}
+
+-- what a feed goes by: the graph of the words, the table lent, and what each word weighs
+pub record Scale : Type 0 where
+  pub graph : Graph
+  pub table : List ℕ
+  pub weight : ℕ → ℕ
+
+-- by the words and the table lent
+abbrev pub scaleOf : List ℕ → List ℕ → Scale
+scaleOf ws weights = record { graph = graphOf ws; table = weights; weight = weightOf ws weights }
 
 -- q is "a step from" p
 abbrev pub follows : Graph → ℕ → ℕ → Bool
@@ -30,38 +44,42 @@ ceiling = 4294967295
 unfoldable pub oneService : ℕ → ℕ
 oneService s = cond (ltb s ceiling) (s + 1) ceiling
 
--- "The first word fed must be 0, bad or not, and makes the count 1. A serving step makes it 1 and adds a service, staying at
--- 4,294,967,295; another step adds 1."
-unfoldable pub movedTo : Graph → Meter → ℕ → Meter
-movedTo g m q =
+-- "The first word fed must be 0, bad or not, and makes the count [its weight]. A serving step makes it [the weight of the word it leads to]
+-- and adds a service, staying at 4,294,967,295; another step adds [that word's weight]." Request C-17: "the meter's count become[s] sums of
+-- weights"
+unfoldable pub movedTo : Scale → Meter → ℕ → Meter
+movedTo s m q =
     cond (isBegun m)
-    (cond (g .serves (m .last) q)
-    (record { begun = 1; last = q; count = 1; services = oneService (m .services) })
-    (record { begun = 1; last = q; count = m .count + 1; services = m .services }))
-    (record { begun = 1; last = q; count = 1; services = m .services })
+    (cond (s .graph .serves (m .last) q)
+    (record { begun = 1; last = q; count = s .weight q; services = oneService (m .services) })
+    (record { begun = 1; last = q; count = m .count + s .weight q; services = m .services }))
+    (record { begun = 1; last = q; count = s .weight q; services = m .services })
 
--- number 11, "meter not of this function": "begun with last ≥ n, count 0 or count > last + 1; not begun with last or count nonzero"
+-- number 11, "meter not of this function": "begun with last ≥ n, count 0 or ..; not begun with last or count nonzero". Request C-17: "a
+-- count above 255 times (last + 1), with its other conditions kept"
 unfoldable pub isForeign : ℕ → Meter → Bool
 isForeign n m =
     cond (isBegun m)
-    (leb n (m .last) || (eqb (m .count) 0 || ltb (m .last + 1) (m .count)))
+    (leb n (m .last) || (eqb (m .count) 0 || ltb (heaviestWeight * (m .last + 1)) (m .count)))
     (not (eqb (m .last) 0) || not (eqb (m .count) 0))
 
 -- number 10: "fed word is n or more, or no step from the last, or the first is not 0"
 unfoldable pub isStray : Graph → Meter → ℕ → Bool
 isStray g m q = leb (g .size) q || cond (isBegun m) (not (follows g (m .last) q)) (not (eqb q 0))
 
--- a number and the "meter unchanged"
-abbrev pub refusal : ℕ → Meter → Fed
-refusal number m = record { meter = m; number = number }
+-- a number, a place, and the "meter unchanged"
+abbrev pub refusal : ℕ → ℕ → Meter → Fed
+refusal number place m = record { meter = m; answer = record { number = number; place = place } }
 
--- "Checks run in this order": "a feed 1, 11, 10"
-unfoldable pub feedOf : Graph → Meter → ℕ → Fed
-feedOf g m q =
+-- "Checks run in this order": "a feed 1, 11, 10", and request C-17: 18 "after 1 in the meter"
+unfoldable pub feedOf : Scale → Meter → ℕ → Fed
+feedOf s m q =
     -- "more than 32,768 words"
-    refuseIf (ltb mostWords (g .size)) (refusal «TOO_MANY_WORDS» m)
+    refuseIf (ltb mostWords (s .graph .size)) (refusal «TOO_MANY_WORDS» 0 m)
+    -- "a weight count other than 128, or a weight of 0 ..; the place is the lowest zero weight, or 0 for the count"
+    (refuseIf (refusesWeights (s .table)) (refusal «WEIGHTS_REFUSED» (weightsPlace (s .table)) m)
     -- "meter not of this function"
-    (refuseIf (isForeign (g .size) m) (refusal «FOREIGN_METER» m)
+    (refuseIf (isForeign (s .graph .size) m) (refusal «FOREIGN_METER» 0 m)
     -- "fed word is n or more, or no step from the last, or the first is not 0"
-    (refuseIf (isStray g m q) (refusal «NO_STEP» m)
-    (record { meter = movedTo g m q; number = «ACCEPTED» })))
+    (refuseIf (isStray (s .graph) m q) (refusal «NO_STEP» 0 m)
+    (record { meter = movedTo s m q; answer = record { number = «ACCEPTED»; place = 0 } }))))

@@ -4,3 +4,4 @@ pub mod Model
 pub mod Calls
 pub mod Bound
 pub mod Demand3
+pub mod Earlier

@@ -4,9 +4,8 @@ use mathlib.Core.Bool.{Bool, true, false, cond, _&&_, _||_}
 use mathlib.Core.List.{List, [], _∷_, _++_}
 use Prim.Native.Nat.{ℕ, _+_}
 use lib.Dec.{ltb, eqb}
-use lib.ListN.{length}
 use Rattle.common.specs.Numbers.{«ACCEPTED», «NO_STEP»}
-use Rattle.graph.specs.Graph.{Graph}
+use Rattle.graph.specs.Graph.{Graph, weigh}
 use Rattle.meter.specs.Feed.{follows}
 
 -- "the calls: begin, or feed with its word number"
@@ -85,7 +84,7 @@ abbrev pub sinceService : Graph → ℕ → List ℕ → List ℕ
 sinceService g p [] = p ∷ []
 sinceService g p (q ∷ qs) = cond (anyServes g p (q ∷ qs)) (sinceService g q qs) (p ∷ q ∷ qs)
 
--- "words since service count" these, ".. 0 if empty"
-abbrev pub wordsSince : Graph → List ℕ → ℕ
-wordsSince g [] = 0
-wordsSince g (p ∷ ps) = length (sinceService g p ps)
+-- "words since service count" these, by request C-17 what they weigh, ".. 0 if empty"
+abbrev pub weightSince : Graph → (ℕ → ℕ) → List ℕ → ℕ
+weightSince g w [] = 0
+weightSince g w (p ∷ ps) = weigh w (sinceService g p ps)

@@ -1,7 +1,7 @@
 // The forms that document 01 names: the controller holds one meter and lends it to be updated. C calls the same two functions.
 ghost use mathlib.Core.Path.{_≡_};
-ghost use Rattle.runs.specs.Instance.{graphOf};
-ghost use Rattle.meter.specs.Feed.{beginOf, feedOf};
+ghost use Rattle.meter.specs.Feed.{scaleOf, beginOf, feedOf};
+use crate::step::FeedAnswer;
 use crate::step::Meter;
 use crate::step::begin_step;
 use crate::step::feed_step;
@@ -14,12 +14,18 @@ pub extern "C" fn lawendeb_begin(m: &mut Meter)
     *m = begin_step(*m);
 }
 
-// For C: `uint32_t lawendeb_feed_2(const uint32_t *words, size_t n, struct lawendeb_meter *m, size_t q)`.
+// For C: `struct lawendeb_answer lawendeb_feed_3(const uint32_t *words, size_t n, const uint8_t *weights, size_t weights_n,
+// struct lawendeb_meter *m, size_t q)`.
 #[no_mangle]
-pub extern "C" fn lawendeb_feed_2(words: &[u32], m: &mut Meter, q: usize) -> u32
-    ensures { λ r. ⌜ (r ≡ feedOf (graphOf (now (words .entry))) (now (m .entry)) q .number) × (now (m .exit) ≡ feedOf (graphOf (now (words .entry))) (now (m .entry)) q .meter) ⌝ }
+pub extern "C" fn lawendeb_feed_3(
+    words: &[u32],
+    weights: &[u8],
+    m: &mut Meter,
+    q: usize,
+) -> FeedAnswer
+    ensures { λ r. ⌜ (r ≡ feedOf (scaleOf (now (words .entry)) (now (weights .entry))) (now (m .entry)) q .answer) × (now (m .exit) ≡ feedOf (scaleOf (now (words .entry)) (now (weights .entry))) (now (m .entry)) q .meter) ⌝ }
 {
-    let f = feed_step(words, *m, q);
+    let f = feed_step(words, weights, *m, q);
     *m = f.meter;
-    f.number
+    f.answer
 }

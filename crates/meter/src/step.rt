@@ -1,20 +1,27 @@
 // Begin and feed by value: a meter goes in, a meter comes out.
 ghost use mathlib.Core.Path.{_≡_};
-ghost use Prim.Native.Nat.{_<_, _≤_};
+ghost use Prim.Native.Nat.{_*_, _<_, _≤_};
+ghost use lib.ListN.{length};
 ghost use Rattle.common.specs.Limits.{mostWords};
 ghost use Rattle.runs.specs.Instance.{graphOf};
-ghost use Rattle.meter.specs.Feed.{beginOf, oneService, movedTo, isForeign, isStray, feedOf};
+ghost use Rattle.runs.specs.Weights.{heaviestWeight, weightOf};
+ghost use Rattle.meter.specs.Feed.{scaleOf, beginOf, oneService, movedTo, isForeign, isStray, refusal, feedOf};
 use common::limits::MOST_WORDS;
 
-// A feed's number has 32 bits, as C gets it.
+// A feed's number has 64 bits, as C gets it.
 
-const ACCEPTED: u32 = common::numbers::ACCEPTED as u32;
+const ACCEPTED: u64 = common::numbers::ACCEPTED as u64;
 
-const TOO_MANY_WORDS: u32 = common::numbers::TOO_MANY_WORDS as u32;
+const TOO_MANY_WORDS: u64 = common::numbers::TOO_MANY_WORDS as u64;
 
-const NO_STEP: u32 = common::numbers::NO_STEP as u32;
+const NO_STEP: u64 = common::numbers::NO_STEP as u64;
 
-const FOREIGN_METER: u32 = common::numbers::FOREIGN_METER as u32;
+const FOREIGN_METER: u64 = common::numbers::FOREIGN_METER as u64;
+
+const WEIGHTS_REFUSED: u64 = common::numbers::WEIGHTS_REFUSED as u64;
+
+// A meter's count is at most so much for each word up to the last (request C-17).
+const HEAVIEST: usize = 255;
 
 // Document 01, "Meter": services stay at this.
 const CEILING: u32 = 4294967295;
@@ -25,15 +32,22 @@ const CEILING: u32 = 4294967295;
 pub struct Meter {
     pub begun: u32,
     pub last: u32,
-    // Words since service.
+    // What the words since service weigh.
     pub count: u32,
     pub services: u32,
 }
 
-// A meter after a feed, and the feed's number: 0, or the refusal's.
+// "Each answer carries its number, 0 when accepted, and a place, 0 unless named.": what a feed answers, as C gets it.
+#[repr(C)]
+pub struct FeedAnswer {
+    pub number: u64,
+    pub place: u64,
+}
+
+// A meter after a feed, and the feed's answer.
 pub struct Fed {
     pub meter: Meter,
-    pub number: u32,
+    pub answer: FeedAnswer,
 }
 
 // Begin: not begun, 0, 0; the services stay.
@@ -82,7 +96,7 @@ fn is_foreign(n: usize, m: Meter) -> bool
     if count == 0 {
         return true;
     }
-    last + 1 < count
+    HEAVIEST * (last + 1) < count
 }
 
 // Number 10: no word that can follow.
@@ -99,16 +113,17 @@ fn is_stray(words: &[u32], m: Meter, q: usize) -> bool
 }
 
 // The meter at q. What the checks leave is small enough to add to and to keep in 32 bits.
-fn moved(words: &[u32], m: Meter, q: usize) -> Meter
-    requires { ⌜ (q < mostWords) × (m .count ≤ mostWords) ⌝ }
-    ensures { λ r. ⌜ r ≡ movedTo (graphOf (now (words .entry))) m q ⌝ }
+fn moved(words: &[u32], weights: &[u8], m: Meter, q: usize) -> Meter
+    requires { ⌜ (q < mostWords) × (m .count ≤ heaviestWeight * mostWords) ⌝ }
+    ensures { λ r. ⌜ r ≡ movedTo (scaleOf (now (words .entry)) (now (weights .entry))) m q ⌝ }
 {
     let to = q as u32;
+    let weight = runs::weighing::weight_at(words, weights, q);
     if m.begun == 0 {
         return Meter {
             begun: 1,
             last: to,
-            count: 1,
+            count: weight,
             services: m.services,
         };
     }
@@ -116,43 +131,53 @@ fn moved(words: &[u32], m: Meter, q: usize) -> Meter
         return Meter {
             begun: 1,
             last: to,
-            count: 1,
+            count: weight,
             services: one_service(m.services),
         };
     }
     Meter {
         begun: 1,
         last: to,
-        count: m.count + 1,
+        count: m.count + weight,
         services: m.services,
     }
 }
 
-// A feed of word q, in constant time: of the words only those are read that decide the edge.
-pub fn feed_step(words: &[u32], m: Meter, q: usize) -> Fed
-    ensures { λ r. ⌜ r ≡ feedOf (graphOf (now (words .entry))) m q ⌝ }
+// A refusal leaves the meter as it was.
+fn refused(m: Meter, number: u64, place: usize) -> Fed
+    ensures { λ r. ⌜ r ≡ refusal number place m ⌝ }
+{
+    Fed {
+        meter: m,
+        answer: FeedAnswer {
+            number,
+            place: place as u64,
+        },
+    }
+}
+
+// A feed of word q, in bounded time: of the words only those are read that decide the edge and the weight.
+pub fn feed_step(words: &[u32], weights: &[u8], m: Meter, q: usize) -> Fed
+    ensures { λ r. ⌜ r ≡ feedOf (scaleOf (now (words .entry)) (now (weights .entry))) m q ⌝ }
 {
     if MOST_WORDS < words.len() {
-        return Fed {
-            meter: m,
-            number: TOO_MANY_WORDS,
-        };
+        return refused(m, TOO_MANY_WORDS, 0);
+    }
+    if runs::weighing::refuses_weights(weights) {
+        return refused(m, WEIGHTS_REFUSED, runs::weighing::weights_place(weights));
     }
     if is_foreign(words.len(), m) {
-        return Fed {
-            meter: m,
-            number: FOREIGN_METER,
-        };
+        return refused(m, FOREIGN_METER, 0);
     }
     if is_stray(words, m, q) {
-        return Fed {
-            meter: m,
-            number: NO_STEP,
-        };
+        return refused(m, NO_STEP, 0);
     }
-    let next = moved(words, m, q);
+    let next = moved(words, weights, m, q);
     Fed {
         meter: next,
-        number: ACCEPTED,
+        answer: FeedAnswer {
+            number: ACCEPTED,
+            place: 0,
+        },
     }
 }

@@ -27,6 +27,8 @@ const GENERIC_FOR: [u32; 4] = [
     65613,
     OP_RETURN0 as u32,
 ];
+// Weights of 1.
+const ONES: [u8; 128] = [1; 128];
 // A bad word.
 const INVALID: [u32; 1] = [OP_EXTRAARG as u32];
 
@@ -39,30 +41,34 @@ fn show(m: Meter) {
     end();
 }
 
-fn call(words: &[u32], m: Meter, q: usize) -> Meter {
+fn call(words: &[u32], weights: &[u8], m: Meter, q: usize) -> Meter {
     if q == BEGIN {
         let begun = meter::begin_step(m);
         text(b"begin");
         show(begun);
         return begun;
     }
-    let fed = meter::feed_step(words, m, q);
+    let fed = meter::feed_step(words, weights, m, q);
     let next = fed.meter;
     text(b"feed");
     number(q as u64);
     text(b":");
-    number_u32(fed.number);
+    number(fed.answer.number);
+    if fed.answer.place != 0 {
+        text(b" at");
+        number(fed.answer.place);
+    }
     show(next);
     next
 }
 
-fn replay(title: &[u8], words: &[u32], start: Meter, calls: &[usize]) {
+fn replay(title: &[u8], words: &[u32], weights: &[u8], start: Meter, calls: &[usize]) {
     text(title);
     show(start);
     let mut m = start;
     let mut i = 0;
     while i < calls.len() {
-        m = call(words, m, calls[i]);
+        m = call(words, weights, m, calls[i]);
         i += 1;
     }
 }
@@ -84,33 +90,52 @@ fn moves() -> [u32; 32769]
 }
 
 // Feeds words 0 to the last, and writes only what is left in the end.
-fn straight(words: &[u32]) {
+fn straight(words: &[u32], weights: &[u8]) {
     let mut m = meter(0, 0, 0, 0);
-    let mut refused = 0;
+    let mut refused = 0u64;
     let mut q = 0;
     while q < words.len() {
-        let fed = meter::feed_step(words, m, q);
+        let fed = meter::feed_step(words, weights, m, q);
         m = fed.meter;
-        if fed.number != 0 {
-            refused = fed.number;
+        if fed.answer.number != 0 {
+            refused = fed.answer.number;
         }
         q += 1;
     }
     text(b"straight on:");
-    number_u32(refused);
+    number(refused);
     show(m);
 }
 
 // Number 1, one word past the most and at the most.
 fn at_most(words: &[u32]) {
-    replay(b"32,769 words", words, meter(0, 0, 0, 0), &[0, 1, BEGIN]);
-    replay(b"32,769 words, count 0", words, meter(1, 0, 0, 0), &[0]);
+    replay(
+        b"32,769 words",
+        words,
+        &ONES,
+        meter(0, 0, 0, 0),
+        &[0, 1, BEGIN],
+    );
+    replay(
+        b"32,769 words, count 0",
+        words,
+        &ONES,
+        meter(1, 0, 0, 0),
+        &[0],
+    );
     if words.len() < MOST_WORDS {
         return;
     }
     let most = &words[..MOST_WORDS];
-    replay(b"32,768 words", most, meter(0, 0, 0, 0), &[32768, 0, 1, 3]);
-    straight(most);
+    replay(
+        b"32,768 words",
+        most,
+        &ONES,
+        meter(0, 0, 0, 0),
+        &[32768, 0, 1, 3],
+    );
+    straight(most, &ONES);
+    straight(most, &[255u8; 128]);
 }
 
 // Feeds that go on, and refused ones between.
@@ -118,6 +143,7 @@ fn on_the_sheet() {
     replay(
         b"the sheet",
         &SHEET,
+        &ONES,
         meter(0, 0, 0, 9),
         &[
             1,
@@ -149,19 +175,22 @@ fn services() {
     replay(
         b"a step to itself",
         &SELF_LOOP,
+        &ONES,
         meter(0, 0, 0, 0),
         &[0, 0, 0, 1, 1, 0],
     );
     replay(
         b"the ceiling",
         &SELF_LOOP,
+        &ONES,
         meter(0, 0, 0, 4294967293),
         &[0, 0, 0, 0, 0, BEGIN, 0, 0],
     );
-    replay(b"a call", &CALLS, meter(0, 0, 0, 0), &[0, 1, 2, 0]);
+    replay(b"a call", &CALLS, &ONES, meter(0, 0, 0, 0), &[0, 1, 2, 0]);
     replay(
         b"a generic for",
         &GENERIC_FOR,
+        &ONES,
         meter(0, 0, 0, 0),
         &[0, 1, 2, 1, 2, 3],
     );
@@ -169,11 +198,18 @@ fn services() {
 
 // The first word may be bad, but it has to be there.
 fn first_words() {
-    replay(b"a bad word", &INVALID, meter(0, 0, 0, 0), &[1, 0, 0, 1]);
-    replay(b"no words", &SHEET[..0], meter(0, 0, 0, 0), &[0, 1]);
+    replay(
+        b"a bad word",
+        &INVALID,
+        &ONES,
+        meter(0, 0, 0, 0),
+        &[1, 0, 0, 1],
+    );
+    replay(b"no words", &SHEET[..0], &ONES, meter(0, 0, 0, 0), &[0, 1]);
     replay(
         b"begun, no words",
         &SHEET[..0],
+        &ONES,
         meter(1, 0, 1, 0),
         &[0, BEGIN, 0],
     );
@@ -184,6 +220,7 @@ fn held(title: &[u8], begun: u32, last: u32, count: u32) {
     replay(
         title,
         &SHEET,
+        &ONES,
         meter(begun, last, count, 5),
         &[9, 1, BEGIN, 0, 1],
     );
@@ -195,8 +232,10 @@ fn other_functions() {
     held(b"begun, last n - 1", 1, 3, 4);
     held(b"begun, the highest last", 1, 4294967295, 1);
     held(b"begun, count 0", 1, 0, 0);
-    held(b"begun, count last + 2", 1, 0, 2);
-    held(b"begun, count last + 1", 1, 0, 1);
+    held(b"begun, count above 255 times (last + 1)", 1, 1, 511);
+    held(b"begun, count 255 times (last + 1)", 1, 1, 510);
+    held(b"begun, count 256", 1, 0, 256);
+    held(b"begun, count 255", 1, 0, 255);
     held(b"begun, the highest count", 1, 0, 4294967295);
     held(b"begun by another number", 7, 0, 1);
     held(b"not begun, last 1", 0, 1, 0);
@@ -204,10 +243,47 @@ fn other_functions() {
     held(b"not begun", 0, 0, 0);
 }
 
+// All weights 1, but for one.
+fn but_one(opcode: usize, weight: u8) -> [u8; 128] {
+    let mut weights = [1u8; 128];
+    if opcode < 128 {
+        weights[opcode] = weight;
+    }
+    weights
+}
+
+// Request C-17: the count weighs, and number 18 comes after 1 and before 11.
+fn by_weight(words: &[u32]) {
+    let by_addi = but_one(OP_ADDI as usize, 7);
+    let calls = [0, 1, 3, 1, 2, 3, 1];
+    replay(
+        b"the sheet, ADDI 7",
+        &SHEET,
+        &by_addi,
+        meter(0, 0, 0, 0),
+        &calls,
+    );
+    let none = meter(0, 0, 0, 0);
+    let foreign = meter(1, 0, 0, 0);
+    replay(b"a weight of 0", &SHEET, &but_one(90, 0), none, &[0, 9]);
+    replay(
+        b"the first word heavy",
+        &INVALID,
+        &but_one(OP_EXTRAARG as usize, 250),
+        none,
+        &[0, 0],
+    );
+    replay(b"127 weights", &SHEET, &[1u8; 127], foreign, &[0, BEGIN]);
+    replay(b"129 weights", &SHEET, &[1u8; 129], none, &[0]);
+    replay(b"no weights", &SHEET, &[], none, &[0]);
+    replay(b"32,769 words, no weights", words, &[], none, &[0]);
+}
+
 fn main() {
     on_the_sheet();
     services();
     first_words();
     other_functions();
+    by_weight(&moves());
     at_most(&moves());
 }

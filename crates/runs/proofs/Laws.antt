@@ -4,8 +4,10 @@ use Rattle.runs.proofs.Steps.{forward}
 use Rattle.runs.proofs.Words.{below}
 use Rattle.runs.proofs.Lawful.{lawful}
 use Rattle.runs.proofs.Lvm.{agreement-holds}
-use Rattle.runs.proofs.Demand.{demand, refused-exactly}
+use Rattle.runs.proofs.Counted.{earlier-run, ones-accepted, ones-weigh}
+use Rattle.runs.proofs.Demand.{demand}
 use Rattle.runs.proofs.Slices.{enough, slices}
+use Rattle.runs.proofs.Weights.{weight-laws}
 
 pub laws : Laws
 laws =
@@ -15,7 +17,10 @@ laws =
       lawful = lawful;
       agreement = agreement-holds;
       enough = enough;
-      demand = λ ws a b e. demand ws a b (e .few) (e .marks-long) (e .lengths-long);
-      refused-exactly = refused-exactly;
+      demand = λ ws weights a b e bytes. demand ws weights (record { accepted = e .weighed; bytes = bytes }) a b (e .few) (e .marks-long) (e .lengths-long);
       slices = slices;
+      earlier-run = earlier-run;
+      ones-accepted = ones-accepted;
+      ones-weigh = ones-weigh;
+      weights = weight-laws;
     }

@@ -1,4 +1,5 @@
 pub mod Columns
+pub mod Counted
 pub mod Demand
 pub mod Entries
 pub mod Held
@@ -11,4 +12,5 @@ pub mod Outcome
 pub mod Slices
 pub mod Steps
 pub mod Turn
+pub mod Weights
 pub mod Words

@@ -102,6 +102,11 @@ module _ (m l : List ℕ) (p : ℕ) where
         (λ d. k .steps (e % «TARGETS») (subst (λ (s : Successors). In (e % «TARGETS») (listOf s)) (sym (entry-both e p none-not next-not d)) (ordered-among (p + 1) (e % «TARGETS») .other)))
         (same-or-not (e / «TARGETS») «KIND_TARGET»)
 
+-- only the word's own weight counts
+pub measures-at : (w : ℕ → ℕ) (m l : List ℕ) (p i : ℕ) {v i′ x : ℕ} → x ≡ w p → Measures (λ _. x) m l p i v i′ → Measures w m l p i v i′
+measures-at w m l p i e d =
+    record { length-is = d .length-is ∙ ap (λ (y : ℕ). lengthIn (λ _. y) m l p) e; invalid-is = d .invalid-is }
+
 -- what a graph of entries takes from an edge does not hang on the entries
 best-in : (es fs : List ℕ) (p : ℕ) (f : ℕ → ℕ) (l : List ℕ) → best (graphIn es) p f l ≡ best (graphIn fs) p f l
 best-in es fs p f [] = refl

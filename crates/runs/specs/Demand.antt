@@ -1,19 +1,20 @@
 -- Demand 3, its first half: what the answer of `longest_run` says of the paths through the words. proofs/Demand.antt proves it of
--- `runOf`, which the contract of `longest_run` cites, for at most 32,768 words and slices that are at least as long.
+-- `runOf`, which the contract of `longest_run` cites, for at most 32,768 words,
+-- weights that number 18 accepts, and slices that are at least as long.
 -- Assumes nothing.
 use mathlib.Core.Path.{_≡_}
 use mathlib.Core.Logic.{_↔_, _⊎_}
 use mathlib.Core.Bool.{true}
 use mathlib.Core.List.{List, _∷_}
-use Prim.Native.Nat.{ℕ, _≤_, _<_}
+use Prim.Native.Nat.{ℕ, _*_, _≤_, _<_}
 use lib.ListN.{length}
-use Rattle.common.specs.Limits.{mostWords}
 use Rattle.common.specs.Numbers.{«ACCEPTED», «NO_WORDS», «REACHES_INVALID»}
+use Rattle.graph.specs.Graph.{Reachable, Segment, weigh}
 use Rattle.runs.specs.declared.longest.Run.{Run}
-use Rattle.graph.specs.Graph.{Reachable, Segment}
 use Rattle.runs.specs.Steps.{isInvalid}
 use Rattle.runs.specs.Successors.{successorsOf}
 use Rattle.runs.specs.Instance.{graphOf}
+use Rattle.runs.specs.Weights.{heaviestWeight, weightOf}
 use Rattle.runs.specs.Run.{numberOf, placeOf, longestOf, firstOf}
 
 -- some course meets word p, and it is bad
@@ -26,26 +27,17 @@ pub record MeetsInvalid (ws : List ℕ) : Type 0 where
   pub word : ℕ
   pub met : MeetsInvalidAt ws word
 
--- a stretch of a course that has k words, and starts at p
-pub record Passes (ws : List ℕ) (p k : ℕ) : Type 0 where
+-- a stretch of a course that weighs k, and starts at p: request C-17, "\"L words\" in the old wording becomes \"weight L\"". "A stretch
+-- beginning at a word weighs that word too."
+pub record Passes (ws weights : List ℕ) (p k : ℕ) : Type 0 where
   pub rest : List ℕ
   pub segment : Segment (graphOf ws) p rest
-  pub count : length (p ∷ rest) ≡ k
+  pub weight : weigh (weightOf ws weights) (p ∷ rest) ≡ k
 
--- "the longest run is over 32,768"
-pub record RunsTooLong (ws : List ℕ) : Type 0 where
-  pub start : ℕ
-  pub count : ℕ
-  pub over : mostWords < count
-  pub passes : Passes ws start count
-
--- r is the answer
-pub record Demand (ws : List ℕ) (r : Run) : Type 0 where
-  -- "it is refused exactly if it has no words, some course meets a bad word ..": the third ground is never met
+-- r is the answer. Request C-17: "No run is refused for its length: demand 3 loses that ground and supposes weights that 18 accepts"
+pub record Demand (ws weights : List ℕ) (r : Run) : Type 0 where
+  -- "it is refused exactly if it has no words, some course meets a bad word"
   pub refused : («ACCEPTED» < numberOf r) ↔ ((length ws ≡ 0) ⊎ MeetsInvalid ws)
-  -- request C-13: "Inside a stretch every step goes to a higher word, so L cannot pass the number of words", and so no course passes more
-  -- than 32,768 words without a service
-  pub never-long : RunsTooLong ws → ⊥
   -- "Checks run in this order": "no words"
   pub seven : (numberOf r ≡ «NO_WORDS») ↔ (length ws ≡ 0)
   -- "a reachable bad word"; where there are no words, none is met
@@ -55,14 +47,11 @@ pub record Demand (ws : List ℕ) (r : Run) : Type 0 where
   pub place-lowest : numberOf r ≡ «REACHES_INVALID» → (p : ℕ) → MeetsInvalidAt ws p → placeOf r ≤ p
   -- "a place, 0 unless named"
   pub no-place : (numberOf r ≡ «REACHES_INVALID» → ⊥) → placeOf r ≡ 0
-  -- "If accepted, no course passes more than L words without a service between them"
-  pub bounded : numberOf r ≡ «ACCEPTED» → (p k : ℕ) → Passes ws p k → k ≤ longestOf r
+  -- "If accepted, no course passes more than [weight] L without a service between them"
+  pub bounded : numberOf r ≡ «ACCEPTED» → (p k : ℕ) → Passes ws weights p k → k ≤ longestOf r
   -- "and some course passes exactly L"
-  pub reached : numberOf r ≡ «ACCEPTED» → Passes ws (firstOf r) (longestOf r)
-  -- "and the lowest word at which an L-word stretch begins"
-  pub first-lowest : numberOf r ≡ «ACCEPTED» → (p : ℕ) → Passes ws p (longestOf r) → firstOf r ≤ p
-
--- Demand 3's own sentence, with its third ground: "it is refused exactly if it has no words, some course meets a bad word, or the longest run
--- is over 32,768". proofs/Demand.antt takes it from `Demand` in a line.
-abbrev pub RefusedExactly : List ℕ → Run → Type 0
-RefusedExactly ws r = («ACCEPTED» < numberOf r) ↔ ((length ws ≡ 0) ⊎ (MeetsInvalid ws ⊎ RunsTooLong ws))
+  pub reached : numberOf r ≡ «ACCEPTED» → Passes ws weights (firstOf r) (longestOf r)
+  -- "and the lowest word at which [a stretch of weight L] begins"
+  pub first-lowest : numberOf r ≡ «ACCEPTED» → (p : ℕ) → Passes ws weights p (longestOf r) → firstOf r ≤ p
+  -- request C-13, "L cannot pass the number of words", each of which weighs 255 at most: 32 bits hold L
+  pub ceiling : longestOf r ≤ heaviestWeight * length ws

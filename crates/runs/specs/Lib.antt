@@ -4,7 +4,9 @@ pub mod Steps
 pub mod Successors
 pub mod Lvm
 pub mod Instance
+pub mod Weights
 pub mod Run
+pub mod Counted
 pub mod Demand
 pub mod Slices
 pub mod Laws

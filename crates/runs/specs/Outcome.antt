@@ -14,22 +14,22 @@ use Rattle.graph.specs.Marks.{markOf}
 use Rattle.graph.specs.Longest.{lengthOf, longest, first}
 use Rattle.runs.specs.declared.longest.Run.{Run}
 use Rattle.runs.specs.declared.longest.Run.the-variants.{Accepted, Refused}
-use Rattle.runs.specs.Steps.{unitWeight}
 use Rattle.runs.specs.Instance.{graphOf}
+use Rattle.runs.specs.Weights.{weightOf}
 use Rattle.runs.specs.Run.{numberOf, lowestInvalid}
 
 -- what the checks after the search say
-abbrev pub decided : List ℕ → Run
-decided ws =
+abbrev pub decided : List ℕ → List ℕ → Run
+decided ws weights =
     refuseIf (ltb (lowestInvalid ws) (length ws)) (Refused «REACHES_INVALID» (lowestInvalid ws))
-    (Accepted (longest (graphOf ws) unitWeight) (first (graphOf ws) unitWeight))
+    (Accepted (longest (graphOf ws) (weightOf ws weights)) (first (graphOf ws) (weightOf ws weights)))
 
 -- the answer, and what the marks m and the lengths l hold
-pub record Decided (ws : List ℕ) (r : Run) (m l : List ℕ) : Type 0 where
-  pub answer : r ≡ decided ws
+pub record Decided (ws weights : List ℕ) (r : Run) (m l : List ℕ) : Type 0 where
+  pub answer : r ≡ decided ws weights
   pub marks : m ≡ tabulate (markOf (graphOf ws)) 0 (length ws)
   pub lengths :
       l
       ≡ cond (eqb (numberOf r) «ACCEPTED»)
-      (tabulate (lengthOf (graphOf ws) unitWeight) 0 (length ws))
+      (tabulate (lengthOf (graphOf ws) (weightOf ws weights)) 0 (length ws))
       (tabulate (λ p. 0) 0 (length ws))

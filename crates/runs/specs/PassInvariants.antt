@@ -1,10 +1,10 @@
 -- What the private functions of the pass over the lengths ask and leave, over any weights w. No exported contract cites it. No word is
--- read here, and nothing of crate `fields` is named.
+-- read here.
 -- Assumes nothing.
 use mathlib.Core.Path.{_≡_}
 use mathlib.Core.Bool.{cond}
 use mathlib.Core.List.{List}
-use Prim.Native.Nat.{ℕ, _+_, _%_, _≤_, _<_}
+use Prim.Native.Nat.{ℕ, _+_, _*_, _%_, _≤_, _<_}
 use lib.Dec.{eqb}
 use lib.ListN.{length, getD}
 use Rattle.common.specs.Limits.{mostWords}
@@ -12,8 +12,13 @@ use Rattle.graph.specs.Graph.{Graph, In, Lawful}
 use Rattle.graph.specs.Longest.{best, lengthOf}
 use Rattle.runs.specs.declared.edges.Successors.{Successors}
 use Rattle.runs.specs.Steps.{listOf, isInvalid}
+use Rattle.runs.specs.Weights.{heaviestWeight}
 use Rattle.runs.specs.Entries.{«ENTRIES», entryAt, entries, stepsOf, graphIn, lowestBy}
 use Rattle.runs.specs.SearchInvariants.{Held, Marked}
+
+-- no length is above it: as many words as are allowed, each of the heaviest weight
+abbrev pub mostWeight : ℕ
+mostWeight = heaviestWeight * mostWords
 
 abbrev pub at : List ℕ → ℕ → ℕ
 at l p = getD l p 0

@@ -6,17 +6,18 @@ use Prim.Native.Nat.{ℕ}
 use lib.Dec.{ltb, eqb}
 use lib.ListN.{length}
 use Rattle.common.specs.Limits.{mostWords}
-use Rattle.common.specs.Numbers.{«ACCEPTED», «TOO_MANY_WORDS», «SHORT_SLICE», «NO_WORDS», «REACHES_INVALID»}
+use Rattle.common.specs.Numbers.{«ACCEPTED», «TOO_MANY_WORDS», «SHORT_SLICE», «NO_WORDS», «REACHES_INVALID», «WEIGHTS_REFUSED»}
 use Rattle.common.specs.Chain.{refuseIf}
-use Rattle.common.specs.Lowest.{lowest}
 use Rattle.common.specs.Lists.{over}
-use Rattle.runs.specs.declared.longest.Run.{Run}
-use Rattle.runs.specs.declared.longest.Run.the-variants.{Accepted, Refused}
+use Rattle.common.specs.Lowest.{lowest}
 use Rattle.graph.specs.Marks.{markOf}
 use Rattle.graph.specs.Longest.{lengthOf, longest, first}
-use Rattle.runs.specs.Steps.{isInvalid, unitWeight}
+use Rattle.runs.specs.declared.longest.Run.{Run}
+use Rattle.runs.specs.declared.longest.Run.the-variants.{Accepted, Refused}
+use Rattle.runs.specs.Steps.{isInvalid}
 use Rattle.runs.specs.Successors.{successorsOf}
 use Rattle.runs.specs.Instance.{graphOf}
+use Rattle.runs.specs.Weights.{weightOf, refusesWeights, weightsPlace}
 
 -- "Each answer carries its number, 0 when accepted, and a place, 0 unless named. On refusal L and its first word are 0."
 abbrev pub numberOf : Run → ℕ
@@ -44,26 +45,28 @@ reachesInvalid ws p = eqb (markOf (graphOf ws) p) 1 && isInvalid (successorsOf w
 unfoldable pub lowestInvalid : List ℕ → ℕ
 lowestInvalid ws = lowest (reachesInvalid ws) (length ws)
 
--- "Checks run in this order": of the words and of the lengths of the marks slice and the lengths slice
-unfoldable pub runOf : List ℕ → ℕ → ℕ → Run
-runOf ws marks lengths =
+-- "Checks run in this order": of the words, the weights, and the lengths of the marks slice and the lengths slice
+unfoldable pub runOf : List ℕ → List ℕ → ℕ → ℕ → Run
+runOf ws weights marks lengths =
     -- "more than 32,768 words"
     refuseIf (ltb mostWords (length ws)) (Refused «TOO_MANY_WORDS» 0)
     -- "a lent result slice shorter than the words"
     (refuseIf (ltb marks (length ws) || ltb lengths (length ws)) (Refused «SHORT_SLICE» 0)
+    -- request C-17: "18 a weight count other than 128, or a weight of 0, checked after 6"
+    (refuseIf (refusesWeights weights) (Refused «WEIGHTS_REFUSED» (weightsPlace weights))
     -- "no words"
     (refuseIf (eqb (length ws) 0) (Refused «NO_WORDS» 0)
     -- "a reachable bad word; place: the lowest"
     (refuseIf (ltb (lowestInvalid ws) (length ws)) (Refused «REACHES_INVALID» (lowestInvalid ws))
-    (Accepted (longest (graphOf ws) unitWeight) (first (graphOf ws) unitWeight)))))
+    (Accepted (longest (graphOf ws) (weightOf ws weights)) (first (graphOf ws) (weightOf ws weights)))))))
 
 -- "Nothing lent is altered, except that 8 .. leave[s] the reachable marks and n zero lengths."
 abbrev pub untouched : ℕ → Bool
 untouched number = not (eqb number «ACCEPTED» || eqb number «REACHES_INVALID»)
 
-module _ (ws marks lengths : List ℕ) where
+module _ (ws weights marks lengths : List ℕ) where
   abbrev pub numberIs : ℕ
-  numberIs = numberOf (runOf ws (length marks) (length lengths))
+  numberIs = numberOf (runOf ws weights (length marks) (length lengths))
 
   -- the marks slice after the run
   unfoldable pub marksAfter : List ℕ
@@ -73,4 +76,4 @@ module _ (ws marks lengths : List ℕ) where
   unfoldable pub lengthsAfter : List ℕ
   lengthsAfter =
       cond (untouched numberIs) lengths
-      (cond (eqb numberIs «ACCEPTED») (over (lengthOf (graphOf ws) unitWeight) (length ws) lengths) (over (λ p. 0) (length ws) lengths))
+      (cond (eqb numberIs «ACCEPTED») (over (lengthOf (graphOf ws) (weightOf ws weights)) (length ws) lengths) (over (λ p. 0) (length ws) lengths))

@@ -24,10 +24,10 @@ pub record ReachableMarks (ws before after : List ℕ) : Type 0 where
   pub zero : (p : ℕ) → p < length ws → (getD after p 0 ≡ 0) ↔ (Reachable (graphOf ws) p → ⊥)
   pub kept : Kept (length ws) before after
 
--- "the most words in a stretch that starts there": none has more, and one has as many
-pub record SegmentLengths (ws before after : List ℕ) : Type 0 where
-  pub most : (p k : ℕ) → Passes ws p k → k ≤ getD after p 0
-  pub reached : (p : ℕ) → Reachable (graphOf ws) p → Passes ws p (getD after p 0)
+-- "the most words in a stretch that starts there", by request C-17 the most that one weighs: none weighs more, and one as much
+pub record SegmentLengths (ws weights before after : List ℕ) : Type 0 where
+  pub most : (p k : ℕ) → Passes ws weights p k → k ≤ getD after p 0
+  pub reached : (p : ℕ) → Reachable (graphOf ws) p → Passes ws weights p (getD after p 0)
   -- "0 if unreachable"
   pub none : (p : ℕ) → p < length ws → (Reachable (graphOf ws) p → ⊥) → getD after p 0 ≡ 0
   pub kept : Kept (length ws) before after
@@ -37,22 +37,22 @@ pub record ZeroLengths (ws before after : List ℕ) : Type 0 where
   pub each : (p : ℕ) → p < length ws → getD after p 0 ≡ 0
   pub kept : Kept (length ws) before after
 
-module _ (ws marks lengths : List ℕ) where
+module _ (ws weights marks lengths : List ℕ) where
   -- the number that is given after the search
   abbrev pub RefusedLate : Type 0
-  RefusedLate = numberIs ws marks lengths ≡ «REACHES_INVALID»
+  RefusedLate = numberIs ws weights marks lengths ≡ «REACHES_INVALID»
 
   -- the numbers that are given before it: neither acceptance nor that one
   abbrev pub RefusedEarly : Type 0
-  RefusedEarly = (numberIs ws marks lengths ≡ «ACCEPTED» → ⊥) × (RefusedLate → ⊥)
+  RefusedEarly = (numberIs ws weights marks lengths ≡ «ACCEPTED» → ⊥) × (RefusedLate → ⊥)
 
   pub record Slices : Type 0 where
     -- an accepted run
-    pub marks-accepted : numberIs ws marks lengths ≡ «ACCEPTED» → ReachableMarks ws marks (marksAfter ws marks lengths)
-    pub lengths-accepted : numberIs ws marks lengths ≡ «ACCEPTED» → SegmentLengths ws lengths (lengthsAfter ws marks lengths)
+    pub marks-accepted : numberIs ws weights marks lengths ≡ «ACCEPTED» → ReachableMarks ws marks (marksAfter ws weights marks lengths)
+    pub lengths-accepted : numberIs ws weights marks lengths ≡ «ACCEPTED» → SegmentLengths ws weights lengths (lengthsAfter ws weights marks lengths)
     -- "8 .. leave[s] the reachable marks and n zero lengths"
-    pub marks-late : RefusedLate → ReachableMarks ws marks (marksAfter ws marks lengths)
-    pub lengths-late : RefusedLate → ZeroLengths ws lengths (lengthsAfter ws marks lengths)
+    pub marks-late : RefusedLate → ReachableMarks ws marks (marksAfter ws weights marks lengths)
+    pub lengths-late : RefusedLate → ZeroLengths ws lengths (lengthsAfter ws weights marks lengths)
     -- "Nothing lent is altered, except ..": after any other refusal
-    pub marks-early : RefusedEarly → marksAfter ws marks lengths ≡ marks
-    pub lengths-early : RefusedEarly → lengthsAfter ws marks lengths ≡ lengths
+    pub marks-early : RefusedEarly → marksAfter ws weights marks lengths ≡ marks
+    pub lengths-early : RefusedEarly → lengthsAfter ws weights marks lengths ≡ lengths

@@ -1,16 +1,16 @@
-// The length of every word, from the highest down: an edge that does not serve goes forward, so that what it needs is there. No word is
-// read: a word's entry says where control goes, and its length takes the entry's place.
+// The length of every word, from the highest down: an edge that does not serve goes forward, so that what it needs is there. A word's entry
+// says where control goes, and its length takes the entry's place; of the word itself nothing is read but what it weighs.
 ghost use mathlib.Core.Path.{_≡_};
 ghost use mathlib.Core.Bool.{cond};
 ghost use mathlib.Core.List.{_++_};
 ghost use Prim.Native.Nat.{_≤_, _<_};
 ghost use lib.Dec.{eqb};
 ghost use lib.ListN.{length, getD, drop, replicate};
-ghost use Rattle.common.specs.Limits.{mostWords};
 ghost use Rattle.common.specs.Lowest.{lowest};
 ghost use Rattle.graph.specs.Longest.{most};
-ghost use Rattle.runs.specs.Steps.{servesOf, unitWeight};
-ghost use Rattle.runs.specs.PassInvariants.{FillAsks, Fills, Measuring, Measures, at};
+ghost use Rattle.runs.specs.Steps.{servesOf};
+ghost use Rattle.runs.specs.Weights.{weightCount, heaviestWeight, weightOf};
+ghost use Rattle.runs.specs.PassInvariants.{mostWeight, FillAsks, Fills, Measuring, Measures, at};
 use crate::edges::serves;
 use crate::packing::ENTRIES;
 use crate::packing::KIND_NEXT;
@@ -18,6 +18,7 @@ use crate::packing::KIND_NONE;
 use crate::packing::KIND_TARGET;
 use crate::packing::RETURNS;
 use crate::packing::TARGETS;
+use crate::weighing::weigh;
 
 // What an edge from p to q adds to a segment.
 fn beyond(lengths: &[u32], p: usize, q: usize) -> u32
@@ -36,11 +37,18 @@ struct Measured {
     invalid: usize,
 }
 
-// Word p measured, where the words above it are, `above` is the length of the next, and `invalid` the lowest invalid one among them.
+// Word p, of this weight, measured, where the words above it are, `above` is the length of the next, and `invalid` the lowest invalid one among them.
 // The next word's length is handed on, so that a turn need not wait for what the one before it stored.
-fn measure(marks: &[u8], lengths: &[u32], p: usize, above: u32, invalid: usize) -> Measured
-    requires { ⌜ Measuring mostWords (now marks) (now lengths) p above ⌝ }
-    ensures { λ r. ⌜ Measures unitWeight (now (marks .entry)) (now (lengths .entry)) p invalid (r .length) (r .invalid) ⌝ }
+fn measure(
+    marks: &[u8],
+    lengths: &[u32],
+    p: usize,
+    weight: u32,
+    above: u32,
+    invalid: usize,
+) -> Measured
+    requires { ⌜ Measuring mostWeight (now marks) (now lengths) p above × (weight ≤ heaviestWeight) ⌝ }
+    ensures { λ r. ⌜ Measures (λ _. weight) (now (marks .entry)) (now (lengths .entry)) p invalid (r .length) (r .invalid) ⌝ }
 {
     if marks[p] == 0 {
         return Measured { length: 0, invalid };
@@ -49,49 +57,58 @@ fn measure(marks: &[u8], lengths: &[u32], p: usize, above: u32, invalid: usize) 
     let kind = entry / TARGETS;
     if kind == KIND_NEXT {
         return Measured {
-            length: above + 1,
+            length: above + weight,
             invalid,
         };
     }
     if kind == KIND_NONE {
         if entry % TARGETS == RETURNS {
-            return Measured { length: 1, invalid };
+            return Measured {
+                length: weight,
+                invalid,
+            };
         }
         return Measured {
-            length: 1,
+            length: weight,
             invalid: p,
         };
     }
     let x = beyond(lengths, p, (entry % TARGETS) as usize);
     if kind == KIND_TARGET {
         return Measured {
-            length: x + 1,
+            length: x + weight,
             invalid,
         };
     }
     if x < above {
         return Measured {
-            length: above + 1,
+            length: above + weight,
             invalid,
         };
     }
     Measured {
-        length: x + 1,
+        length: x + weight,
         invalid,
     }
 }
 
 // The length of each word, where its entry stood. The lowest reachable invalid word, or the number of words.
-pub(crate) fn fill_lengths(marks: &[u8], lengths: &mut [u32]) -> usize
-    requires { ⌜ FillAsks (now marks) (now lengths) ⌝ }
-    ensures { λ r. ⌜ Fills unitWeight (now (lengths .entry)) (now (lengths .exit)) r ⌝ }
+pub(crate) fn fill_lengths(
+    words: &[u32],
+    weights: &[u8],
+    marks: &[u8],
+    lengths: &mut [u32],
+) -> usize
+    requires { ⌜ FillAsks (now marks) (now lengths) × (length (now words) ≡ length (now lengths)) × (length (now weights) ≡ weightCount) ⌝ }
+    ensures { λ r. ⌜ Fills (weightOf (now (words .entry)) (now (weights .entry))) (now (lengths .entry)) (now (lengths .exit)) r ⌝ }
 {
     let mut invalid = lengths.len();
     let mut above: u32 = 0;
     let mut i = lengths.len();
     while 0 < i {
         i -= 1;
-        let m = measure(marks, lengths, i, above, invalid);
+        let weight = weigh(weights, words[i]);
+        let m = measure(marks, lengths, i, weight, above, invalid);
         lengths[i] = m.length;
         above = m.length;
         invalid = m.invalid;

@@ -6,6 +6,7 @@ mod packing;
 mod search;
 mod settling;
 pub mod successors;
+pub mod weighing;
 
 pub use longest::Run;
 pub use longest::longest_run;

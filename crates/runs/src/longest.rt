@@ -4,12 +4,15 @@ ghost use lib.ListN.{length};
 ghost use Rattle.runs.specs.Run.{runOf, marksAfter, lengthsAfter};
 ghost use Rattle.runs.specs.SearchInvariants.{Lent};
 ghost use Rattle.runs.specs.Outcome.{Decided};
+ghost use Rattle.runs.specs.Weights.{weightCount};
 use crate::lengths::clear_lengths;
 use crate::lengths::fill_lengths;
 use crate::lengths::find_first;
 use crate::lengths::find_longest;
 use crate::search::mark_reachable;
 use crate::settling::settle_edges;
+use crate::weighing::refuses_weights;
+use crate::weighing::weights_place;
 use common::limits::MOST_WORDS;
 use common::numbers::*;
 
@@ -19,15 +22,15 @@ pub enum Run {
 }
 
 // The run of words that pass the checks of their number and of the slices.
-fn run_of_words(words: &[u32], marks: &mut [u8], lengths: &mut [u32]) -> Run
-    requires { ⌜ Lent (length (now words)) (now marks) (now lengths) ⌝ }
-    ensures { λ r. ⌜ Decided (now (words .entry)) r (now (marks .exit)) (now (lengths .exit)) ⌝ }
+fn run_of_words(words: &[u32], weights: &[u8], marks: &mut [u8], lengths: &mut [u32]) -> Run
+    requires { ⌜ Lent (length (now words)) (now marks) (now lengths) × (length (now weights) ≡ weightCount) ⌝ }
+    ensures { λ r. ⌜ Decided (now (words .entry)) (now (weights .entry)) r (now (marks .exit)) (now (lengths .exit)) ⌝ }
 {
     let n = words.len();
     let table = fields::lookup::table();
     settle_edges(&table, words, lengths);
     mark_reachable(marks, lengths);
-    let invalid = fill_lengths(marks, lengths);
+    let invalid = fill_lengths(words, weights, marks, lengths);
     if invalid < n {
         clear_lengths(lengths, n);
         return Run::Refused {
@@ -41,11 +44,11 @@ fn run_of_words(words: &[u32], marks: &mut [u8], lengths: &mut [u32]) -> Run
 }
 
 // The longest run and the lowest word at which it begins, or the first refusal that applies. The slices get, for each word, whether
-// it is reachable, and the most words in a segment that starts there.
-pub fn longest_run(words: &[u32], marks: &mut [u8], lengths: &mut [u32]) -> Run
-    ensures { λ r. ⌜ r ≡ runOf (now (words .entry)) (length (now (marks .entry))) (length (now (lengths .entry))) ⌝ }
-    ensures { λ _. ⌜ now (marks .exit) ≡ marksAfter (now (words .entry)) (now (marks .entry)) (now (lengths .entry)) ⌝ }
-    ensures { λ _. ⌜ now (lengths .exit) ≡ lengthsAfter (now (words .entry)) (now (marks .entry)) (now (lengths .entry)) ⌝ }
+// it is reachable, and the most that a segment which starts there weighs.
+pub fn longest_run(words: &[u32], weights: &[u8], marks: &mut [u8], lengths: &mut [u32]) -> Run
+    ensures { λ r. ⌜ r ≡ runOf (now (words .entry)) (now (weights .entry)) (length (now (marks .entry))) (length (now (lengths .entry))) ⌝ }
+    ensures { λ _. ⌜ now (marks .exit) ≡ marksAfter (now (words .entry)) (now (weights .entry)) (now (marks .entry)) (now (lengths .entry)) ⌝ }
+    ensures { λ _. ⌜ now (lengths .exit) ≡ lengthsAfter (now (words .entry)) (now (weights .entry)) (now (marks .entry)) (now (lengths .entry)) ⌝ }
 {
     let n = words.len();
     if MOST_WORDS < n {
@@ -66,11 +69,17 @@ pub fn longest_run(words: &[u32], marks: &mut [u8], lengths: &mut [u32]) -> Run
             place: 0,
         };
     }
+    if refuses_weights(weights) {
+        return Run::Refused {
+            number: WEIGHTS_REFUSED,
+            place: weights_place(weights),
+        };
+    }
     if n == 0 {
         return Run::Refused {
             number: NO_WORDS,
             place: 0,
         };
     }
-    run_of_words(words, &mut marks[..n], &mut lengths[..n])
+    run_of_words(words, weights, &mut marks[..n], &mut lengths[..n])
 }

@@ -97,7 +97,7 @@ fn is_between(first: u8, last: u8, opcode: u8) -> bool
 }
 
 // The opcode of word i; past the end MOVE, which is no companion.
-fn opcode_at(words: &[u32], i: usize) -> u8
+pub(crate) fn opcode_at(words: &[u32], i: usize) -> u8
     ensures { λ r. ⌜ r ≡ opcodeAt (now (words .entry)) i ⌝ }
 {
     if i < words.len() {

@@ -15,8 +15,8 @@ fn from(s: &[u32], i: usize) -> &[u32] {
 }
 
 // The longest run of the first n words, the first length, and the lengths from 32,767 on: that of the last word, and one past it.
-fn run_of_first(n: usize, words: &[u32], marks: &mut [u8], lengths: &mut [u32]) {
-    print::answer(longest_run(first_of(words, n), marks, lengths));
+fn run_of_first(n: usize, words: &[u32], weights: &[u8], marks: &mut [u8], lengths: &mut [u32]) {
+    print::answer(longest_run(first_of(words, n), weights, marks, lengths));
     print::text(b" lengths");
     print::numbers(first_of(lengths, 1));
     print::numbers(from(lengths, 32767));
@@ -35,7 +35,9 @@ pub fn runs_of_many() {
     let mut lengths = [9u32; 32769];
     put(&mut words, 32767, plain(OP_RETURN0));
     print::text(b"32,768 words");
-    run_of_first(32768, &words, &mut marks, &mut lengths);
+    run_of_first(32768, &words, &[1u8; 128], &mut marks, &mut lengths);
     print::text(b"32,769 words");
-    run_of_first(32769, &words, &mut marks, &mut lengths);
+    run_of_first(32769, &words, &[1u8; 128], &mut marks, &mut lengths);
+    print::text(b"32,768 words of 255");
+    run_of_first(32768, &words, &[255u8; 128], &mut marks, &mut lengths);
 }

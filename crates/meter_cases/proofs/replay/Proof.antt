@@ -5,10 +5,10 @@ use Rattle.meter_cases.proofs.replay.Statement.{statement}
 use Rattle.meter_cases.proofs.replay.Tie as tie
 
 abbrev Inv-loop : tie.InvT-loop
-Inv-loop title words calls m₀ i₀ m i = i ≤ length calls
+Inv-loop title words weights calls m₀ i₀ m i = i ≤ length calls
 
 abbrev μ-loop : tie.MeasureT-loop
-μ-loop title words calls m₀ i₀ m i = length calls - i
+μ-loop title words weights calls m₀ i₀ m i = length calls - i
 
 text-requires : tie.Need-text-requires Inv-loop μ-loop
 text-requires c κs = search needs

@@ -5,10 +5,10 @@ use Rattle.meter_cases.proofs.straight.Statement.{statement}
 use Rattle.meter_cases.proofs.straight.Tie as tie
 
 abbrev Inv-loop : tie.InvT-loop
-Inv-loop words m₀ refused₀ q₀ t6 m refused q = q ≤ length words
+Inv-loop words weights m₀ refused₀ q₀ t6 m refused q = q ≤ length words
 
 abbrev μ-loop : tie.MeasureT-loop
-μ-loop words m₀ refused₀ q₀ t6 m refused q = length words - q
+μ-loop words weights m₀ refused₀ q₀ t6 m refused q = length words - q
 
 meter-requires : tie.Need-meter-requires Inv-loop μ-loop
 meter-requires c κs = search needs
@@ -34,8 +34,8 @@ slice-aggregate-text c = search needs
 text-requires : tie.Need-text-requires Inv-loop μ-loop
 text-requires c κs = search needs
 
-number-u32-requires : tie.Need-number-u32-requires Inv-loop μ-loop
-number-u32-requires c κs = search needs
+number-requires : tie.Need-number-requires Inv-loop μ-loop
+number-requires c κs = search needs
 
 show-requires : tie.Need-show-requires Inv-loop μ-loop
 show-requires c κs = search needs
@@ -57,6 +57,6 @@ straight-spec =
     loop-again
     slice-aggregate-text
     text-requires
-    number-u32-requires
+    number-requires
     show-requires
     returns)

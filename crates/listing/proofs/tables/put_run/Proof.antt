@@ -7,6 +7,7 @@ use lib.ListN.{replicate, length, take, drop, length-append}
 use lib.Seq.{take-at, length-take-le}
 use borrow.Author.Needs.{needs}
 use Rattle.runs.specs.Run.{runOf, lengthsAfter}
+use Rattle.runs.specs.Counted.{ones}
 use Rattle.listing.specs.Answer.{lengthsOf}
 use Rattle.listing.proofs.Lines.{take-zeros, accepted-text, refused-text}
 use Rattle.listing.proofs.tables.put_run.Statement.{statement}
@@ -20,7 +21,7 @@ abbrev words-at : tie.Start → List ℕ
 words-at s = s .args .words .now
 
 abbrev start-1 : tie.After-longest-run → tie.Start
-start-1 c = c .before .before .before .before .before
+start-1 c = c .before .before .before .before .before .before
 
 abbrev start-2 : tie.After-lengths2 → tie.Start
 start-2 c = start-1 (c .before .before)
@@ -29,25 +30,25 @@ part-length : (s : tie.Start) → length (take (length (words-at s)) zeros) ≡ 
 part-length s = length-take-le (length (words-at s)) zeros (s .pre .0)
 
 -- the run is that of the words, lent a place for each
-run-is : (c : tie.After-longest-run) → c .longest-run .result ≡ runOf (words-at (start-1 c)) (length (words-at (start-1 c))) (length (words-at (start-1 c)))
+run-is : (c : tie.After-longest-run) → c .longest-run .result ≡ runOf (words-at (start-1 c)) ones (length (words-at (start-1 c))) (length (words-at (start-1 c)))
 run-is c = rw (part-length (start-1 c)) at (c .longest-run .ensures .0)
 
 -- the part of the lengths that comes back
-back-length : (c : tie.After-lengths2) → length (c .before .before .longest-run .last .1 .1 .0) ≡ length (words-at (start-2 c))
+back-length : (c : tie.After-lengths2) → length (c .before .before .longest-run .last .1 .1 .1 .0) ≡ length (words-at (start-2 c))
 back-length c = c .lengths2 .given ∙ part-length (start-2 c)
 
-part-is : (c : tie.After-lengths2) → take (length (words-at (start-2 c))) (c .before .before .longest-run .last .1 .1 .0 ++ drop (length (words-at (start-2 c))) zeros) ≡ lengthsOf (words-at (start-2 c))
+part-is : (c : tie.After-lengths2) → take (length (words-at (start-2 c))) (c .before .before .longest-run .last .1 .1 .1 .0 ++ drop (length (words-at (start-2 c))) zeros) ≡ lengthsOf (words-at (start-2 c))
 part-is c =
-    take-at (c .before .before .longest-run .last .1 .1 .0) (drop (length (words-at (start-2 c))) zeros) (length (words-at (start-2 c))) (back-length c)
+    take-at (c .before .before .longest-run .last .1 .1 .1 .0) (drop (length (words-at (start-2 c))) zeros) (length (words-at (start-2 c))) (back-length c)
     ∙ c .before .before .longest-run .ensures .1 .1
-    ∙ ap (λ (z : List ℕ). lengthsAfter (words-at (start-2 c)) z z) (take-zeros (length (words-at (start-2 c))) 4096 (start-2 c .pre .0))
+    ∙ ap (λ (z : List ℕ). lengthsAfter (words-at (start-2 c)) ones z z) (take-zeros (length (words-at (start-2 c))) 4096 (start-2 c .pre .0))
 
 array-share-prefix-lengths : tie.Need-array-share-prefix-lengths
 array-share-prefix-lengths c = simp length-append (omega (arith, back-length (c .before .before .before)))
 
-part-count : (c : tie.After-lengths2) → length (take (length (words-at (start-2 c))) (c .before .before .longest-run .last .1 .1 .0 ++ drop (length (words-at (start-2 c))) zeros)) ≡ length (words-at (start-2 c))
+part-count : (c : tie.After-lengths2) → length (take (length (words-at (start-2 c))) (c .before .before .longest-run .last .1 .1 .1 .0 ++ drop (length (words-at (start-2 c))) zeros)) ≡ length (words-at (start-2 c))
 part-count c =
-    ap length (take-at (c .before .before .longest-run .last .1 .1 .0) (drop (length (words-at (start-2 c))) zeros) (length (words-at (start-2 c))) (back-length c))
+    ap length (take-at (c .before .before .longest-run .last .1 .1 .1 .0) (drop (length (words-at (start-2 c))) zeros) (length (words-at (start-2 c))) (back-length c))
     ∙ back-length c
 
 put-listing-requires : tie.Need-put-listing-requires
@@ -72,9 +73,10 @@ put-run-spec =
     tie.close
     (tie.spec
     (λ c. search needs)
-    (λ c. sym (part-length (c .before .before .before)))
     (λ c. search needs)
     (λ c. sym (part-length (c .before .before .before .before)))
+    (λ c. search needs)
+    (λ c. sym (part-length (c .before .before .before .before .before)))
     (λ c κs. search needs)
     (λ c. search needs)
     array-share-prefix-lengths

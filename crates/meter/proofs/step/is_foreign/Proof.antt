@@ -44,4 +44,5 @@ is-foreign-spec =
     returns-3
     returns-4
     add-result
+    (λ c. search needs)
     returns-5)

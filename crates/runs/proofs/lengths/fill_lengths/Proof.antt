@@ -1,38 +1,46 @@
 use mathlib.Core.Path.{_≡_, subst, sym, _∙_}
+use mathlib.Core.List.{List}
 use Prim.Native.Nat.{ℕ, _+_, _-_, _≤_, _<_}
 use native.Mathlib.Omega.{arith}
-use lib.ListN.{length}
-use Rattle.runs.specs.Steps.{unitWeight}
+use lib.ListN.{length, getD}
+use Rattle.fields.specs.Word.{opcodeOf}
+use Rattle.runs.specs.Weights.{heaviestWeight, weightOf}
 use Rattle.runs.proofs.Entries.{entries-length}
-use Rattle.runs.proofs.Measures.{Filling, filling-none, filling-asks, filling-more, filling-done}
+use Rattle.runs.proofs.Measures.{Filling, filling-none, filling-asks, filling-more, filling-done, measures-at}
 use Rattle.runs.proofs.lengths.fill_lengths.Statement.{statement}
 use Rattle.runs.proofs.lengths.fill_lengths.Tie as tie
 
 abbrev Inv-loop : tie.InvT-loop
-Inv-loop marks lengths₀ invalid₀ above₀ i₀ lengths invalid above i = Filling unitWeight lengths₀ marks lengths i above invalid
+Inv-loop words weights marks lengths₀ invalid₀ above₀ i₀ lengths invalid above i = Filling (weightOf words weights) lengths₀ marks lengths i above invalid
 
 abbrev μ-loop : tie.MeasureT-loop
-μ-loop marks lengths₀ invalid₀ above₀ i₀ lengths invalid above i = i
-
--- every word weighs 1
-light : (q : ℕ) → unitWeight q ≤ 1
-light q = omega arith
+μ-loop words weights marks lengths₀ invalid₀ above₀ i₀ lengths invalid above i = i
 
 -- a turn: the word i - 1 is the next
 module _ (c : tie.In-loop Inv-loop μ-loop) where
   abbrev start : tie.Start Inv-loop μ-loop
-  start = c .before .before .before .before
+  start = c .before .before .before .before .before .before
+
+  abbrev w : ℕ → ℕ
+  w = weightOf (start .args .words .now) (start .args .weights .now)
+
+  -- a weight is a byte
+  light : (q : ℕ) → w q ≤ heaviestWeight
+  light q = let k = c .before .before .before .before in omega (arith, k .shared-slice-known2 .given (opcodeOf (getD (start .args .words .now) q 0)))
 
   abbrev word : ℕ
   word = c .before .loop .i - 1
 
-  filling : Filling unitWeight (start .args .lengths .now) (start .args .marks .now) (c .before .loop .lengths) (word + 1) (c .before .loop .above) (c .before .loop .invalid)
+  filling : Filling w (start .args .lengths .now) (start .args .marks .now) (c .before .loop .lengths) (word + 1) (c .before .loop .above) (c .before .loop .invalid)
   filling =
       let e : c .before .loop .i ≡ word + 1 = omega (arith, c .loop-test .taken) in
-      subst (λ (x : ℕ). Filling unitWeight (start .args .lengths .now) (start .args .marks .now) (c .before .loop .lengths) x (c .before .loop .above) (c .before .loop .invalid)) e (c .before .loop .inv)
+      subst (λ (x : ℕ). Filling w (start .args .lengths .now) (start .args .marks .now) (c .before .loop .lengths) x (c .before .loop .above) (c .before .loop .invalid)) e (c .before .loop .inv)
 
   in-lengths : word < length (c .before .loop .lengths)
-  in-lengths = filling-asks unitWeight 1 light _ _ _ _ _ _ filling .in-l
+  in-lengths = filling-asks w heaviestWeight light _ _ _ _ _ _ filling .in-l
+
+  in-words : word < length (start .args .words .now)
+  in-words = let f = filling .filled in omega (arith, in-lengths, f .l-same, entries-length (start .args .lengths .now), start .pre .1)
 
 pub fill-lengths-spec : {M : Type 1} → statement M
 fill-lengths-spec =
@@ -40,12 +48,15 @@ fill-lengths-spec =
     (tie.spec
     Inv-loop
     μ-loop
-    (λ c. filling-none unitWeight _ _ (c .before .before .pre))
+    (λ c. let s = c .before .before .before .before in filling-none (weightOf (s .args .words .now) (s .args .weights .now)) _ _ (s .pre .0))
     (λ c. omega arith)
-    (λ c κs. filling-asks unitWeight 1 light _ _ _ _ _ _ (filling (c .before)))
-    (λ c. let d = c .before .before in omega (arith, in-lengths d))
-    (λ c. in-lengths (c .before .before))
-    (λ c. omega (arith, c .before .before .loop-test .taken))
-    (λ c. filling-more unitWeight 1 light _ _ _ _ _ _ (filling (c .before .before)) (c .measure .ensures))
+    (λ c. omega (arith, in-words c))
+    (λ c. in-words (c .before))
+    (λ c κs. start (c .before) .pre .2)
+    (λ c κs. let d = c .before .before .before in (filling-asks (w d) heaviestWeight (light d) _ _ _ _ _ _ (filling d), c .before .weigh .ensures .1))
+    (λ c. let d = c .before .before .before .before in omega (arith, in-lengths d))
+    (λ c. in-lengths (c .before .before .before .before))
+    (λ c. omega (arith, c .before .before .before .before .loop-test .taken))
+    (λ c. let d = c .before .before .before .before in filling-more (w d) heaviestWeight (light d) _ _ _ _ _ _ (filling d) (measures-at (w d) _ _ _ _ (c .before .before .weigh .ensures .0) (c .measure .ensures)))
     (λ c. let f = c .before .loop .inv .filled in f .l-same ∙ entries-length _)
     (λ c. filling-done (c .before .loop .inv) (c .loop-test .left)))

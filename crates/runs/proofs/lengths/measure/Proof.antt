@@ -4,11 +4,10 @@ use Prim.Native.Nat.{ℕ, _+_, _%_, _<_, _≤_, max}
 use native.Mathlib.Omega.{arith}
 use lib.ListN.{length, getD}
 use borrow.Author.Needs.{needs}
-use Rattle.common.specs.Limits.{mostWords}
 use Rattle.graph.specs.Longest.{best}
-use Rattle.runs.specs.Steps.{ordered, listOf, unitWeight}
+use Rattle.runs.specs.Steps.{ordered, listOf}
 use Rattle.runs.specs.Entries.{«TARGETS», «ENTRIES», graphIn}
-use Rattle.runs.specs.PassInvariants.{stepsIn, at}
+use Rattle.runs.specs.PassInvariants.{mostWeight, stepsIn, at}
 use Rattle.runs.proofs.Entries.{entry-next, entry-target, entry-stop, entry-invalid, entry-both}
 use Rattle.runs.proofs.Measures.{measures-none, measures-by, above-low, beyond-low, next-best, both-best, both-valid, target-in}
 use Rattle.runs.proofs.lengths.measure.Statement.{statement}
@@ -35,39 +34,39 @@ enter c = c .before .before .before .before
 abbrev entering : tie.Else3 → tie.Else1
 entering c = c .before .before .before
 
-low : (c : tie.After-beyond) → c .beyond .result ≤ mostWords
-low c = let s = enter (entering (c .before)) in omega (arith, c .beyond .ensures, beyond-low (m s) (l s) (p s) mostWords (s .args .above) (s .pre) (entry s % «TARGETS»))
+low : (c : tie.After-beyond) → c .beyond .result ≤ mostWeight
+low c = let s = enter (entering (c .before)) in omega (arith, c .beyond .ensures, beyond-low (m s) (l s) (p s) mostWeight (s .args .above) (s .pre .0) (entry s % «TARGETS»))
 
 returns : tie.Need-returns
-returns c = let s = c .before .before .before .before in measures-none (m s) (l s) (p s) unitWeight (s .args .invalid) (c .if1 .taken)
+returns c = let s = c .before .before .before .before in measures-none (m s) (l s) (p s) (λ _. s .args .weight) (s .args .invalid) (c .if1 .taken)
 
 returns-2 : tie.Need-returns-2
 returns-2 c =
     let d = c .before .before in
     let s = enter d in
     let e = entry-next (entry s) (p s) (c .if2 .taken) in
-    measures-by (m s) (l s) (p s) (d .if1 .left) e unitWeight (s .args .invalid) (omega (arith, next-best (m s) (l s) (p s) mostWords (s .args .above) (s .pre))) refl
+    measures-by (m s) (l s) (p s) (d .if1 .left) e (λ _. s .args .weight) (s .args .invalid) (omega (arith, next-best (m s) (l s) (p s) mostWeight (s .args .above) (s .pre .0))) refl
 
 returns-3 : tie.Need-returns-3
 returns-3 c =
     let d = c .before .before .before .before in
     let s = enter d in
     let e = entry-stop (entry s) (p s) (c .before .if3 .taken) (c .if4 .taken) in
-    measures-by (m s) (l s) (p s) (d .if1 .left) e unitWeight (s .args .invalid) refl refl
+    measures-by (m s) (l s) (p s) (d .if1 .left) e (λ _. s .args .weight) (s .args .invalid) (omega arith) refl
 
 returns-4 : tie.Need-returns-4
 returns-4 c =
     let d = c .before .before .before .before in
     let s = enter d in
     let e = entry-invalid (entry s) (p s) (c .before .if3 .taken) (c .if4 .left) in
-    measures-by (m s) (l s) (p s) (d .if1 .left) e unitWeight (s .args .invalid) refl refl
+    measures-by (m s) (l s) (p s) (d .if1 .left) e (λ _. s .args .weight) (s .args .invalid) (omega arith) refl
 
 returns-5 : tie.Need-returns-5
 returns-5 c =
     let d = entering (c .before .before) in
     let s = enter d in
     let e = entry-target (entry s) (p s) (c .if5 .taken) in
-    measures-by (m s) (l s) (p s) (d .if1 .left) e unitWeight (s .args .invalid) (omega (arith, c .before .beyond .ensures)) refl
+    measures-by (m s) (l s) (p s) (d .if1 .left) e (λ _. s .args .weight) (s .args .invalid) (omega (arith, c .before .beyond .ensures)) refl
 
 -- two steps
 module _ (c : tie.Else5) where
@@ -78,39 +77,39 @@ module _ (c : tie.Else5) where
   two = let s = enter here in let d = c .before .before in entry-both (entry s) (p s) (d .if3 .left) (d .before .if2 .left) (c .if5 .left)
 
   two-best : let s = enter here in max (s .args .above) (c .before .beyond .result) ≡ best (graphIn (l s)) (p s) (at (l s)) (listOf (ordered (p s + 1) (entry s % «TARGETS»)))
-  two-best = let s = enter here in both-best (m s) (l s) (p s) mostWords (s .args .above) (s .pre) (entry s % «TARGETS») (c .before .beyond .result) (c .before .beyond .ensures)
+  two-best = let s = enter here in both-best (m s) (l s) (p s) mostWeight (s .args .above) (s .pre .0) (entry s % «TARGETS») (c .before .beyond .result) (c .before .beyond .ensures)
 
 returns-6 : tie.Need-returns-6
 returns-6 c =
     let d = here (c .before) in
     let s = enter d in
     let e = two (c .before) in
-    measures-by (m s) (l s) (p s) (d .if1 .left) e unitWeight (s .args .invalid) (omega (arith, two-best (c .before), c .if6 .taken)) (both-valid _ _ (p s) (s .args .invalid))
+    measures-by (m s) (l s) (p s) (d .if1 .left) e (λ _. s .args .weight) (s .args .invalid) (omega (arith, two-best (c .before), c .if6 .taken)) (both-valid _ _ (p s) (s .args .invalid))
 
 returns-7 : tie.Need-returns-7
 returns-7 c =
     let d = here (c .before) in
     let s = enter d in
     let e = two (c .before) in
-    measures-by (m s) (l s) (p s) (d .if1 .left) e unitWeight (s .args .invalid) (omega (arith, two-best (c .before), c .if6 .left)) (both-valid _ _ (p s) (s .args .invalid))
+    measures-by (m s) (l s) (p s) (d .if1 .left) e (λ _. s .args .weight) (s .args .invalid) (omega (arith, two-best (c .before), c .if6 .left)) (both-valid _ _ (p s) (s .args .invalid))
 
 pub measure-spec : {M : Type 1} → statement M
 measure-spec =
     tie.close
     (tie.spec
-    (λ c. c .before .before .before .pre .in-m)
+    (λ c. c .before .before .before .pre .0 .in-m)
     returns
-    (λ c. let s = enter c in omega (arith, s .pre .in-l))
-    (λ c. enter (c .before) .pre .in-l)
-    (λ c. let s = enter (c .before .before) in omega (arith, above-low (m s) (l s) (p s) mostWords (s .args .above) (s .pre)))
+    (λ c. let s = enter c in omega (arith, s .pre .0 .in-l))
+    (λ c. enter (c .before) .pre .0 .in-l)
+    (λ c. let s = enter (c .before .before) in omega (arith, s .pre .1, above-low (m s) (l s) (p s) mostWeight (s .args .above) (s .pre .0)))
     returns-2
     returns-3
     returns-4
     (λ c. search needs)
-    (λ c κs. let s = enter (entering c) in target-in (m s) (l s) (p s) mostWords (s .args .above) (s .pre) (c .if3 .left) (c .before .if2 .left))
-    (λ c. omega (arith, low (c .before)))
+    (λ c κs. let s = enter (entering c) in target-in (m s) (l s) (p s) mostWeight (s .args .above) (s .pre .0) (c .if3 .left) (c .before .if2 .left))
+    (λ c. let s = enter (entering (c .before .before)) in omega (arith, s .pre .1, low (c .before)))
     returns-5
-    (λ c. let s = enter (here (c .before)) in omega (arith, above-low (m s) (l s) (p s) mostWords (s .args .above) (s .pre)))
+    (λ c. let s = enter (here (c .before)) in omega (arith, s .pre .1, above-low (m s) (l s) (p s) mostWeight (s .args .above) (s .pre .0)))
     returns-6
-    (λ c. omega (arith, low (c .before .before)))
+    (λ c. let s = enter (here (c .before)) in omega (arith, s .pre .1, low (c .before .before)))
     returns-7)

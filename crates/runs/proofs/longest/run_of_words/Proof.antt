@@ -14,7 +14,7 @@ use Rattle.graph.specs.Marks.{markOf}
 use Rattle.graph.specs.Longest.{lengthOf, longest}
 use Rattle.graph.specs.Laws.{Passing}
 use Rattle.graph.proofs.Laws.{laws}
-use Rattle.runs.specs.Steps.{unitWeight}
+use Rattle.runs.specs.Weights.{weightOf}
 use Rattle.runs.specs.Successors.{successorsOf}
 use Rattle.runs.specs.Instance.{graphOf}
 use Rattle.runs.specs.Entries.{entries, graphIn, Settled}
@@ -31,13 +31,16 @@ use Rattle.runs.proofs.longest.run_of_words.Tie as tie
 -- after the pass that settles the entries
 module _ (c : tie.After-settle-edges) where
   abbrev start : tie.Start
-  start = c .before .before .before .before .before .before .before
+  start = c .before .before .before .before .before .before .before .before
+
+  abbrev weights : List ℕ
+  weights = start .args .weights .now
 
   abbrev words : List ℕ
   words = start .args .words .now
 
   held : Held (start .args .marks .now) (c .settle-edges .last .1 .1 .0)
-  held = held-of (length words) (successorsOf words) (start .args .marks .now) (start .args .lengths .now) (c .settle-edges .last .1 .1 .0) (lawful words) (start .pre) (c .settle-edges .ensures) (c .settle-edges .kept .1 .1 .0)
+  held = held-of (length words) (successorsOf words) (start .args .marks .now) (start .args .lengths .now) (c .settle-edges .last .1 .1 .0) (lawful words) (start .pre .0) (c .settle-edges .ensures) (c .settle-edges .kept .1 .1 .0)
 
 -- after the search
 module _ (c : tie.After-mark-reachable) where
@@ -77,21 +80,24 @@ module _ (c : tie.After-fill-lengths) where
   abbrev ws : List ℕ
   ws = words (settled sought)
 
+  abbrev w : ℕ → ℕ
+  w = weightOf ws (weights (settled sought))
+
   abbrev filled : List ℕ
-  filled = c .fill-lengths .last .1 .0
+  filled = c .fill-lengths .last .1 .1 .1 .0
 
   filled-length : length filled ≡ length ws
-  filled-length = c .fill-lengths .kept .1 .0 ∙ fill-asks sought .held .lent .l-same ∙ settled-yet sought .same
+  filled-length = c .fill-lengths .kept .1 .1 .1 .0 ∙ fill-asks sought .held .lent .l-same ∙ settled-yet sought .same
 
-  each : Lengths (graphOf ws) unitWeight filled
-  each = subst (λ (g : Graph). Lengths g unitWeight filled) (graph-is sought) (c .fill-lengths .ensures .lengths)
+  each : Lengths (graphOf ws) w filled
+  each = subst (λ (g : Graph). Lengths g w filled) (graph-is sought) (c .fill-lengths .ensures .lengths)
 
   lowest : c .fill-lengths .result ≡ lowestInvalid ws
   unfolding lowestInvalid
   lowest = c .fill-lengths .ensures .lowest-invalid ∙ carries .lowest-invalid (length ws) (successorsOf ws) (entries (lengths sought)) (settled-yet sought)
 
-  passing : Passing (graphOf ws) unitWeight
-  passing = laws .passing (graphOf ws) (lawful ws) unitWeight
+  passing : Passing (graphOf ws) w
+  passing = laws .passing (graphOf ws) (lawful ws) w
 
   -- lengths that are cleared
   cleared : {l : List ℕ} → l ≡ replicate (length ws) 0 ++ drop (length ws) filled → l ≡ tabulate (λ p. 0) 0 (length ws)
@@ -107,31 +113,31 @@ module _ (c : tie.After-find-longest) where
   valid : length (ws fill) ≤ lowestInvalid (ws fill)
   valid = subst (λ (x : ℕ). length (ws fill) ≤ x) (lowest fill) (c .before .before .if1 .left)
 
-  found : c .find-longest .result ≡ longest (graphOf (ws fill)) unitWeight
+  found : c .find-longest .result ≡ longest (graphOf (ws fill)) (w fill)
   found = c .find-longest .ensures ∙ passing fill .longest-found (at (filled fill)) (each fill)
 
 returns : tie.Need-returns
 returns c =
     let k = c .before .before in
     let f = k .before .before .before .before .before in
-    decided-invalid (ws f) (marks-are (sought f)) (lowest f) (k .before .before .if1 .taken) (cleared f (k .clear-lengths .ensures))
+    decided-invalid (ws f) (weights (settled (sought f))) (marks-are (sought f)) (lowest f) (k .before .before .if1 .taken) (cleared f (k .clear-lengths .ensures))
 
 returns-2 : tie.Need-returns-2
 returns-2 c =
     let h = c .before .before in
     let f = fill h in
     let first-is = c .find-first .ensures ∙ ap (λ (v : ℕ). lowestFrom (λ p. eqb (at (filled f) p) v) 0 (length (ws f))) (found h) ∙ passing f .first-found (at (filled f)) (each f) in
-    decided-accepted (ws f) (marks-are (sought f)) (valid h) (found h) first-is
-    (over-laws .whole (lengthOf (graphOf (ws f)) unitWeight) (length (ws f)) (filled f) (filled-length f) (each f))
+    decided-accepted (ws f) (weights (settled (sought f))) (marks-are (sought f)) (valid h) (found h) first-is
+    (over-laws .whole (lengthOf (graphOf (ws f)) (w f)) (length (ws f)) (filled f) (filled-length f) (each f))
 
 pub run-of-words-spec : {M : Type 1} → statement M
 run-of-words-spec =
     tie.close
     (tie.spec
     (λ c κs. search needs)
-    (λ c κs. let s = c .before .before .before .before .before .before in (c .before .before .table .ensures, s .pre .few, s .pre .l-same))
+    (λ c κs. let s = c .before .before .before .before .before .before .before in (c .before .before .table .ensures, s .pre .0 .few, s .pre .0 .l-same))
     (λ c κs. held (c .before .before .before .before))
-    (λ c κs. fill-asks (c .before .before .before .before .before .before))
+    (λ c κs. let d = c .before .before .before .before .before .before in let k = fill-asks d in (k, sym (settled-yet d .same) ∙ sym (k .held .lent .l-same), start (settled d) .pre .1))
     (λ c κs. let f = c .before .before .before .before in omega (arith, filled-length f))
     (λ c. search needs)
     (λ c. search needs)
