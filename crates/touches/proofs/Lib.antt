@@ -3,3 +3,6 @@ pub mod Ranges
 pub mod Rising
 pub mod Unique
 pub mod Rows
+pub mod Answers
+pub mod Choices
+pub mod Cells

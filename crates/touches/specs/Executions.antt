@@ -112,13 +112,13 @@ pub data Go : Type 0 where
 -- the word that is executed next, if this function goes on
 abbrev pub next : Go → ℤ → ℕ → List ℤ
 next vmbreak pc i = pc ∷ []
-next «pc++» pc i = pc +ℤ pos 1 ∷ []
+next «pc++» pc i = (pc +ℤ pos 1) ∷ []
 next «pc++-if-k» pc i = cond (eqb («TESTARG_k» i) 0) pc (pc +ℤ pos 1) ∷ []
-next dojump pc i = pc +ℤ («GETARG_sJ» i +ℤ pos 0) ∷ []
+next dojump pc i = (pc +ℤ («GETARG_sJ» i +ℤ pos 0)) ∷ []
 next donextjump pc i = pc ∷ []
-next «pc-=Bx» pc i = pc -ℤ pos («GETARG_Bx» i) ∷ []
-next «pc+=Bx+1» pc i = pc +ℤ (pos («GETARG_Bx» i) +ℤ pos 1) ∷ []
-next l_tforcall pc i = pc +ℤ pos («GETARG_Bx» i) ∷ []
+next «pc-=Bx» pc i = (pc -ℤ pos («GETARG_Bx» i)) ∷ []
+next «pc+=Bx+1» pc i = (pc +ℤ (pos («GETARG_Bx» i) +ℤ pos 1)) ∷ []
+next l_tforcall pc i = (pc +ℤ pos («GETARG_Bx» i)) ∷ []
 next l_tforloop pc i = pc ∷ []
 next leave pc i = []
 
