@@ -98,7 +98,7 @@ kind (constant q) = 1
 kind (upvalue q) = 2
 kind (upToTop q) = 3
 
-abbrev index : Cell → ℕ
+abbrev pub index : Cell → ℕ
 index (register q) = q
 index (constant q) = q
 index (upvalue q) = q
@@ -151,7 +151,7 @@ module _ (base first end : ℕ) (P : ℕ → Type 0) (low : base ≤ first) (to 
       λ a. absurd a)
 
 -- one register
-one-register : (r end : ℕ) → end ≡ suc r → (c : Cell) → (c ≡ register r) ↔ At c (Registers r end)
+pub one-register : (r end : ℕ) → end ≡ suc r → (c : Cell) → (c ≡ register r) ↔ At c (Registers r end)
 one-register r end e (register q) =
     (λ d. inl (omega (arith, ap index d), omega (arith, ap index d)), ⊎-elim (λ (h : (r ≤ q) × (q < end)). ap register (omega (arith, h .0, h .1))) (λ a. absurd a))
 one-register r end e (constant q) = (apart (constant q) (register r) (λ h. omega arith), λ a. absurd a)

@@ -6,3 +6,6 @@ pub mod Rows
 pub mod Answers
 pub mod Choices
 pub mod Cells
+pub mod Ways
+pub mod Sorts
+pub mod Agree

@@ -66,7 +66,7 @@ pub record Form (t : Touches) : Type 0 where
 
 -- What an answer names: as read, as written on every way on, and as written on one way on only.
 
-abbrev UpFrom : Top → ℕ → Type 0
+abbrev pub UpFrom : Top → ℕ → Type 0
 UpFrom t first = (t .count ≡ 1) × (t .first ≡ first)
 
 abbrev pub NamedRead : Touches → Cell → Type 0

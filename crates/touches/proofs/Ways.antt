@@ -1,0 +1,283 @@
+-- The ways on of specs/Executions.antt are those of runs' Lvm.antt, and over them a word's successors. All that is used of Lvm.antt is here.
+-- Assumes nothing.
+use Prim.Native.Nat.{ℕ, zero, suc, _+_, _-_, _≤_, _<_}
+use mathlib.Core.Path.{_≡_, refl, ap, sym, subst, _∙_}
+use mathlib.Core.Logic.{_⊎_, inl, inr, ⊎-elim}
+use mathlib.Core.Bool.{Bool, true, false, cond, _||_}
+use mathlib.Core.List.{List, [], _∷_, _++_}
+use native.Mathlib.Omega.{arith}
+use lib.Dec.{T, ltb, eqb, eqb→eq}
+use lib.IntN.{ℤ, pos, negsuc, _+ℤ_, _-ℤ_}
+use lib.ListN.{length, getD}
+use borrow.Author.Tests.{lt-ltb, le-ltb, eq-eqb}
+use Rattle.fields.specs.declared.word.RawInstruction54.{RawInstruction54}
+use Rattle.fields.specs.Word.{opcodeOf}
+use Rattle.fields.specs.Lopcodes.{«GET_OPCODE», «GETARG_Bx», «TESTARG_k»}
+use Rattle.fields.proofs.Below.{all, all-at}
+use Rattle.fields.proofs.Entries.{same, by-test}
+use Rattle.fields.proofs.Lopcodes.{agreement}
+use Rattle.runs.specs.declared.edges.Successors.{Successors}
+use Rattle.runs.specs.declared.edges.Successors.the-variants.{Invalid, Stop, One, Two}
+use Rattle.runs.specs.Successors.{successorsOf, isInvalid, listOf, hasSuccessor, isSuccessor}
+use Rattle.runs.specs.Lvm as lvm
+use Rattle.runs.proofs.Lvm.{agreement-holds}
+use Rattle.touches.specs.Executions.{Go, vmbreak, «pc++», «pc++-if-k», dojump, donextjump, «pc-=Bx», «pc+=Bx+1», l_tforcall, l_tforloop, leave, next, Way, way, waysOf, waysAt, nexts, Any, LeadsTo}
+use Rattle.touches.specs.Cases.{Edge, noEdge, «p+1», «p+2», «p+1-Bx», edgeOf}
+use Rattle.touches.proofs.Order.{split}
+use Rattle.touches.proofs.Choices.{one-of}
+
+-- How a case goes on, as a number
+
+abbrev pub goNumber : Go → ℕ
+goNumber vmbreak = 0
+goNumber «pc++» = 1
+goNumber «pc++-if-k» = 2
+goNumber dojump = 3
+goNumber donextjump = 4
+goNumber «pc-=Bx» = 5
+goNumber «pc+=Bx+1» = 6
+goNumber l_tforcall = 7
+goNumber l_tforloop = 8
+goNumber leave = 9
+
+abbrev goFrom : ℕ → Go
+goFrom number =
+    getD (vmbreak ∷ «pc++» ∷ «pc++-if-k» ∷ dojump ∷ donextjump ∷ «pc-=Bx» ∷ «pc+=Bx+1» ∷ l_tforcall ∷ l_tforloop ∷ []) number leave
+
+go-back : (go : Go) → goFrom (goNumber go) ≡ go
+go-back vmbreak = refl
+go-back «pc++» = refl
+go-back «pc++-if-k» = refl
+go-back dojump = refl
+go-back donextjump = refl
+go-back «pc-=Bx» = refl
+go-back «pc+=Bx+1» = refl
+go-back l_tforcall = refl
+go-back l_tforloop = refl
+go-back leave = refl
+
+-- a case's ways on alone
+abbrev gosOf : List Way → List Go
+gosOf [] = []
+gosOf (way go runs ∷ ways) = go ∷ gosOf ways
+
+abbrev nextsBy : List Go → ℤ → ℕ → List ℤ
+nextsBy [] pc i = []
+nextsBy (go ∷ gos) pc i = next go pc i ++ nextsBy gos pc i
+
+nexts-by : (ways : List Way) (pc : ℤ) (i : ℕ) → nexts ways pc i ≡ nextsBy (gosOf ways) pc i
+nexts-by [] pc i = refl
+nexts-by (way go runs ∷ ways) pc i = ap (next go pc i ++_) (nexts-by ways pc i)
+
+-- the ways of a body of Lvm.antt
+abbrev gosBy : lvm.Body → List Go
+gosBy lvm.still = vmbreak ∷ []
+gosBy lvm.skip = «pc++» ∷ []
+gosBy lvm.arith = «pc++» ∷ vmbreak ∷ []
+gosBy lvm.jmp = dojump ∷ []
+gosBy lvm.condjump = «pc++» ∷ donextjump ∷ []
+gosBy lvm.testset = «pc++» ∷ donextjump ∷ []
+gosBy lvm.call = vmbreak ∷ []
+gosBy lvm.leave = leave ∷ []
+gosBy lvm.loop = «pc-=Bx» ∷ vmbreak ∷ []
+gosBy lvm.forprep = «pc+=Bx+1» ∷ vmbreak ∷ []
+gosBy lvm.tforprep = l_tforcall ∷ []
+gosBy lvm.tforcall = l_tforloop ∷ []
+gosBy lvm.setlist = «pc++-if-k» ∷ []
+gosBy lvm.assert0 = vmbreak ∷ []
+gosBy lvm.absent = vmbreak ∷ []
+
+body-nexts : (ws : List ℕ) (body : lvm.Body) (pc : ℤ) (i : ℕ) → nextsBy (gosBy body) pc i ≡ lvm.targetsOf (lvm.waysOf ws body pc i)
+body-nexts ws lvm.still pc i = refl
+body-nexts ws lvm.skip pc i = refl
+body-nexts ws lvm.arith pc i = refl
+body-nexts ws lvm.jmp pc i = refl
+body-nexts ws lvm.condjump pc i = refl
+body-nexts ws lvm.testset pc i = refl
+body-nexts ws lvm.call pc i = refl
+body-nexts ws lvm.leave pc i = refl
+body-nexts ws lvm.loop pc i = refl
+body-nexts ws lvm.forprep pc i = refl
+body-nexts ws lvm.tforprep pc i = refl
+body-nexts ws lvm.tforcall pc i = refl
+body-nexts ws lvm.setlist pc i = go (eqb («TESTARG_k» i) 0)
+  where
+    go : (t : Bool) → cond t pc (pc +ℤ pos 1) ∷ [] ≡ lvm.targetsOf (cond t (lvm.fetch pc ∷ []) (lvm.fetch (pc +ℤ pos 1) ∷ []))
+    go true = refl
+    go false = refl
+body-nexts ws lvm.assert0 pc i = refl
+body-nexts ws lvm.absent pc i = refl
+
+-- The two switches go on alike: a test that antt computes
+
+abbrev goNumbers : List Go → List ℕ
+goNumbers [] = []
+goNumbers (go ∷ gos) = goNumber go ∷ goNumbers gos
+
+abbrev gosFrom : List ℕ → List Go
+gosFrom [] = []
+gosFrom (n ∷ ns) = goFrom n ∷ gosFrom ns
+
+gos-back : (gos : List Go) → gosFrom (goNumbers gos) ≡ gos
+gos-back [] = refl
+gos-back (go ∷ gos) = rw (go-back go, gos-back gos)
+
+alike-at : ℕ → Bool
+alike-at o = same (goNumbers (gosOf (waysOf o))) (goNumbers (gosBy (lvm.vmdispatch lvm.switch o)))
+
+alike-below : T (all alike-at 128)
+unfolding alike-at waysOf
+alike-below = tt
+
+gos-alike : (o : ℕ) → o < 128 → gosOf (waysOf o) ≡ gosBy (lvm.vmdispatch lvm.switch o)
+unfolding alike-at
+gos-alike o h =
+    sym (gos-back (gosOf (waysOf o)))
+    ∙ (ap gosFrom
+    (by-test (goNumbers (gosOf (waysOf o))) (goNumbers (gosBy (lvm.vmdispatch lvm.switch o))) (all-at alike-at 128 alike-below o h))
+    ∙ gos-back (gosBy (lvm.vmdispatch lvm.switch o)))
+
+module _ (w : ℕ) where
+  pub opcode-is : «GET_OPCODE» w ≡ opcodeOf w
+  opcode-is = ap (λ (i : RawInstruction54). i .«opcode_num») (agreement w)
+
+  opcode-fits : «GET_OPCODE» w < 128
+  opcode-fits = rw opcode-is (omega arith)
+
+pub same-ways : (ws : List ℕ) (p : ℕ) → nexts (waysAt ws p) (pos (p + 1)) (getD ws p 0) ≡ lvm.goesOn ws p
+unfolding lvm.waysAt
+same-ways ws p =
+    let w = getD ws p 0 in
+    nexts-by (waysAt ws p) (pos (p + 1)) w
+    ∙ (ap (λ (gos : List Go). nextsBy gos (pos (p + 1)) w) (gos-alike («GET_OPCODE» w) (opcode-fits w))
+    ∙ body-nexts ws (lvm.vmdispatch lvm.switch («GET_OPCODE» w)) (pos (p + 1)) w)
+
+-- A way of a word that is not bad leads to a successor
+
+has-second : (t : Bool) (q : ℕ) → t || eqb q q ≡ true
+has-second true q = refl
+has-second false q = eq-eqb q q refl
+
+has-first : (t : Bool) (q : ℕ) → eqb q q || t ≡ true
+has-first t q = rw (eq-eqb q q refl)
+
+same-number : (q r : ℕ) → pos q ≡ pos r → q ≡ r
+same-number q r e = ap magnitude e
+  where
+    magnitude : ℤ → ℕ
+    magnitude (pos n) = n
+    magnitude (negsuc n) = n
+
+among-has : (q : ℕ) (s : Successors) → lvm.Among (pos q) (lvm.integers (listOf s)) → hasSuccessor s q ≡ true
+among-has q Invalid a = absurd a
+among-has q Stop a = absurd a
+among-has q (One x) a = ⊎-elim (λ e. subst (λ (y : ℕ). eqb y q ≡ true) (same-number q x e) (eq-eqb q q refl)) (λ b. absurd b) a
+among-has q (Two x y) a =
+    ⊎-elim (λ e. subst (λ (z : ℕ). eqb z q || eqb y q ≡ true) (same-number q x e) (has-first (eqb y q) q))
+    (⊎-elim (λ e. subst (λ (z : ℕ). eqb x q || eqb z q ≡ true) (same-number q y e) (has-second (eqb x q) q)) (λ b. absurd b)) a
+
+none-below : (n : ℕ) (s : Successors) → lvm.Among (negsuc n) (lvm.integers (listOf s)) → ⊥
+none-below n Invalid a = absurd a
+none-below n Stop a = absurd a
+none-below n (One x) a = ⊎-elim (λ e. signs e) (λ b. absurd b) a
+  where
+    sign : ℤ → ℕ
+    sign (pos m) = 0
+    sign (negsuc m) = 1
+
+    signs : negsuc n ≡ pos x → ⊥
+    signs e = omega (arith, ap sign e)
+none-below n (Two x y) a = ⊎-elim (λ e. signs x e) (⊎-elim (λ e. signs y e) (λ b. absurd b)) a
+  where
+    sign : ℤ → ℕ
+    sign (pos m) = 0
+    sign (negsuc m) = 1
+
+    signs : (z : ℕ) → negsuc n ≡ pos z → ⊥
+    signs z e = omega (arith, ap sign e)
+
+module _ (ws : List ℕ) (p : ℕ) (valid : isInvalid (successorsOf ws p) ≡ false) where
+  abbrev word : ℕ
+  word = getD ws p 0
+
+  abbrev Reached : ℤ → Type 0
+  Reached z = lvm.Among z (nexts (waysAt ws p) (pos (p + 1)) word)
+
+  reached : (z : ℤ) → Reached z → lvm.Among z (lvm.integers (listOf (successorsOf ws p)))
+  reached z a = agreement-holds .same ws p valid z .0 (rw (same-ways ws p) at a)
+
+  pub to-successor : (q : ℕ) → Reached (pos q) → isSuccessor ws p q ≡ true
+  unfolding isSuccessor
+  to-successor q a = among-has q (successorsOf ws p) (reached (pos q) a)
+
+  -- a way back does not go below 0
+  under : (b : ℕ) → p + 1 < b → Reached (pos (p + 1) -ℤ pos b) → ⊥
+  under zero h r = absurd (omega arith)
+  under (suc b) h r =
+      none-below (suc b - suc (p + 1)) (successorsOf ws p) (reached (negsuc (suc b - suc (p + 1))) (subst Reached below r))
+    where
+      below : pos (p + 1) -ℤ pos (suc b) ≡ negsuc (suc b - suc (p + 1))
+      below = rw (lt-ltb (p + 1) (suc b) h)
+
+  back-fits : (b : ℕ) → Reached (pos (p + 1) -ℤ pos b) → b ≤ p + 1
+  back-fits b a = ⊎-elim (λ h. absurd (under b h a)) (λ h. h) (split (p + 1) b)
+
+difference : (x b : ℕ) → b ≤ x → pos x -ℤ pos b ≡ pos (x - b)
+difference x zero h = ap pos (omega arith)
+difference x (suc b) h = rw (le-ltb x (suc b) h)
+
+-- The edge of a case, and the way on that leads over it
+
+abbrev pub goOf : Way → Go
+goOf (way go runs) = go
+
+abbrev pub leads : Edge → Go → Bool
+leads noEdge go = false
+leads «p+1» go = cond (eqb (goNumber go) 0) true (eqb (goNumber go) 4)
+leads «p+2» go = eqb (goNumber go) 1
+leads «p+1-Bx» go = eqb (goNumber go) 5
+
+-- where lvm.c leaves pc then
+abbrev pub landing : Edge → ℕ → ℕ → ℤ
+landing noEdge p w = pos 0
+landing «p+1» p w = pos (p + 1)
+landing «p+2» p w = pos (p + 1) +ℤ pos 1
+landing «p+1-Bx» p w = pos (p + 1) -ℤ pos («GETARG_Bx» w)
+
+go-is : (go : Go) (n : ℕ) → T (eqb (goNumber go) n) → go ≡ goFrom n
+go-is go n t = sym (go-back go) ∙ ap goFrom (eqb→eq (goNumber go) n t)
+
+pub next-landing : (edge : Edge) (go : Go) (p w : ℕ) → T (leads edge go) → next go (pos (p + 1)) w ≡ landing edge p w ∷ []
+next-landing noEdge go p w t = absurd t
+next-landing «p+1» go p w t =
+    ⊎-elim (λ u. ap (λ (g : Go). next g (pos (p + 1)) w) (go-is go 0 u)) (λ u. ap (λ (g : Go). next g (pos (p + 1)) w) (go-is go 4 u))
+    (one-of (eqb (goNumber go) 0) (eqb (goNumber go) 4) t)
+next-landing «p+2» go p w t = ap (λ (g : Go). next g (pos (p + 1)) w) (go-is go 1 t)
+next-landing «p+1-Bx» go p w t = ap (λ (g : Go). next g (pos (p + 1)) w) (go-is go 5 t)
+
+pub landing-is :
+    (ws : List ℕ) (p : ℕ) → isInvalid (successorsOf ws p) ≡ false → (edge : Edge) →
+    lvm.Among (landing edge p (getD ws p 0)) (nexts (waysAt ws p) (pos (p + 1)) (getD ws p 0)) →
+    landing edge p (getD ws p 0) ≡ pos (edgeOf edge p («GETARG_Bx» (getD ws p 0)))
+landing-is ws p valid noEdge a = refl
+landing-is ws p valid «p+1» a = refl
+landing-is ws p valid «p+2» a = ap pos (omega arith)
+landing-is ws p valid «p+1-Bx» a =
+    difference (p + 1) («GETARG_Bx» (getD ws p 0)) (back-fits ws p valid («GETARG_Bx» (getD ws p 0)) a)
+
+-- a word that some way leads to
+pub any-reached :
+    (ws : List ℕ) (p : ℕ) (z : ℤ) (P : Way → Type 0) (ways : List Way) → Any (λ (w : Way). LeadsTo ws p z w × P w) ways →
+    lvm.Among z (nexts ways (pos (p + 1)) (getD ws p 0))
+any-reached ws p z P [] a = a
+any-reached ws p z P (way go runs ∷ ways) a =
+    ⊎-elim (λ (h : LeadsTo ws p z (way go runs) × P (way go runs)). among-left z (next go (pos (p + 1)) (getD ws p 0)) (nexts ways (pos (p + 1)) (getD ws p 0)) (h .0))
+    (λ h. among-right z (next go (pos (p + 1)) (getD ws p 0)) (nexts ways (pos (p + 1)) (getD ws p 0)) (any-reached ws p z P ways h)) a
+  where
+    among-left : (z : ℤ) (xs ys : List ℤ) → Any (λ (x : ℤ). z ≡ x) xs → lvm.Among z (xs ++ ys)
+    among-left z [] ys b = absurd b
+    among-left z (x ∷ xs) ys b = ⊎-elim (λ h. inl h) (λ h. inr (among-left z xs ys h)) b
+
+    among-right : (z : ℤ) (xs ys : List ℤ) → lvm.Among z ys → lvm.Among z (xs ++ ys)
+    among-right z [] ys b = b
+    among-right z (x ∷ xs) ys b = inr (among-right z xs ys b)
