@@ -9,3 +9,5 @@ pub mod Cells
 pub mod Ways
 pub mod Sorts
 pub mod Agree
+pub mod Whole
+pub mod Meaning

@@ -141,7 +141,7 @@ module _ (w : ℕ) where
   pub opcode-is : «GET_OPCODE» w ≡ opcodeOf w
   opcode-is = ap (λ (i : RawInstruction54). i .«opcode_num») (agreement w)
 
-  opcode-fits : «GET_OPCODE» w < 128
+  pub opcode-fits : «GET_OPCODE» w < 128
   opcode-fits = rw opcode-is (omega arith)
 
 pub same-ways : (ws : List ℕ) (p : ℕ) → nexts (waysAt ws p) (pos (p + 1)) (getD ws p 0) ≡ lvm.goesOn ws p
