@@ -12,7 +12,6 @@ use Rattle.fields.specs.declared.word.RawInstruction54.{RawInstruction54}
 use Rattle.fields.specs.Word.{fieldsOf, opcodeOf, aOf, axOf}
 use Rattle.fields.specs.Lopcodes.{«GET_OPCODE», «GETARG_Bx», instruction}
 use Rattle.fields.proofs.Lopcodes.{agreement}
-use Rattle.runs.specs.Lvm.{Among}
 use Rattle.runs.specs.Successors.{successorsOf, isInvalid, isSuccessor}
 use Rattle.touches.specs.declared.answer.Range.{Range}
 use Rattle.touches.specs.declared.answer.Touches.{Touches}
@@ -30,7 +29,7 @@ use Rattle.touches.proofs.Rows.{Fits, accesses-fit}
 use Rattle.touches.proofs.Choices.{every}
 use Rattle.touches.proofs.Cells.{At, kind}
 use Rattle.touches.proofs.Ranges as ranges
-use Rattle.touches.proofs.Ways.{opcode-is, opcode-fits, goOf, leads, landing, next-landing, landing-is, same-ways, to-successor, any-reached}
+use Rattle.touches.proofs.Ways.{Among, opcode-is, opcode-fits, goOf, leads, landing, next-landing, landing-is, same-ways, to-successor, any-reached}
 use Rattle.touches.proofs.Sorts.{bars, at-most-one-top}
 use Rattle.touches.proofs.Agree as agree
 use Rattle.touches.proofs.Whole as whole

@@ -26,6 +26,9 @@ use Rattle.touches.specs.Cases.{Edge, noEdge, «p+1», «p+2», «p+1-Bx
 use Rattle.touches.proofs.Order.{split}
 use Rattle.touches.proofs.Choices.{one-of}
 
+abbrev pub Among : ℤ → List ℤ → Type 0
+Among = lvm.Among
+
 -- How a case goes on, as a number
 
 abbrev pub goNumber : Go → ℕ
@@ -168,7 +171,7 @@ same-number q r e = ap magnitude e
     magnitude (pos n) = n
     magnitude (negsuc n) = n
 
-among-has : (q : ℕ) (s : Successors) → lvm.Among (pos q) (lvm.integers (listOf s)) → hasSuccessor s q ≡ true
+among-has : (q : ℕ) (s : Successors) → Among (pos q) (lvm.integers (listOf s)) → hasSuccessor s q ≡ true
 among-has q Invalid a = absurd a
 among-has q Stop a = absurd a
 among-has q (One x) a = ⊎-elim (λ e. subst (λ (y : ℕ). eqb y q ≡ true) (same-number q x e) (eq-eqb q q refl)) (λ b. absurd b) a
@@ -176,7 +179,7 @@ among-has q (Two x y) a =
     ⊎-elim (λ e. subst (λ (z : ℕ). eqb z q || eqb y q ≡ true) (same-number q x e) (has-first (eqb y q) q))
     (⊎-elim (λ e. subst (λ (z : ℕ). eqb x q || eqb z q ≡ true) (same-number q y e) (has-second (eqb x q) q)) (λ b. absurd b)) a
 
-none-below : (n : ℕ) (s : Successors) → lvm.Among (negsuc n) (lvm.integers (listOf s)) → ⊥
+none-below : (n : ℕ) (s : Successors) → Among (negsuc n) (lvm.integers (listOf s)) → ⊥
 none-below n Invalid a = absurd a
 none-below n Stop a = absurd a
 none-below n (One x) a = ⊎-elim (λ e. signs e) (λ b. absurd b) a
@@ -201,9 +204,9 @@ module _ (ws : List ℕ) (p : ℕ) (valid : isInvalid (successorsOf ws p) ≡ fa
   word = getD ws p 0
 
   abbrev Reached : ℤ → Type 0
-  Reached z = lvm.Among z (nexts (waysAt ws p) (pos (p + 1)) word)
+  Reached z = Among z (nexts (waysAt ws p) (pos (p + 1)) word)
 
-  reached : (z : ℤ) → Reached z → lvm.Among z (lvm.integers (listOf (successorsOf ws p)))
+  reached : (z : ℤ) → Reached z → Among z (lvm.integers (listOf (successorsOf ws p)))
   reached z a = agreement-holds .same ws p valid z .0 (rw (same-ways ws p) at a)
 
   pub to-successor : (q : ℕ) → Reached (pos q) → isSuccessor ws p q ≡ true
@@ -257,7 +260,7 @@ next-landing «p+1-Bx» go p w t = ap (λ (g : Go). next g (pos (p + 1)) w) (go-
 
 pub landing-is :
     (ws : List ℕ) (p : ℕ) → isInvalid (successorsOf ws p) ≡ false → (edge : Edge) →
-    lvm.Among (landing edge p (getD ws p 0)) (nexts (waysAt ws p) (pos (p + 1)) (getD ws p 0)) →
+    Among (landing edge p (getD ws p 0)) (nexts (waysAt ws p) (pos (p + 1)) (getD ws p 0)) →
     landing edge p (getD ws p 0) ≡ pos (edgeOf edge p («GETARG_Bx» (getD ws p 0)))
 landing-is ws p valid noEdge a = refl
 landing-is ws p valid «p+1» a = refl
@@ -268,16 +271,16 @@ landing-is ws p valid «p+1-Bx» a =
 -- a word that some way leads to
 pub any-reached :
     (ws : List ℕ) (p : ℕ) (z : ℤ) (P : Way → Type 0) (ways : List Way) → Any (λ (w : Way). LeadsTo ws p z w × P w) ways →
-    lvm.Among z (nexts ways (pos (p + 1)) (getD ws p 0))
+    Among z (nexts ways (pos (p + 1)) (getD ws p 0))
 any-reached ws p z P [] a = a
 any-reached ws p z P (way go runs ∷ ways) a =
     ⊎-elim (λ (h : LeadsTo ws p z (way go runs) × P (way go runs)). among-left z (next go (pos (p + 1)) (getD ws p 0)) (nexts ways (pos (p + 1)) (getD ws p 0)) (h .0))
     (λ h. among-right z (next go (pos (p + 1)) (getD ws p 0)) (nexts ways (pos (p + 1)) (getD ws p 0)) (any-reached ws p z P ways h)) a
   where
-    among-left : (z : ℤ) (xs ys : List ℤ) → Any (λ (x : ℤ). z ≡ x) xs → lvm.Among z (xs ++ ys)
+    among-left : (z : ℤ) (xs ys : List ℤ) → Any (λ (x : ℤ). z ≡ x) xs → Among z (xs ++ ys)
     among-left z [] ys b = absurd b
     among-left z (x ∷ xs) ys b = ⊎-elim (λ h. inl h) (λ h. inr (among-left z xs ys h)) b
 
-    among-right : (z : ℤ) (xs ys : List ℤ) → lvm.Among z ys → lvm.Among z (xs ++ ys)
+    among-right : (z : ℤ) (xs ys : List ℤ) → Among z ys → Among z (xs ++ ys)
     among-right z [] ys b = b
     among-right z (x ∷ xs) ys b = inr (among-right z xs ys b)
