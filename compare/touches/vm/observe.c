@@ -66,7 +66,9 @@ static struct observed_function *function_of(const uint32_t *code, size_t n) {
     f->words = malloc(n * 4);
     memcpy(f->words, code, n * 4);
     f->seen = calloc(n, sizeof *f->seen);
-    for (size_t p = 0; p < n; p++) f->seen[p].listed = lawendeb_touches(f->words, n, p);
+    const char *emptied = getenv("EMPTIED");
+    for (size_t p = 0; p < n; p++)
+        if (!emptied || opcode_of(f, p) != (unsigned)atoi(emptied)) f->seen[p].listed = lawendeb_touches(f->words, n, p);
     f->next = *bucket;
     return *bucket = f;
 }
@@ -125,15 +127,21 @@ static void close_word(struct observed *o, size_t step) {
 static void report(void);
 static bool leaves(unsigned o) { return o == OP_TAILCALL || (OP_RETURN <= o && o <= OP_RETURN1); }
 
+/* What an error or a return left open: a return is complete, another word was not. */
+void observe_call(CallInfo *ci) {
+    struct observed *o = &ci->observed;
+    if (o->open && leaves(opcode_of(o->function, o->word))) close_word(o, o->function->n);
+    o->open = false;
+}
 void observe_enter(CallInfo *ci) {
     static bool registered;
-    if (!registered) { registered = true; atexit(report); }
-    struct observed *o = &ci->observed;
-    /* what an error or a return left open: a return is complete, another word was not */
-    if (o->open && leaves(opcode_of(o->function, o->word))) close_word(o, o->function->n);
+    if (!registered) {
+        registered = true;
+        atexit(report);
+    }
+    observe_call(ci); /* a tail call keeps its activation */
     LClosure *cl = clLvalue(s2v(ci->func.p));
-    o->function = function_of(cl->p->code, (size_t)cl->p->sizecode);
-    o->open = false;
+    ci->observed.function = function_of(cl->p->code, (size_t)cl->p->sizecode);
 }
 void observe_word(lua_State *L, CallInfo *ci, size_t word) {
     struct observed *o = &ci->observed;
@@ -143,10 +151,17 @@ void observe_word(lua_State *L, CallInfo *ci, size_t word) {
     memset(o, 0, sizeof *o);
     o->function = f;
     o->word = word;
+    o->closure = clLvalue(s2v(ci->func.p));
+    o->func = (char *)ci->func.p - (char *)L->stack.p;
     o->open = true;
 }
 void observe_thread(lua_State *L) { thread = L; }
 void observe_results(CallInfo *ci) { results_for = ci ? ci->previous : NULL; }
+
+int observe_closing(CallInfo *ci, bool closing) {
+    ci->observed.closing = closing;
+    return 0;
+}
 
 static void add(uint32_t *list, unsigned *n, uint32_t index) {
     for (unsigned j = 0; j < *n; j++)
@@ -155,14 +170,14 @@ static void add(uint32_t *list, unsigned *n, uint32_t index) {
 }
 /* An access by the word that activation ci is at, if it is one of a Lua function. */
 static void mark(CallInfo *ci, const TValue *value, bool write) {
-    if (!ci || !isLua(ci) || !ci->observed.open) return;
+    if (!ci || !isLua(ci) || !ci->observed.open || ci->observed.closing) return;
     struct observed *o = &ci->observed;
-    LClosure *cl = clLvalue(s2v(ci->func.p));
-    StkId base = ci->func.p + 1, at = (StkId)value;
+    StkId func = (StkId)((char *)thread->stack.p + o->func), base = func + 1, at = (StkId)value;
+    const LClosure *cl = o->closure;
     size_t most = cl->p->maxstacksize;
     const struct lawendeb_touches *t = &o->function->seen[o->word].listed;
     if (t->reads_to_top.count || t->writes_to_top.count) most = OBSERVED_REGISTERS;
-    if (base <= at && at < base + most) {
+    if (base <= at && at < base + most && at < thread->stack_last.p + EXTRA_STACK) {
         set(write ? o->writes : o->reads, (size_t)(at - base));
         return;
     }
@@ -191,7 +206,7 @@ void observe_write(const void *value) {
    plain write counts always. */
 static void report(void) {
     static unsigned long words[128], times[128], listed[128], found[128], whole[128], edges[128];
-    unsigned long places = 0, met = 0, all = 0, complete = 0, static_words = 0, many = 0;
+    unsigned long places = 0, met = 0, all = 0, static_words = 0;
     for (int b = 0; b < BUCKETS; b++)
         for (struct observed_function *f = functions[b]; f; f = f->next)
             for (size_t p = 0; p < f->n; p++) {
@@ -223,6 +238,5 @@ static void report(void) {
     fprintf(out, "words %lu run %lu accesses %lu extra %lu places %lu seen %lu whole %lu\n", static_words, words_run, accesses, extra_accesses, places, met, all);
     for (unsigned o = 0; o < 128; o++)
         if (words[o]) fprintf(out, "opcode %u words %lu times %lu edges %lu places %lu seen %lu whole %lu\n", o, words[o], times[o], edges[o], listed[o], found[o], whole[o]);
-    (void)complete; (void)many;
     if (name) fclose(out);
 }
