@@ -1,40 +1,67 @@
-/* A controller in small: it holds one meter, lends it at each word that a script goes to, and looks at the count. */
+/* A controller in small. Before a script runs, it asks for the longest run; while it runs, it lends
+   one meter at each word that the script goes to, and holds the count against what was foretold. */
 #include <inttypes.h>
 #include <stdio.h>
 
 #include "lawendeb.h"
 
-/* LOADI, ADDI, MMBINI, and a JMP back to the ADDI: the longest run is 4 words, from word 0 on. */
+/* LOADI, ADDI, MMBINI, and a JMP back to the ADDI. */
 static const uint32_t script[] = {2147483649u, 2147483669u, 109051951u, 2147483192u};
 
 enum { WORDS = sizeof script / sizeof *script };
 
-static void show(const struct lawendeb_meter *m) {
-    printf("begun %" PRIu32 ", last %" PRIu32 ", count %" PRIu32 ", services %" PRIu32 "\n", m->begun, m->last, m->count, m->services);
+/* The most words of the script that can pass without a service, 0 if it is refused. */
+static uint64_t longest(void) {
+    uint8_t marks[WORDS];
+    uint32_t lengths[WORDS];
+    struct lawendeb_run run =
+        lawendeb_longest_run(script, WORDS, marks, WORDS, lengths, WORDS);
+    if (run.number != LAWENDEB_ACCEPTED) {
+        printf("refused: number %" PRIu64 ", place %" PRIu64 "\n", run.number, run.place);
+        return 0;
+    }
+    printf("at most %" PRIu64 " words without a service, from word %" PRIu64 " on\n", run.longest,
+           run.first);
+    return run.longest;
 }
 
-/* Feeds the word numbers in turn, and stops at the first that is refused. */
-static void follow(const char *title, struct lawendeb_meter *m, const size_t *path, size_t length) {
+static void show(const struct lawendeb_meter *m) {
+    printf("begun %" PRIu32 ", last %" PRIu32 ", count %" PRIu32 ", services %" PRIu32 "\n",
+           m->begun, m->last, m->count, m->services);
+}
+
+/* Feeds the word numbers in turn, and stops at the first that is refused. A count above the longest
+   run would be an alarm; it is proved that none comes. */
+static int follow(const char *title, struct lawendeb_meter *m, uint64_t most, const size_t *path,
+                  size_t length) {
     puts(title);
     lawendeb_begin(m);
     for (size_t i = 0; i < length; i++) {
         uint32_t number = lawendeb_feed(script, WORDS, m, path[i]);
         printf("  word %zu: %" PRIu32 "; ", path[i], number);
         show(m);
-        if (number != LAWENDEB_FED)
-            return;
+        if (m->count > most) {
+            puts("  ALARM: more words than were foretold");
+            return 1;
+        }
+        if (number != LAWENDEB_ACCEPTED)
+            break;
     }
+    return 0;
 }
 
 int main(void) {
-    struct lawendeb_meter m = {7, 7, 7, 40};
+    /* Zeroed once: a begin keeps the services. */
+    struct lawendeb_meter m = {0, 0, 0, 0};
     const size_t legal[] = {0, 1, 2, 3, 1, 3, 1};
     const size_t refused[] = {0, 1, 2, 1, 3};
-    follow("a legal path", &m, legal, sizeof legal / sizeof *legal);
-    follow("a refused one", &m, refused, sizeof refused / sizeof *refused);
+    uint64_t most = longest();
+    int alarms = most == 0;
+    alarms += follow("a legal path", &m, most, legal, sizeof legal / sizeof *legal);
+    alarms += follow("a refused one", &m, most, refused, sizeof refused / sizeof *refused);
     puts("another function's meter");
     m.last = WORDS;
     printf("  word 1: %" PRIu32 "; ", lawendeb_feed(script, WORDS, &m, 1));
     show(&m);
-    return 0;
+    return alarms != 0;
 }

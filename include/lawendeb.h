@@ -1,80 +1,142 @@
-/* Lawendeb for C: x86-64 Linux, System V calls. What the functions do is proved; what is asked of the caller stands here.
+/* Lawendeb for C and C++, on x86-64 Linux (System V calls). What the functions do is proved; what
+   is asked of the caller stands here.
 
-   The meter for controllers: link libmeter.a, which `rt staticlib meter` makes (crates/meter, document 01 "Meter").
-   Steps, the longest run and records: link libexports.a, which `rt staticlib exports` makes (crates/exports).
+   Two archives, to be linked alone or side by side; both are made in target/staticlib/:
+     libmeter.a     begin and feed, for controllers: `rt staticlib meter`. It needs no symbol.
+     libexports.a   steps, the longest run, records: `rt staticlib exports`. It needs memset.
+   They write nothing but what a call is lent: no heap, no static data, and as measured less than
+   1 kB of stack (docs/BENCHMARKS.md). So every call is reentrant, and calls on different memory may
+   run at once, in threads or interrupts. A begin and a feed take a bounded time, whatever the
+   number of words; a run takes time in proportion to the words, a lift to words, constants and
+   names.
 
-   Each slice passes as a pointer and a length. The pointer is not null, even where the length is 0, and nobody writes the slice
-   meanwhile; slices that are written lie apart from all others. */
+   Each slice passes as a pointer and a length. The pointer is not null, even where the length is 0,
+   and nobody writes the slice meanwhile. Slices that are written lie apart from all others. Any
+   contents are allowed: what does not fit is refused by a number, and nothing is taken on trust. */
 #ifndef LAWENDEB_H
 #define LAWENDEB_H
 
 #include <stddef.h>
 #include <stdint.h>
 
-/* One script's meter. Any four numbers are a meter; begin makes a fresh one of them. */
+#ifdef __cplusplus
+#define LAWENDEB_ASSERT static_assert
+extern "C" {
+#else
+#include <stdbool.h>
+#define LAWENDEB_ASSERT _Static_assert
+#endif
+
+/* The release of this header. It rises when a function's parameters, a struct or a meaning changes;
+   such a function has a new symbol behind its name then, so that an archive of another release
+   does not link. */
+#define LAWENDEB_RELEASE 1
+
+/* ---- answers, by document 01's numbers. The place is 0 unless one is named. */
+
+#define LAWENDEB_ACCEPTED 0
+#define LAWENDEB_TOO_MANY_WORDS 1    /* more than LAWENDEB_MOST_WORDS words */
+#define LAWENDEB_CONSTANT_COUNT 2    /* tags and payloads differ in number, or are too many */
+#define LAWENDEB_UNKNOWN_TAG 3       /* of a constant; place: the lowest such index */
+#define LAWENDEB_STRING_PAST_BYTES 4 /* of a constant; place: the lowest such index */
+#define LAWENDEB_NAMES 5             /* too many; or one ends past the bytes, place: the lowest */
+#define LAWENDEB_SHORT_SLICE 6       /* a slice for results is shorter than the words */
+#define LAWENDEB_NO_WORDS 7          /* there are none */
+#define LAWENDEB_REACHES_INVALID 8   /* control can reach a bad word; place: the lowest such word */
+#define LAWENDEB_NO_STEP 10          /* no step leads to the word fed, or the first is not 0 */
+#define LAWENDEB_FOREIGN_METER 11    /* the meter is not of this function */
+#define LAWENDEB_MALFORMED_LINE 12   /* of a sheet; by the program alone */
+#define LAWENDEB_TOO_MANY_LINES 13   /* of a sheet; by the program alone */
+
+#define LAWENDEB_MOST_WORDS 32768
+#define LAWENDEB_MOST_CONSTANTS 65536
+#define LAWENDEB_MOST_NAMES 255
+
+/* ---- the meter: libmeter.a */
+
+/* One script's meter, held by the caller. Any four numbers are a meter. Zero a new one once: begin
+   keeps the services, so that they count on from one start of the script to the next. */
 struct lawendeb_meter {
     uint32_t begun;    /* 0: not begun; any other number: begun */
     uint32_t last;     /* the last word number fed */
     uint32_t count;    /* words since service */
-    uint32_t services; /* services passed, at most 4,294,967,295 */
+    uint32_t services; /* services passed; stays at 4,294,967,295 */
 };
 
-_Static_assert(sizeof(struct lawendeb_meter) == 16 && offsetof(struct lawendeb_meter, last) == 4 &&
-                   offsetof(struct lawendeb_meter, count) == 8 && offsetof(struct lawendeb_meter, services) == 12,
-               "the layout that crates/meter has");
+LAWENDEB_ASSERT(sizeof(struct lawendeb_meter) == 16 && offsetof(struct lawendeb_meter, last) == 4 &&
+                    offsetof(struct lawendeb_meter, count) == 8 &&
+                    offsetof(struct lawendeb_meter, services) == 12,
+                "the layout that crates/meter has");
 
-/* What a feed answers. */
-#define LAWENDEB_FED 0            /* the word was counted */
-#define LAWENDEB_TOO_MANY_WORDS 1 /* more than 32,768 words */
-#define LAWENDEB_NO_STEP 10       /* no step leads there from the last word, or the first word is not 0 */
-#define LAWENDEB_OTHER_METER 11   /* the meter is not of this function */
-
-/* Sets not begun, 0, 0, and keeps the services. `m` points to a meter that nobody else writes meanwhile. */
+/* The script starts anew: not begun, 0, 0; the services stay. Nobody else writes `m` meanwhile. */
 void lawendeb_begin(struct lawendeb_meter *m);
 
-/* Feeds word number `q`, and answers 0 or a refusal, which leaves the meter as it was. `words` points to the function's `n`
-   compiled words, apart from the meter and written by nobody meanwhile; it is no null pointer, even where n is 0. */
+/* The script goes to word `q` of its `n` words. The answer is 0, or a refusal: 1, 11 and 10 are
+   tried in this order, and leave the meter as it was. `m` lies apart from the words, and nobody
+   else writes it meanwhile. */
 uint32_t lawendeb_feed(const uint32_t *words, size_t n, struct lawendeb_meter *m, size_t q);
 
-/* The steps of a word. kind: 0 bad or no word, 1 none (a return), 2 one, 3 two, the lower first. */
+/* ---- steps and the longest run: libexports.a */
+
+/* The steps of a word: how many by its kind, the lower first. Places that a kind lacks are 0. */
 struct lawendeb_successors {
     uint64_t kind, first, second;
 };
 
+#define LAWENDEB_KIND_INVALID 0 /* a bad word, or no word: no steps */
+#define LAWENDEB_KIND_STOP 1    /* a return: no steps */
+#define LAWENDEB_KIND_ONE 2
+#define LAWENDEB_KIND_TWO 3
+
 struct lawendeb_successors lawendeb_successors(const uint32_t *words, size_t n, size_t p);
 
-/* Whether a step from p to q serves. */
-_Bool lawendeb_serves(const uint32_t *words, size_t n, size_t p, size_t q);
+/* Whether a step from p to q serves. Whether there is such a step is not asked. */
+bool lawendeb_serves(const uint32_t *words, size_t n, size_t p, size_t q);
 
 /* The longest run and the lowest word at which it begins; or a refusal's number and place. */
 struct lawendeb_run {
     uint64_t number, place, longest, first;
 };
 
-/* Both slices need n places at least. They get, for each word, 1 if it is reachable, else 0; and the most words that pass from there
-   without a service. What lies past n stays as it was. Refusals: 1 more than 32,768 words, 6 a slice too short, 7 no words, 8 a reachable
-   bad word, its place the lowest. A refusal alters nothing, except that 8 leaves the marks and n zero lengths. */
-struct lawendeb_run lawendeb_longest_run(const uint32_t *words, size_t n, uint8_t *marks, size_t marks_n, uint32_t *lengths,
-                                         size_t lengths_n);
+/* Both slices need n places at least. They get, for each word, 1 if it is reachable, else 0; and
+   the most words that pass from there without a service. What lies past n stays as it was. Refusals
+   are 1, 6, 7 and 8, tried in this order. They alter nothing, but that 8 leaves the marks and n
+   zero lengths. */
+struct lawendeb_run lawendeb_longest_run(const uint32_t *words, size_t n, uint8_t *marks,
+                                         size_t marks_n, uint32_t *lengths, size_t lengths_n);
 
-/* What lifting answers: number 0 is acceptance; 1 more than 32,768 words; 2 tags_n is not payloads_n, or over 65,536; 3 an unknown tag; 4 a string
-   that ends past the bytes; 5 over 255 names, or one that ends past the bytes; 6 too little room. The place of 3, 4 and 5 is the lowest
-   such index, of 5 with too many names 0. */
+/* ---- records: libexports.a */
+
 struct lawendeb_answer {
     uint64_t number, place;
 };
 
-/* Numbers in a record: compare/FLAT.md lists them. */
+/* A constant has a tag and a payload: the integer, the float's bits, or a string's place in the
+   bytes, start in the low 32 bits, length in the high 32. Other payloads are ignored. An upvalue's
+   name is such a place, or LAWENDEB_UNNAMED. */
+#define LAWENDEB_TAG_NIL 0
+#define LAWENDEB_TAG_FALSE 1
+#define LAWENDEB_TAG_TRUE 17
+#define LAWENDEB_TAG_INTEGER 3
+#define LAWENDEB_TAG_FLOAT 19
+#define LAWENDEB_TAG_SHORT_STRING 4
+#define LAWENDEB_TAG_LONG_STRING 20
+#define LAWENDEB_UNNAMED UINT64_MAX
+
+/* Numbers in a record; include/RECORD.md says which. */
 #define LAWENDEB_RECORD_NUMBERS 53
 
-/* Constants: a tag and a payload each. Tag 0 is nil, 1 false, 17 true, 3 an integer, 19 a float, 4 a short string, 20 a long one; the payload is the
-   integer, the float's bits, or a string's place in the bytes: start in the low 32 bits, length in the high 32. An upvalue's name is such a
-   place, UINT64_MAX if it has none. */
-
-/* Lifts a function: a record for each word, 53 numbers each, one after another in `numbers`. There is room for numbers_n / 53 records, and
-   number 6 says that this is less than n. What lies past the last record stays as it was, and all of it on a refusal. */
-struct lawendeb_answer lawendeb_lift(const uint32_t *words, size_t n, const uint8_t *tags, size_t tags_n, const uint64_t *payloads,
-                                     size_t payloads_n, const uint64_t *names, size_t names_n, const uint8_t *bytes,
+/* Lifts a function: a record for each word, one after another in `numbers`, which has room for
+   numbers_n / 53 of them. Refusals are 1 to 6, tried in this order; 6 says that there is room for
+   fewer than n. What lies past the last record stays as it was, and all of it on a refusal. */
+struct lawendeb_answer lawendeb_lift(const uint32_t *words, size_t n, const uint8_t *tags,
+                                     size_t tags_n, const uint64_t *payloads, size_t payloads_n,
+                                     const uint64_t *names, size_t names_n, const uint8_t *bytes,
                                      size_t bytes_n, uint64_t *numbers, size_t numbers_n);
+
+#ifdef __cplusplus
+}
+#endif
+#undef LAWENDEB_ASSERT
 
 #endif

@@ -14,7 +14,7 @@ struct twin_run { uint64_t number, place, longest, first; };
 struct twin_answer { uint64_t number, place; };
 struct twin_meter { uint32_t begun, last, since, services; };
 
-/* FLAT.md */
+/* include/RECORD.md */
 struct twin_slot { uint64_t kind, numbers[3]; };
 struct twin_record {
     uint64_t pc, raw_word, opcode, confidence, has_target, target, has_companion, companion, has_fallback, fallback;

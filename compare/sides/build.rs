@@ -1,4 +1,5 @@
-//! Compiles the C twin with gcc -O3, and links the proved library if RATTLE_LIBS names a folder with its archives.
+//! Compiles the C twin with gcc -O3, and links the proved library: RATTLE_LIBS names the folder of its archives. Without
+//! it nothing is built, so that no comparison passes with the proved library left out.
 
 use std::path::{Path, PathBuf};
 use std::process::Command;
@@ -30,11 +31,9 @@ fn main() {
     println!("cargo:rustc-link-search=native={}", out.display());
     println!("cargo:rustc-link-lib=static=twin");
 
-    println!("cargo:rustc-check-cfg=cfg(rattle)");
     println!("cargo:rerun-if-env-changed=RATTLE_LIBS");
-    let Ok(folder) = std::env::var("RATTLE_LIBS") else { return };
+    let folder = std::env::var("RATTLE_LIBS").expect("RATTLE_LIBS, which compare/run and compare/benchmarks set");
     println!("cargo:rerun-if-changed={folder}");
-    println!("cargo:rustc-cfg=rattle");
     println!("cargo:rustc-link-search=native={folder}");
     for name in ["exports", "meter"] {
         println!("cargo:rustc-link-lib=static={name}");

@@ -1,5 +1,5 @@
-/* Holds each transition of a real Lua VM against the table of steps, and each activation's meter against L. The functions
-   under test are the C twin's, or the proved library's with -DRATTLE. */
+/* Holds each transition of a real Lua VM against the table of steps, and each activation's meter against L. The
+   functions under test are the C twin's, or the proved library's with -DRATTLE. */
 #include "lw.h"
 #include "../c/twin.h"
 #include <stdio.h>
@@ -8,7 +8,8 @@
 
 #ifdef RATTLE
 struct twin_successors lawendeb_successors(const uint32_t *words, size_t n, size_t p);
-struct twin_run lawendeb_longest_run(const uint32_t *words, size_t n, uint8_t *marks, size_t marks_n, uint32_t *lengths, size_t lengths_n);
+struct twin_run lawendeb_longest_run(const uint32_t *words, size_t n, uint8_t *marks, size_t marks_n, uint32_t *lengths,
+    size_t lengths_n);
 void lawendeb_begin(struct twin_meter *m);
 uint32_t lawendeb_feed(const uint32_t *words, size_t n, struct twin_meter *m, size_t q);
 #define successors lawendeb_successors
@@ -31,12 +32,14 @@ struct lw_function {
 };
 enum { BUCKETS = 4096, OP_CLOSE = 54, OP_TAILCALL = 69, OP_RETURN = 70 };
 static struct lw_function *functions[BUCKETS];
-static unsigned long activations, words_run, steps, metered, services, reached, large, resumed[3], by_opcode[128];
+static unsigned long activations, words_run, steps, metered, services, reached, large, resumed[3];
+static unsigned long by_opcode[128], interrupted[128]; /* words run, and words that a yield interrupted */
 
 static unsigned op(const struct lw_function *f, size_t p) { return f->words[p] & 127; }
 
 static void fail(const struct lw_function *f, size_t from, size_t to, const char *what) {
-    fprintf(stderr, "lw: %s: word %zu (opcode %u) to %zu of %zu, L %lu\n", what, from, op(f, from), to, f->n, (unsigned long)f->run.longest);
+    fprintf(stderr, "lw: %s: word %zu (opcode %u) to %zu of %zu, L %lu\n",
+        what, from, op(f, from), to, f->n, (unsigned long)f->run.longest);
     exit(3);
 }
 static struct lw_function *function_of(const uint32_t *code, size_t n) {
@@ -67,10 +70,13 @@ static void report(void) {
             if (f->run.number == 0 && f->most == f->run.longest) reached++;
         }
     FILE *out = fopen(getenv("LW_COUNTS") ? getenv("LW_COUNTS") : "/dev/stderr", "a");
-    fprintf(out, "functions %lu large %lu activations %lu words %lu steps %lu metered %lu services %lu reached %lu close %lu return %lu tailcall %lu\n",
-        count, large, activations, words_run, steps, metered, services, reached, resumed[0], resumed[1], resumed[2]);
+    fprintf(out, "functions %lu large %lu activations %lu words %lu steps %lu metered %lu services %lu reached %lu ",
+        count, large, activations, words_run, steps, metered, services, reached);
+    fprintf(out, "close %lu return %lu tailcall %lu\n", resumed[0], resumed[1], resumed[2]);
     for (unsigned o = 0; o < 128; o++)
         if (by_opcode[o]) fprintf(out, "opcode %u %lu\n", o, by_opcode[o]);
+    for (unsigned o = 0; o < 128; o++)
+        if (interrupted[o]) fprintf(out, "interrupted %u %lu\n", o, interrupted[o]);
     fclose(out);
 }
 void lw_enter(struct lw_activation *a, const uint32_t *code, int n) {
@@ -84,8 +90,8 @@ static bool is_step(const struct lw_function *f, size_t p, size_t q) {
     struct twin_successors s = successors(f->words, f->n, p);
     return (s.kind >= 2 && s.first == q) || (s.kind == 3 && s.second == q);
 }
-/* What a resumed coroutine may do beside the table: CLOSE and RETURN are repeated to close further variables, and a TAILCALL
-   whose C function yielded goes on to the RETURN after it. */
+/* What a resumed coroutine may do beside the table: CLOSE and RETURN are repeated to close further variables, and a
+   TAILCALL whose C function yielded goes on to the RETURN after it. */
 static int resumes(const struct lw_activation *a, size_t q) {
     if (!a->resumed) return -1;
     unsigned o = op(a->function, a->last);
@@ -101,6 +107,7 @@ void lw_word(struct lw_activation *a, size_t q) {
     words_run++;
     by_opcode[op(f, q)]++;
     if (p != SIZE_MAX) {
+        if (a->resumed) interrupted[op(f, p)]++;
         int kind = resumes(a, q);
         if (kind >= 0) { resumed[kind]++; a->off = true; }
         else if (!is_step(f, p, q)) fail(f, p, q, "no step of the table");

@@ -1,6 +1,7 @@
 //! Generators: words at the boundaries of their fields, functions of whole groups, damaged ones, tables.
 
 use crate::rng::Rng;
+use model::flat::NUMBERS;
 use model::input::{place, Input, UNNAMED};
 
 pub const FIELD_A: [u32; 8] = [0, 1, 2, 126, 127, 253, 254, 255];
@@ -200,7 +201,8 @@ pub fn tables(rng: &mut Rng, words: Vec<u32>, constants: usize, names: usize) ->
     let mut bytes: Vec<u8> = (0..any).map(|_| rng.next() as u8).collect();
     bytes.extend(TEXT.bytes());
     let boundaries: Vec<usize> = (0..=TEXT.len()).filter(|&i| TEXT.is_char_boundary(i)).collect();
-    let mut input = Input { records: words.len() + rng.below(3), words, ..Input::default() };
+    let spare = if rng.once_in(2) { rng.below(NUMBERS) } else { 0 };
+    let mut input = Input { records: words.len() + rng.below(3), spare, words, ..Input::default() };
     for _ in 0..constants {
         let tag = rng.pick(&[0u8, 1, 17, 3, 19, 4, 20]);
         let payload = match tag {

@@ -1,5 +1,6 @@
 //! check [SEED [RECORDS [FUNCTIONS [LISTS]]]]: the differential tests, counted, with this many random records, functions and
-//! lists of calls beside the systematic ones. Ends with status 1 at the first mismatch.
+//! lists of calls beside the systematic ones. Ends with status 1 at the first mismatch. Times go to standard error: what
+//! stands on standard output is the same at every run with the same numbers.
 
 mod gen;
 mod meters;
@@ -15,8 +16,9 @@ use std::time::Instant;
 fn fields() -> u64 {
     let words = gen::boundaries();
     for &word in &words {
-        let (want, _) = oracle::decode(word);
+        let (want, mode) = oracle::decode(word);
         assert_eq!(model::word::fields(word), want, "fields of word {word}");
+        assert_eq!(model::word::mode(want.opcode), mode, "mode of opcode {}", want.opcode);
     }
     words.len() as u64
 }
@@ -35,7 +37,7 @@ fn main() {
     println!("seed {seed}; held against luad and the model: {}", names.join(", "));
 
     let start = Instant::now();
-    println!("fields: {} words, model against luad", fields());
+    println!("fields: {} words of all 128 opcode values, with their modes, model against luad", fields());
     let c = records::all(&sides, seed, wanted);
     println!(
         "records: {} of {} inputs, each side against luad; answers by number: {}",
@@ -43,7 +45,7 @@ fn main() {
         c.inputs,
         by_number(&c.answers)
     );
-    println!("  {:.1} s", start.elapsed().as_secs_f64());
+    eprintln!("  {:.1} s", start.elapsed().as_secs_f64());
 
     let start = Instant::now();
     let c = runs::all(&sides, seed, functions);
@@ -51,7 +53,7 @@ fn main() {
         "runs: {} functions of {} words, {} steps, each side against the model; {} functions against the definitions by brute force; answers by number: {}",
         c.functions, c.words, c.edges, c.brute, by_number(&c.answers)
     );
-    println!("  {:.1} s", start.elapsed().as_secs_f64());
+    eprintln!("  {:.1} s", start.elapsed().as_secs_f64());
 
     let start = Instant::now();
     let c = meters::all(&sides, seed, lists);
@@ -62,7 +64,7 @@ fn main() {
         c.singles,
         by_number(&c.answers)
     );
-    println!("  {:.1} s", start.elapsed().as_secs_f64());
+    eprintln!("  {:.1} s", start.elapsed().as_secs_f64());
 
     for report in wrong::all(seed) {
         println!("caught, as it must be: {report}");

@@ -93,15 +93,12 @@ pub fn compare(side: &Side, words: &[u32], spare: Spare) -> Result<(RunAnswer, u
 }
 
 fn hold(sides: &[Side], words: &[u32], spare: Spare, counts: &mut Counts) {
+    let mut all = (RunAnswer::default(), 0);
     for side in sides {
-        match compare(side, words, spare) {
-            Ok((answer, edges)) => {
-                *counts.answers.entry(answer.number).or_default() += 1;
-                counts.edges += edges;
-            }
-            Err(_) => fail(side.name, words, |w| compare(side, w, spare).map(|_| ())),
-        }
+        all = compare(side, words, spare).unwrap_or_else(|_| fail(side.name, words, |w| compare(side, w, spare).map(|_| ())));
     }
+    *counts.answers.entry(all.0.number).or_default() += 1;
+    counts.edges += all.1;
     if words.len() <= 12 {
         counts.brute += 1;
         if compare_brute(words).is_err() {

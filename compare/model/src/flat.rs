@@ -1,4 +1,4 @@
-//! A record as 53 numbers: see FLAT.md.
+//! A record as 53 numbers: include/RECORD.md.
 
 /// A kind and up to three numbers.
 #[repr(C)]

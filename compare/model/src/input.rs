@@ -2,7 +2,8 @@
 
 use crate::{Answer, WORDS};
 
-/// Words, the constants' tags and payloads, the string bytes, the upvalues' names, and how many records are lent.
+/// Words, the constants' tags and payloads, the string bytes, the upvalues' names, and how many records are lent: with so many
+/// numbers more, fewer than a record has, where a side is lent numbers.
 #[derive(Clone, Debug, PartialEq, Eq, Default)]
 pub struct Input {
     pub words: Vec<u32>,
@@ -11,6 +12,7 @@ pub struct Input {
     pub bytes: Vec<u8>,
     pub names: Vec<u64>,
     pub records: usize,
+    pub spare: usize,
 }
 
 pub const UNNAMED: u64 = u64::MAX;

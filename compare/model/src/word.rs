@@ -1,4 +1,4 @@
-//! Word fields.
+//! Word fields, and how an opcode's operands are laid out in them.
 
 /// Bits low to high of a word, bit 0 lowest.
 fn bits(word: u32, low: u32, high: u32) -> u32 {
@@ -42,4 +42,17 @@ pub fn fields(word: u32) -> Fields {
 
 pub fn opcode(word: u32) -> u32 {
     bits(word, 0, 6)
+}
+
+/// The mode of each opcode value, as the opmodes of lopcodes.c of Lua 5.4.8 have it: 1 iABC, 2 iABx,
+/// 3 iAsBx, 4 iAx, 5 isJ; 0 for 83 to 127, which have none.
+pub fn mode(opcode: u32) -> u32 {
+    match opcode {
+        1 | 2 => 3,
+        3 | 4 | 73 | 74 | 75 | 77 | 79 => 2,
+        56 => 5,
+        82 => 4,
+        0..=81 => 1,
+        _ => 0,
+    }
 }

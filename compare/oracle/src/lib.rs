@@ -1,4 +1,4 @@
-//! luad's own lifter, fed the inputs of document 01 and read back as flat records (FLAT.md).
+//! luad's own lifter, fed the inputs of document 01 and read back as flat records (include/RECORD.md).
 
 use luad_core::id::{ProtoPath, StableId};
 use luad_core::ir::{EffectTarget, ImplicitEffect, SemanticInstruction, TypedOperand};
@@ -98,15 +98,15 @@ pub fn records(input: &Input) -> Vec<Record> {
     lifted.iter().map(|r| flat(input, r)).collect()
 }
 
-/// `RawInstruction54::decode`, and the mode's number by the order of `OpMode54`, 5 for an unknown opcode.
+/// `RawInstruction54::decode`, and the mode's number by the order of `OpMode54` from 1 on, 0 for an unknown opcode.
 pub fn decode(word: u32) -> (Fields, u32) {
     let r = RawInstruction54::decode(word);
-    let mode = r.opcode.map_or(5, |o| match o.mode() {
-        OpMode54::IABC => 0,
-        OpMode54::IABx => 1,
-        OpMode54::IAsBx => 2,
-        OpMode54::IAx => 3,
-        OpMode54::IsJ => 4,
+    let mode = r.opcode.map_or(0, |o| match o.mode() {
+        OpMode54::IABC => 1,
+        OpMode54::IABx => 2,
+        OpMode54::IAsBx => 3,
+        OpMode54::IAx => 4,
+        OpMode54::IsJ => 5,
     });
     let fields = Fields {
         opcode: u32::from(r.opcode_num),

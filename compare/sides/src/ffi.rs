@@ -1,7 +1,7 @@
 //! The seam: what the C twin and the proved library export, declared once, and each as a [`Side`].
 //!
-//! A slice passes as pointer, length; a number as itself; an answer is a `#[repr(C)]` struct of numbers by value. ffi.md has
-//! the Rattle signatures. Nothing checks these declarations against the Rattle source: the differential tests do.
+//! A slice passes as pointer, length; a number as itself; an answer is a `#[repr(C)]` struct of numbers by value, as
+//! include/lawendeb.h has them. Nothing checks these declarations against the Rattle source: the differential tests do.
 
 use crate::{Side, Successors};
 use model::flat::Record;
@@ -111,7 +111,6 @@ pub mod twin {
     }
 }
 
-#[cfg(rattle)]
 pub mod rattle {
     use super::*;
 
@@ -170,8 +169,8 @@ pub mod rattle {
         }
 
         pub fn lift(i: &Input, records: &mut [Record]) -> Answer {
-            assert!(i.records <= records.len());
-            // A record is 53 numbers and nothing else, so its list is one of numbers.
+            assert!(i.spare < NUMBERS && i.records * NUMBERS + i.spare <= records.len() * NUMBERS);
+            // A record is 53 numbers and nothing else, so its list is one of numbers; the spare ones make no record.
             unsafe {
                 lawendeb_lift(
                     i.words.as_ptr(),
@@ -185,7 +184,7 @@ pub mod rattle {
                     i.bytes.as_ptr(),
                     i.bytes.len(),
                     records.as_mut_ptr().cast(),
-                    i.records * NUMBERS,
+                    i.records * NUMBERS + i.spare,
                 )
             }
         }

@@ -24,17 +24,13 @@ pub struct Side {
     pub feed: fn(&[u32], &mut Meter, usize) -> u32,
     /// A begin and a feed of each word of the list; how many were refused.
     pub feed_all: fn(&[u32], &mut Meter, &[u32]) -> u64,
-    /// The answer, and on 0 a record for each word; `input.records` says how many are lent.
+    /// The answer, and on 0 a record for each word; `input.records` and `input.spare` say what is lent.
     pub lift: Option<fn(&Input, &mut [Record]) -> Answer>,
 }
 
-/// Every side but the model itself: the C twin, and the proved library where it was linked.
+/// Every side but the model itself: the C twin and the proved library.
 pub fn sides() -> Vec<Side> {
-    #[allow(unused_mut)]
-    let mut all = vec![ffi::twin::side()];
-    #[cfg(rattle)]
-    all.push(ffi::rattle::side());
-    all
+    vec![ffi::twin::side(), ffi::rattle::side()]
 }
 
 /// The model, as a side.

@@ -21,6 +21,8 @@ use Rattle.values.specs.declared.ir.EffectTarget.the-variants as E
 use Rattle.values.specs.declared.ir.ImplicitEffect.{ImplicitEffect}
 use Rattle.values.specs.declared.ir.ImplicitEffect.the-variants.{CompanionPair}
 use Rattle.values.specs.declared.ir.CompanionRole.the-variants as role
+use Rattle.values.specs.declared.ir.Fallback.{Fallback}
+use Rattle.values.specs.declared.ir.Fallback.the-variants as fallback
 use Rattle.values.specs.declared.ir.OptionalPc.{OptionalPc}
 use Rattle.values.specs.declared.ir.OptionalPc.the-variants.{NoPc, Pc}
 use Rattle.values.specs.declared.ir.Confidence.{Confidence}
@@ -47,6 +49,8 @@ pub data Case : Type 0 where
   shows : List ℕ → ℕ → List TypedOperand → OptionalPc → Case
   -- .. this implicit effect and this companion
   pairs : List ℕ → ℕ → ImplicitEffect → OptionalPc → Case
+  -- .. this fallback
+  falls : List ℕ → ℕ → Fallback → Case
   -- .. this confidence
   trusts : List ℕ → ℕ → Confidence → Case
 
@@ -66,6 +70,7 @@ HoldsOf (shows words pc operands companion) =
     (recordAt words pc .operands ≡ operandsOf operands) × (recordAt words pc .«companion_pc» ≡ companion)
 HoldsOf (pairs words pc effect companion) =
     (recordAt words pc .«implicit_effect» ≡ effect) × (recordAt words pc .«companion_pc» ≡ companion)
+HoldsOf (falls words pc event) = recordAt words pc .«metamethod_fallback» ≡ event
 HoldsOf (trusts words pc confidence) = recordAt words pc .confidence ≡ confidence
 
 abbrev pub Hold : List Case → Type 0
@@ -87,10 +92,12 @@ cases =
     ∷ steps (2147483192 ∷ []) 0 Invalid
     -- "word 16940996 (CALL A 255, B 2, C 1) reads register 255 and range 255 to 254, writes none"
     ∷ touches (16940996 ∷ []) 0 (E.Register 255 ∷ E.RegisterRange 255 254 ∷ []) []
-    -- "word 4 alone: constant 0, companion 1"
+    -- "word 4 alone: constant 0, companion 1": LOADKX, whose operands show the constant, and which reads it
     ∷ shows (4 ∷ []) 0 (O.Register 0 ∷ O.Constant 0 Nil ∷ []) (Pc 1)
-    -- "word 46 at 0: pair effect 0, event 6"
+    ∷ touches (4 ∷ []) 0 (E.Constant 0 ∷ []) (E.Register 0 ∷ [])
+    -- "word 46 at 0: pair effect 0, event 6": the pair names the event, and it is the fallback
     ∷ pairs (46 ∷ []) 0 (CompanionPair 0 (role.Event «TM_ADD»)) NoPc
+    ∷ falls (46 ∷ []) 0 (fallback.Event «TM_ADD»)
     -- "word 82 Reviewed, 83 Unverified"
     ∷ trusts (82 ∷ []) 0 Reviewed
     ∷ trusts (83 ∷ []) 0 Unverified

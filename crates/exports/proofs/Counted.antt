@@ -1,22 +1,18 @@
 -- How many numbers a record has, and the records of a function put one after another. Assumes nothing.
 use mathlib.Core.Path.{_≡_, refl, _∙_}
 use mathlib.Core.List.{List, _++_}
-use Prim.Native.Nat.{ℕ, zero, suc, _+_, _*_, _<_, _≤_}
+use Prim.Native.Nat.{ℕ, zero, suc, _+_, _*_, _≤_}
 use native.Mathlib.Numerals.{add-one}
 use native.Mathlib.Omega.{arith}
 use lib.ListN.{length, length-append}
-use borrow.Author.Tests.{le-ltb, lt-ltb}
 use Rattle.values.specs.declared.ir.Operands.{Operands}
 use Rattle.values.specs.declared.ir.Reads.{Reads}
 use Rattle.values.specs.declared.ir.Writes.{Writes}
 use Rattle.values.specs.declared.ir.SemanticInstruction.{SemanticInstruction}
-use Rattle.values.specs.Values.{choose}
 use Rattle.records.specs.Lift.{liftOf}
-use Rattle.records.specs.Refusals.{planOf}
-use Rattle.records.specs.Walk.{recordAt}
-use Rattle.records.proofs.Plan.{within}
-use Rattle.exports.specs.Record.{headNumbers, operandsNumbers, readsNumbers, writesNumbers, numbersOf, recordsNumbers, put}
-use Rattle.exports.proofs.Overlay.{and-then}
+use Rattle.common.specs.Lists.{put}
+use Rattle.exports.specs.Record.{headNumbers, operandsNumbers, readsNumbers, writesNumbers, numbersOf, recordsNumbers}
+use Rattle.common.proofs.Put.{put-laws}
 
 -- ---- lengths
 
@@ -64,16 +60,8 @@ module _ (words tags payloads names : List ℕ) where
   record-more l o o′ i e h f =
       let z : 53 * i ≡ 0 + 53 * i = omega arith in
       let k : length (numbersOf (liftOf words tags payloads names i)) ≡ 53 = length-numbers (liftOf words tags payloads names i) in
-      rw (add-one i) (and-then l o o′ 0 (53 * i) (recordsNumbers words tags payloads names i) (numbersOf (liftOf words tags payloads names i)) e (length-records i) (rw k (omega arith)) (rw z at f))
+      rw (add-one i) (put-laws .and-then l o o′ 0 (53 * i) (recordsNumbers words tags payloads names i) (numbersOf (liftOf words tags payloads names i)) e (length-records i) (rw k (omega arith)) (rw z at f))
 
   pub record-none : (l : List ℕ) → l ≡ put l 0 (recordsNumbers words tags payloads names 0)
   unfolding recordsNumbers put
   record-none l = refl
-
-  -- below the plan's count there is a record for each word
-  pub recorded : (bytes room i : ℕ) → i < planOf (length words) tags payloads names bytes room .count
-      → recordAt words tags payloads names i ≡ liftOf words tags payloads names i
-  unfolding recordAt choose
-  recorded bytes room i h =
-      let w = within (length words) tags payloads names bytes room in
-      rw (le-ltb 32768 (length words) (w .1 .1 i h), lt-ltb i (length words) (omega (arith, w .0, h)))

@@ -1,4 +1,6 @@
 pub mod Counted
-pub mod Overlay
+pub mod Floats
+pub mod Payloads
+pub mod RecordWise
 pub mod Signed
-pub mod Whole
+pub mod Stored

@@ -1,4 +1,4 @@
--- A record as 53 numbers, part by part, and the records of a whole function one after another: compare/FLAT.md has the tables. A kind is
+-- A record as 53 numbers, part by part, and the records of a whole function one after another: include/RECORD.md has the tables. A kind is
 -- the place of the case in ir.rs or model.rs, an absent value is 0, and so is every number that a kind does not use.
 -- Assumes nothing.
 use Prim.Native.Nat.{ℕ, zero, suc, _+_, _*_, _/_, _^_, _<_}
@@ -10,7 +10,8 @@ use lib.ListN.{length, getD, take, drop}
 use lib.Ieee.{Float, binary64, eq, toBits}
 use mir.Syntax.{w64}
 use mir.Val.{ofZ}
-use Rattle.values.specs.Values.{choose}
+use Rattle.common.specs.Numbers.{«ACCEPTED»}
+use Rattle.common.specs.Chain.{choose}
 use Rattle.values.specs.declared.model.Span.{Span}
 use Rattle.values.specs.declared.model.Name.{Name}
 use Rattle.values.specs.declared.model.Name.the-variants.{Unnamed, Named}
@@ -36,7 +37,7 @@ use Rattle.values.specs.declared.ir.Operands.{Operands}
 use Rattle.values.specs.declared.ir.Reads.{Reads}
 use Rattle.values.specs.declared.ir.Writes.{Writes}
 use Rattle.values.specs.declared.ir.SemanticInstruction.{SemanticInstruction}
-use Rattle.records.specs.declared.refusals.Answer.{Answer}
+use Rattle.common.specs.declared.answer.Answer.{Answer}
 use Rattle.records.specs.Lift.{liftOf}
 use Rattle.records.specs.Refusals.{answerOf, planOf}
 use Rattle.exports.specs.declared.parts.FlatSlot.{FlatSlot}
@@ -123,7 +124,7 @@ abbrev pub flatConfidence : Confidence → ℕ
 flatConfidence Unverified = 0
 flatConfidence Reviewed = 1
 
--- A record's numbers, in FLAT.md's order
+-- A record's numbers, in RECORD.md's order
 
 abbrev pub slotNumbers : FlatSlot → List ℕ
 slotNumbers s = s .kind ∷ s .first ∷ s .second ∷ s .third ∷ []
@@ -176,15 +177,18 @@ recordsNumbers words tags payloads names (suc pc) =
 
 -- The caller's list of numbers
 
+abbrev pub recordLength : ℕ
+recordLength = 53
+
 -- for so many records there is room in it
 abbrev pub roomIn : List ℕ → ℕ
-roomIn numbers = length numbers / 53
+roomIn numbers = length numbers / recordLength
 
 -- "Records, too, go into the caller's own list of records": the records of as many words as the plan says, all or none, then what was there
 abbrev pub numbersAfter : List ℕ → List ℕ → List ℕ → List ℕ → ℕ → List ℕ → List ℕ
 numbersAfter words tags payloads names bytes numbers =
     let n = planOf (length words) tags payloads names bytes (roomIn numbers) .count in
-    recordsNumbers words tags payloads names n ++ drop (53 * n) numbers
+    recordsNumbers words tags payloads names n ++ drop (recordLength * n) numbers
 
 -- What that list is, record by record.
 pub record RecordWise (words tags payloads names : List ℕ) (bytes : ℕ) (numbers : List ℕ) : Type 0 where
@@ -192,22 +196,22 @@ pub record RecordWise (words tags payloads names : List ℕ) (bytes : ℕ) (numb
   pub same-length : length (numbersAfter words tags payloads names bytes numbers) ≡ length numbers
   -- accepted: the 53 numbers from 53 · i on are those of the record of word i, for i below n
   pub lifted :
-      answerOf (length words) tags payloads names bytes (roomIn numbers) .number ≡ 0
+      answerOf (length words) tags payloads names bytes (roomIn numbers) .number ≡ «ACCEPTED»
       → (i : ℕ)
       → i < length words
-      → take 53 (drop (53 * i) (numbersAfter words tags payloads names bytes numbers)) ≡ numbersOf (liftOf words tags payloads names i)
+      → take recordLength (drop (recordLength * i) (numbersAfter words tags payloads names bytes numbers)) ≡ numbersOf (liftOf words tags payloads names i)
   -- accepted or not: "Elements past n are untouched, records too"
   pub untouched :
-      drop (53 * length words) (numbersAfter words tags payloads names bytes numbers) ≡ drop (53 * length words) numbers
+      drop (recordLength * length words) (numbersAfter words tags payloads names bytes numbers) ≡ drop (recordLength * length words) numbers
   -- refused: "Nothing lent is altered"
   pub refused :
-      eqb (answerOf (length words) tags payloads names bytes (roomIn numbers) .number) 0 ≡ false
+      eqb (answerOf (length words) tags payloads names bytes (roomIn numbers) .number) «ACCEPTED» ≡ false
       → numbersAfter words tags payloads names bytes numbers ≡ numbers
-
--- numbers over those of l from index i on: how the functions that write a record's parts say what they leave
-unfoldable pub put : List ℕ → ℕ → List ℕ → List ℕ
-put l i numbers = take i l ++ (numbers ++ drop (i + length numbers) l)
 
 -- document 01's number and place
 abbrev pub flatAnswer : Answer → FlatAnswer
 flatAnswer answer = record { number = answer .number; place = answer .place }
+
+abbrev pub liftAnswer : List ℕ → List ℕ → List ℕ → List ℕ → ℕ → List ℕ → FlatAnswer
+liftAnswer words tags payloads names bytes numbers =
+    flatAnswer (planOf (length words) tags payloads names bytes (roomIn numbers) .answer)

@@ -3,17 +3,17 @@ ghost use mathlib.Core.Path.{_≡_};
 ghost use mathlib.Core.List.{[], _∷_};
 ghost use Prim.Native.Nat.{ℕ, _+_, _*_, _<_, _≤_};
 ghost use lib.ListN.{length};
-ghost use Rattle.records.specs.Lift.{liftOf};
-ghost use Rattle.records.specs.Refusals.{planOf};
-ghost use Rattle.records.specs.Walk.{recordAt};
-ghost use Rattle.exports.specs.Record.{slotNumbers, pairNumbers, headNumbers, operandsNumbers, readsNumbers, writesNumbers, numbersOf, recordsNumbers, roomIn, numbersAfter, put, flatOperand, flatTarget, flatAnswer};
+ghost use Rattle.common.specs.Lists.{put};
+ghost use Rattle.records.specs.Laws.{Recorded};
+ghost use Rattle.exports.specs.Record.{flatOperand, flatTarget, slotNumbers, pairNumbers, headNumbers, operandsNumbers};
+ghost use Rattle.exports.specs.Record.{readsNumbers, writesNumbers, numbersOf, recordsNumbers, recordLength, numbersAfter, liftAnswer};
 use crate::parts::*;
-use records::lift::record_at;
+use records::lift::record_or_blank;
 use records::refusals::planned;
 use values::ir::*;
 
 // Numbers in a record.
-const NUMBERS: usize = 53;
+const RECORD_LENGTH: usize = 53;
 
 #[repr(C)]
 pub struct FlatAnswer {
@@ -126,7 +126,7 @@ fn put_writes(numbers: &mut [u64], at: usize, writes: Writes)
 }
 
 fn put_record(numbers: &mut [u64], at: usize, i: SemanticInstruction)
-    requires { ⌜ at + 53 ≤ length (now numbers) ⌝ }
+    requires { ⌜ at + recordLength ≤ length (now numbers) ⌝ }
     ensures { λ _. ⌜ now (numbers .exit) ≡ put (now (numbers .entry)) at (numbersOf i) ⌝ }
 {
     let operands = i.operands;
@@ -138,6 +138,15 @@ fn put_record(numbers: &mut [u64], at: usize, i: SemanticInstruction)
     put_writes(numbers, at + 44, writes);
 }
 
+// The numbers of one record, by value.
+pub fn numbers_of(i: SemanticInstruction) -> [u64; RECORD_LENGTH]
+    ensures { λ r. ⌜ r ≡ numbersOf i ⌝ }
+{
+    let mut numbers = [0u64; RECORD_LENGTH];
+    put_record(&mut numbers, 0, i);
+    numbers
+}
+
 // The records of the first n words.
 fn put_records<'a, 'b>(
     words: &'a [u32],
@@ -147,15 +156,15 @@ fn put_records<'a, 'b>(
     n: usize,
     numbers: &'b mut [u64],
 )
-    requires { ⌜ (53 * n ≤ length (now numbers)) × ((i : ℕ) → i < n → recordAt (now words) (now tags) (now payloads) (now names) i ≡ liftOf (now words) (now tags) (now payloads) (now names) i) ⌝ }
+    requires { ⌜ (recordLength * n ≤ length (now numbers)) × Recorded (now words) (now tags) (now payloads) (now names) n ⌝ }
     ensures { λ _. ⌜ now (numbers .exit) ≡ put (now (numbers .entry)) 0 (recordsNumbers (now (words .entry)) (now (tags .entry)) (now (payloads .entry)) (now (names .entry)) n) ⌝ }
 {
     let mut i: usize = 0;
     while i < n {
         put_record(
             numbers,
-            NUMBERS * i,
-            record_at(words, tags, payloads, names, i),
+            RECORD_LENGTH * i,
+            record_or_blank(words, tags, payloads, names, i),
         );
         i += 1;
     }
@@ -171,10 +180,17 @@ pub extern "C" fn lawendeb_lift<'a, 'b>(
     bytes: &'a [u8],
     numbers: &'b mut [u64],
 ) -> FlatAnswer
-    ensures { λ r. ⌜ r ≡ flatAnswer (planOf (length (now (words .entry))) (now (tags .entry)) (now (payloads .entry)) (now (names .entry)) (length (now (bytes .entry))) (roomIn (now (numbers .entry))) .answer) ⌝ }
+    ensures { λ r. ⌜ r ≡ liftAnswer (now (words .entry)) (now (tags .entry)) (now (payloads .entry)) (now (names .entry)) (length (now (bytes .entry))) (now (numbers .entry)) ⌝ }
     ensures { λ _. ⌜ now (numbers .exit) ≡ numbersAfter (now (words .entry)) (now (tags .entry)) (now (payloads .entry)) (now (names .entry)) (length (now (bytes .entry))) (now (numbers .entry)) ⌝ }
 {
-    let plan = planned(words, tags, payloads, names, bytes, numbers.len() / NUMBERS);
+    let plan = planned(
+        words,
+        tags,
+        payloads,
+        names,
+        bytes,
+        numbers.len() / RECORD_LENGTH,
+    );
     let count = plan.count;
     put_records(words, tags, payloads, names, count, numbers);
     FlatAnswer {

@@ -16,13 +16,13 @@ use Rattle.values.specs.declared.ir.ImplicitEffect.the-variants.{NoEffect, Clos
 use Rattle.values.specs.declared.ir.CompanionRole.the-variants as role
 use Rattle.values.specs.declared.ir.OptionalPc.the-variants.{NoPc, Pc}
 use Rattle.families.specs.declared.builders.Body.{Body}
-use Rattle.families.specs.Shapes.{body}
+use Rattle.families.specs.Shapes.{body, plain}
 use Rattle.families.specs.Parts.{plus, eventOf, constant, upvalue, upvalueTarget, rk, rkTarget, countLess, arguments, results}
 
 -- Move, Unm, Bnot, Not, Len
 abbrev pub unary : RawInstruction54 → Body
 unary raw =
-    body (O.Register (raw .a) ∷ O.Register (raw .b) ∷ []) (E.Register (raw .b) ∷ []) (E.Register (raw .a) ∷ []) NoEffect NoPc
+    plain (O.Register (raw .a) ∷ O.Register (raw .b) ∷ []) (E.Register (raw .b) ∷ []) (E.Register (raw .a) ∷ [])
 
 -- Loadi, Loadf, Loadfalse, Lfalseskip, Loadtrue
 abbrev pub load : RawInstruction54 → TypedOperand → ImplicitEffect → Body
@@ -36,79 +36,79 @@ loadConstant tags payloads raw index effect =
 -- Loadnil
 abbrev pub loadnil : RawInstruction54 → Body
 loadnil raw =
-    body (O.Register (raw .a) ∷ O.Count (raw .b + 1) false ∷ []) []
-    (E.RegisterRange (raw .a) (plus (raw .a) (raw .b)) ∷ []) NoEffect NoPc
+    plain (O.Register (raw .a) ∷ O.Count (raw .b + 1) false ∷ []) []
+    (E.RegisterRange (raw .a) (plus (raw .a) (raw .b)) ∷ [])
 
 -- Getupval
 abbrev pub getupval : List ℕ → RawInstruction54 → Body
 getupval names raw =
-    body (O.Register (raw .a) ∷ upvalue names (raw .b) ∷ []) (upvalueTarget names (raw .b) ∷ [])
-    (E.Register (raw .a) ∷ []) NoEffect NoPc
+    plain (O.Register (raw .a) ∷ upvalue names (raw .b) ∷ []) (upvalueTarget names (raw .b) ∷ [])
+    (E.Register (raw .a) ∷ [])
 
 -- Setupval
 abbrev pub setupval : List ℕ → RawInstruction54 → Body
 setupval names raw =
-    body (O.Register (raw .a) ∷ upvalue names (raw .b) ∷ []) (E.Register (raw .a) ∷ [])
-    (upvalueTarget names (raw .b) ∷ []) NoEffect NoPc
+    plain (O.Register (raw .a) ∷ upvalue names (raw .b) ∷ []) (E.Register (raw .a) ∷ [])
+    (upvalueTarget names (raw .b) ∷ [])
 
 -- Gettabup
 abbrev pub gettabup : List ℕ → List ℕ → List ℕ → RawInstruction54 → Body
 gettabup tags payloads names raw =
-    body (O.Register (raw .a) ∷ upvalue names (raw .b) ∷ rk tags payloads (raw .k) (raw .c) ∷ [])
-    (rkTarget (raw .k) (raw .c) ∷ upvalueTarget names (raw .b) ∷ []) (E.Register (raw .a) ∷ []) NoEffect NoPc
+    plain (O.Register (raw .a) ∷ upvalue names (raw .b) ∷ rk tags payloads (raw .k) (raw .c) ∷ [])
+    (rkTarget (raw .k) (raw .c) ∷ upvalueTarget names (raw .b) ∷ []) (E.Register (raw .a) ∷ [])
 
 -- Gettable, and Add to Shr
 abbrev pub threeRegisters : RawInstruction54 → Body
 threeRegisters raw =
-    body (O.Register (raw .a) ∷ O.Register (raw .b) ∷ O.Register (raw .c) ∷ [])
-    (E.Register (raw .b) ∷ E.Register (raw .c) ∷ []) (E.Register (raw .a) ∷ []) NoEffect NoPc
+    plain (O.Register (raw .a) ∷ O.Register (raw .b) ∷ O.Register (raw .c) ∷ [])
+    (E.Register (raw .b) ∷ E.Register (raw .c) ∷ []) (E.Register (raw .a) ∷ [])
 
 -- Geti by C, and Addi, Shri, Shli by sC
 abbrev pub withImmediate : RawInstruction54 → TypedOperand → Body
 withImmediate raw value =
-    body (O.Register (raw .a) ∷ O.Register (raw .b) ∷ value ∷ []) (E.Register (raw .b) ∷ []) (E.Register (raw .a) ∷ []) NoEffect NoPc
+    plain (O.Register (raw .a) ∷ O.Register (raw .b) ∷ value ∷ []) (E.Register (raw .b) ∷ []) (E.Register (raw .a) ∷ [])
 
 -- Getfield, and Addk to Bxork
 abbrev pub withConstant : List ℕ → List ℕ → RawInstruction54 → Body
 withConstant tags payloads raw =
-    body (O.Register (raw .a) ∷ O.Register (raw .b) ∷ constant tags payloads (raw .c) ∷ [])
-    (E.Register (raw .b) ∷ E.Constant (raw .c) ∷ []) (E.Register (raw .a) ∷ []) NoEffect NoPc
+    plain (O.Register (raw .a) ∷ O.Register (raw .b) ∷ constant tags payloads (raw .c) ∷ [])
+    (E.Register (raw .b) ∷ E.Constant (raw .c) ∷ []) (E.Register (raw .a) ∷ [])
 
 -- Settabup
 abbrev pub settabup : List ℕ → List ℕ → List ℕ → RawInstruction54 → Body
 settabup tags payloads names raw =
-    body (upvalue names (raw .a) ∷ rk tags payloads (raw .k) (raw .b) ∷ O.Register (raw .c) ∷ [])
-    (rkTarget (raw .k) (raw .b) ∷ E.Register (raw .c) ∷ []) (upvalueTarget names (raw .a) ∷ []) NoEffect NoPc
+    plain (upvalue names (raw .a) ∷ rk tags payloads (raw .k) (raw .b) ∷ O.Register (raw .c) ∷ [])
+    (rkTarget (raw .k) (raw .b) ∷ E.Register (raw .c) ∷ []) (upvalueTarget names (raw .a) ∷ [])
 
 -- Settable
 abbrev pub settable : List ℕ → List ℕ → RawInstruction54 → Body
 settable tags payloads raw =
-    body (O.Register (raw .a) ∷ O.Register (raw .b) ∷ rk tags payloads (raw .k) (raw .c) ∷ [])
-    (rkTarget (raw .k) (raw .c) ∷ E.Register (raw .a) ∷ E.Register (raw .b) ∷ []) [] NoEffect NoPc
+    plain (O.Register (raw .a) ∷ O.Register (raw .b) ∷ rk tags payloads (raw .k) (raw .c) ∷ [])
+    (rkTarget (raw .k) (raw .c) ∷ E.Register (raw .a) ∷ E.Register (raw .b) ∷ []) []
 
 -- Seti
 abbrev pub seti : List ℕ → List ℕ → RawInstruction54 → Body
 seti tags payloads raw =
-    body (O.Register (raw .a) ∷ O.ImmediateInt (pos (raw .b)) ∷ rk tags payloads (raw .k) (raw .c) ∷ [])
-    (rkTarget (raw .k) (raw .c) ∷ E.Register (raw .a) ∷ []) [] NoEffect NoPc
+    plain (O.Register (raw .a) ∷ O.ImmediateInt (pos (raw .b)) ∷ rk tags payloads (raw .k) (raw .c) ∷ [])
+    (rkTarget (raw .k) (raw .c) ∷ E.Register (raw .a) ∷ []) []
 
 -- Setfield
 abbrev pub setfield : List ℕ → List ℕ → RawInstruction54 → Body
 setfield tags payloads raw =
-    body (O.Register (raw .a) ∷ constant tags payloads (raw .b) ∷ rk tags payloads (raw .k) (raw .c) ∷ [])
-    (rkTarget (raw .k) (raw .c) ∷ E.Register (raw .a) ∷ E.Constant (raw .b) ∷ []) [] NoEffect NoPc
+    plain (O.Register (raw .a) ∷ constant tags payloads (raw .b) ∷ rk tags payloads (raw .k) (raw .c) ∷ [])
+    (rkTarget (raw .k) (raw .c) ∷ E.Register (raw .a) ∷ E.Constant (raw .b) ∷ []) []
 
 -- Newtable: B stands first, as the array's size, and C as the hash part's
 abbrev pub newtable : RawInstruction54 → Body
 newtable raw =
-    body (O.Register (raw .a) ∷ O.Count (raw .b) false ∷ O.Count (raw .c) false ∷ []) [] (E.Register (raw .a) ∷ []) NoEffect NoPc
+    plain (O.Register (raw .a) ∷ O.Count (raw .b) false ∷ O.Count (raw .c) false ∷ []) [] (E.Register (raw .a) ∷ [])
 
 -- SelfOp
 abbrev pub selfOp : List ℕ → List ℕ → RawInstruction54 → Body
 selfOp tags payloads raw =
-    body (O.Register (raw .a) ∷ O.Register (raw .b) ∷ rk tags payloads (raw .k) (raw .c) ∷ [])
+    plain (O.Register (raw .a) ∷ O.Register (raw .b) ∷ rk tags payloads (raw .k) (raw .c) ∷ [])
     (rkTarget (raw .k) (raw .c) ∷ E.Register (raw .b) ∷ [])
-    (E.Register (raw .a) ∷ E.Register (plus (raw .a) 1) ∷ []) NoEffect NoPc
+    (E.Register (raw .a) ∷ E.Register (plus (raw .a) 1) ∷ [])
 
 -- the effect of Mmbin, Mmbini and Mmbink: `pc.saturating_sub(1)`, and the event that C names
 abbrev pub pairEffect : ℕ → RawInstruction54 → ImplicitEffect
@@ -127,8 +127,8 @@ mmbini pc raw =
 -- Concat
 abbrev pub concat : RawInstruction54 → Body
 concat raw =
-    body (O.Register (raw .a) ∷ O.Count (raw .b) false ∷ []) (E.RegisterRange (raw .a) (plus (raw .a) (raw .b) - 1) ∷ [])
-    (E.Register (raw .a) ∷ []) NoEffect NoPc
+    plain (O.Register (raw .a) ∷ O.Count (raw .b) false ∷ []) (E.RegisterRange (raw .a) (plus (raw .a) (raw .b) - 1) ∷ [])
+    (E.Register (raw .a) ∷ [])
 
 -- Close
 abbrev pub close : RawInstruction54 → Body
@@ -136,7 +136,7 @@ close raw = body (O.Register (raw .a) ∷ []) [] [] (CloseUpvalues (raw .a)) NoP
 
 -- Tbc
 abbrev pub tbc : RawInstruction54 → Body
-tbc raw = body (O.Register (raw .a) ∷ []) [] [] NoEffect NoPc
+tbc raw = plain (O.Register (raw .a) ∷ []) [] []
 
 -- Jmp
 abbrev pub jmp : RawInstruction54 → ℕ → Body
@@ -155,20 +155,20 @@ bare effect = body [] [] [] effect NoPc
 -- Call
 abbrev pub call : RawInstruction54 → Body
 call raw =
-    body (O.Register (raw .a) ∷ countLess (raw .b) ∷ countLess (raw .c) ∷ []) (E.Register (raw .a) ∷ arguments (raw .a) (raw .b))
-    (results (raw .a) (raw .c)) NoEffect NoPc
+    plain (O.Register (raw .a) ∷ countLess (raw .b) ∷ countLess (raw .c) ∷ []) (E.Register (raw .a) ∷ arguments (raw .a) (raw .b))
+    (results (raw .a) (raw .c))
 
 -- Tailcall
 abbrev pub tailcall : RawInstruction54 → Body
-tailcall raw = body (O.Register (raw .a) ∷ countLess (raw .b) ∷ []) (E.Register (raw .a) ∷ []) [] NoEffect NoPc
+tailcall raw = plain (O.Register (raw .a) ∷ countLess (raw .b) ∷ []) (E.Register (raw .a) ∷ []) []
 
 -- Return
 abbrev pub return : RawInstruction54 → Body
-return raw = body (O.Register (raw .a) ∷ countLess (raw .b) ∷ []) (results (raw .a) (raw .b)) [] NoEffect NoPc
+return raw = plain (O.Register (raw .a) ∷ countLess (raw .b) ∷ []) (results (raw .a) (raw .b)) []
 
 -- Return1
 abbrev pub return1 : RawInstruction54 → Body
-return1 raw = body (O.Register (raw .a) ∷ []) (E.Register (raw .a) ∷ []) [] NoEffect NoPc
+return1 raw = plain (O.Register (raw .a) ∷ []) (E.Register (raw .a) ∷ []) []
 
 -- Forprep, Forloop, Tforprep, Tforloop
 abbrev pub loopJump : RawInstruction54 → ℤ → ℕ → Body
@@ -177,26 +177,26 @@ loopJump raw offset dest = body (O.Register (raw .a) ∷ O.Jump offset dest ∷ 
 -- Tforcall
 abbrev pub tforcall : RawInstruction54 → Body
 tforcall raw =
-    body (O.Register (raw .a) ∷ O.ImmediateInt (pos (raw .c)) ∷ []) (E.RegisterRange (raw .a) (plus (raw .a) 2) ∷ [])
-    (E.RegisterRange (plus (raw .a) 3) (plus (plus (raw .a) 2) (raw .c)) ∷ []) NoEffect NoPc
+    plain (O.Register (raw .a) ∷ O.ImmediateInt (pos (raw .c)) ∷ []) (E.RegisterRange (raw .a) (plus (raw .a) 2) ∷ [])
+    (E.RegisterRange (plus (raw .a) 3) (plus (plus (raw .a) 2) (raw .c)) ∷ [])
 
 -- Setlist
 abbrev pub setlist : RawInstruction54 → Body
-setlist raw = body (O.Register (raw .a) ∷ O.Count (raw .b) (eqb (raw .b) 0) ∷ []) (E.Register (raw .a) ∷ []) [] NoEffect NoPc
+setlist raw = plain (O.Register (raw .a) ∷ O.Count (raw .b) (eqb (raw .b) 0) ∷ []) (E.Register (raw .a) ∷ []) []
 
 -- Closure
 abbrev pub closure : RawInstruction54 → Body
 closure raw =
-    body (O.Register (raw .a) ∷ O.Prototype (raw .bx) ∷ []) (E.Prototype (raw .bx) ∷ []) (E.Register (raw .a) ∷ []) NoEffect NoPc
+    plain (O.Register (raw .a) ∷ O.Prototype (raw .bx) ∷ []) (E.Prototype (raw .bx) ∷ []) (E.Register (raw .a) ∷ [])
 
 -- Vararg
 abbrev pub vararg : RawInstruction54 → Body
-vararg raw = body (O.Register (raw .a) ∷ countLess (raw .c) ∷ []) [] [] NoEffect NoPc
+vararg raw = plain (O.Register (raw .a) ∷ countLess (raw .c) ∷ []) [] []
 
 -- Varargprep
 abbrev pub varargprep : RawInstruction54 → Body
-varargprep raw = body (O.Count (raw .a) false ∷ []) [] [] NoEffect NoPc
+varargprep raw = plain (O.Count (raw .a) false ∷ []) [] []
 
 -- Extraarg
 abbrev pub extraarg : RawInstruction54 → Body
-extraarg raw = body (O.ExtraArg (raw .ax) ∷ []) [] [] NoEffect NoPc
+extraarg raw = plain (O.ExtraArg (raw .ax) ∷ []) [] []

@@ -8,7 +8,8 @@ use Rattle.values.specs.declared.ir.TypedOperand.{TypedOperand}
 use Rattle.values.specs.declared.ir.TypedOperand.the-variants as O
 use Rattle.values.specs.declared.ir.EffectTarget.{EffectTarget}
 use Rattle.values.specs.declared.ir.EffectTarget.the-variants as E
-use Rattle.values.specs.Values.{choose, constantOf, nameOf}
+use Rattle.common.specs.Chain.{choose}
+use Rattle.values.specs.Values.{constantOf, nameOf}
 
 -- "Register sums saturate at 255, and below at 0, one addition or subtraction at a time": a sum stops at 255; a difference is that
 -- of ℕ, which stops at 0

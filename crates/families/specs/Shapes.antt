@@ -14,7 +14,9 @@ use Rattle.values.specs.declared.ir.Operands.{Operands}
 use Rattle.values.specs.declared.ir.Reads.{Reads}
 use Rattle.values.specs.declared.ir.Writes.{Writes}
 use Rattle.values.specs.declared.ir.ImplicitEffect.{ImplicitEffect}
+use Rattle.values.specs.declared.ir.ImplicitEffect.the-variants.{NoEffect}
 use Rattle.values.specs.declared.ir.OptionalPc.{OptionalPc}
+use Rattle.values.specs.declared.ir.OptionalPc.the-variants.{NoPc}
 use Rattle.families.specs.declared.builders.Body.{Body}
 
 -- n places: the elements, then register 0
@@ -47,3 +49,18 @@ body operands reads writes effect jump =
       «implicit_effect» = effect;
       «jump_target» = jump;
     }
+
+-- no implicit effect and no jump target, which most arms have not
+
+abbrev pub plainOf : Operands → Reads → Writes → Body
+plainOf operands reads writes =
+    record {
+      operands = operands;
+      reads = reads;
+      writes = writes;
+      «implicit_effect» = NoEffect;
+      «jump_target» = NoPc;
+    }
+
+abbrev pub plain : List TypedOperand → List EffectTarget → List EffectTarget → Body
+plain operands reads writes = plainOf (operandsOf operands) (readsOf reads) (writesOf writes)

@@ -71,11 +71,5 @@ pub fn lift_concat(raw: RawInstruction54) -> Body
         end: register_less(register_plus(raw.a, raw.b), 1),
     });
     let writes = writes1(EffectTarget::Register { index: raw.a });
-    Body {
-        operands,
-        reads,
-        writes,
-        implicit_effect: ImplicitEffect::NoEffect,
-        jump_target: OptionalPc::NoPc,
-    }
+    plain(operands, reads, writes)
 }

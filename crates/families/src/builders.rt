@@ -1,7 +1,7 @@
 // Lists of operands, reads and writes, by their elements in the order in which lifter.rs pushes them.
 ghost use mathlib.Core.Path.{_≡_};
 ghost use mathlib.Core.List.{[], _∷_};
-ghost use Rattle.families.specs.Shapes.{operandsOf, readsOf, writesOf};
+ghost use Rattle.families.specs.Shapes.{operandsOf, readsOf, writesOf, plainOf};
 use values::ir::EffectTarget;
 use values::ir::ImplicitEffect;
 use values::ir::OperandSlot;
@@ -19,6 +19,19 @@ pub struct Body {
     pub writes: Writes,
     pub implicit_effect: ImplicitEffect,
     pub jump_target: OptionalPc,
+}
+
+// What most arms say: no implicit effect and no jump target.
+pub fn plain(operands: Operands, reads: Reads, writes: Writes) -> Body
+    ensures { λ r. ⌜ r ≡ plainOf operands reads writes ⌝ }
+{
+    Body {
+        operands,
+        reads,
+        writes,
+        implicit_effect: ImplicitEffect::NoEffect,
+        jump_target: OptionalPc::NoPc,
+    }
 }
 
 pub fn operands0() -> Operands

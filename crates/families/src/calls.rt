@@ -19,13 +19,7 @@ pub fn lift_call(raw: RawInstruction54) -> Body
     );
     let reads = call_reads(raw.a, raw.b);
     let writes = result_writes(raw.a, raw.c);
-    Body {
-        operands,
-        reads,
-        writes,
-        implicit_effect: ImplicitEffect::NoEffect,
-        jump_target: OptionalPc::NoPc,
-    }
+    plain(operands, reads, writes)
 }
 
 pub fn lift_tailcall(raw: RawInstruction54) -> Body
@@ -34,13 +28,7 @@ pub fn lift_tailcall(raw: RawInstruction54) -> Body
     let operands = operands2(TypedOperand::Register { index: raw.a }, count_less(raw.b));
     let reads = reads1(EffectTarget::Register { index: raw.a });
     let writes = writes0();
-    Body {
-        operands,
-        reads,
-        writes,
-        implicit_effect: ImplicitEffect::NoEffect,
-        jump_target: OptionalPc::NoPc,
-    }
+    plain(operands, reads, writes)
 }
 
 pub fn lift_return(raw: RawInstruction54) -> Body
@@ -49,13 +37,7 @@ pub fn lift_return(raw: RawInstruction54) -> Body
     let operands = operands2(TypedOperand::Register { index: raw.a }, count_less(raw.b));
     let reads = result_reads(raw.a, raw.b);
     let writes = writes0();
-    Body {
-        operands,
-        reads,
-        writes,
-        implicit_effect: ImplicitEffect::NoEffect,
-        jump_target: OptionalPc::NoPc,
-    }
+    plain(operands, reads, writes)
 }
 
 pub fn lift_return1(raw: RawInstruction54) -> Body
@@ -64,13 +46,7 @@ pub fn lift_return1(raw: RawInstruction54) -> Body
     let operands = operands1(TypedOperand::Register { index: raw.a });
     let reads = reads1(EffectTarget::Register { index: raw.a });
     let writes = writes0();
-    Body {
-        operands,
-        reads,
-        writes,
-        implicit_effect: ImplicitEffect::NoEffect,
-        jump_target: OptionalPc::NoPc,
-    }
+    plain(operands, reads, writes)
 }
 
 pub fn lift_loop_jump(raw: RawInstruction54, offset: i32, dest: usize) -> Body
@@ -109,13 +85,7 @@ pub fn lift_tforcall(raw: RawInstruction54) -> Body
         start: register_plus(raw.a, 3),
         end: register_plus(register_plus(raw.a, 2), raw.c),
     });
-    Body {
-        operands,
-        reads,
-        writes,
-        implicit_effect: ImplicitEffect::NoEffect,
-        jump_target: OptionalPc::NoPc,
-    }
+    plain(operands, reads, writes)
 }
 
 pub fn lift_setlist(raw: RawInstruction54) -> Body
@@ -130,13 +100,7 @@ pub fn lift_setlist(raw: RawInstruction54) -> Body
     );
     let reads = reads1(EffectTarget::Register { index: raw.a });
     let writes = writes0();
-    Body {
-        operands,
-        reads,
-        writes,
-        implicit_effect: ImplicitEffect::NoEffect,
-        jump_target: OptionalPc::NoPc,
-    }
+    plain(operands, reads, writes)
 }
 
 pub fn lift_closure(raw: RawInstruction54) -> Body
@@ -152,13 +116,7 @@ pub fn lift_closure(raw: RawInstruction54) -> Body
         index: raw.bx as usize,
     });
     let writes = writes1(EffectTarget::Register { index: raw.a });
-    Body {
-        operands,
-        reads,
-        writes,
-        implicit_effect: ImplicitEffect::NoEffect,
-        jump_target: OptionalPc::NoPc,
-    }
+    plain(operands, reads, writes)
 }
 
 pub fn lift_vararg(raw: RawInstruction54) -> Body
@@ -167,13 +125,7 @@ pub fn lift_vararg(raw: RawInstruction54) -> Body
     let operands = operands2(TypedOperand::Register { index: raw.a }, count_less(raw.c));
     let reads = reads0();
     let writes = writes0();
-    Body {
-        operands,
-        reads,
-        writes,
-        implicit_effect: ImplicitEffect::NoEffect,
-        jump_target: OptionalPc::NoPc,
-    }
+    plain(operands, reads, writes)
 }
 
 pub fn lift_varargprep(raw: RawInstruction54) -> Body
@@ -185,13 +137,7 @@ pub fn lift_varargprep(raw: RawInstruction54) -> Body
     });
     let reads = reads0();
     let writes = writes0();
-    Body {
-        operands,
-        reads,
-        writes,
-        implicit_effect: ImplicitEffect::NoEffect,
-        jump_target: OptionalPc::NoPc,
-    }
+    plain(operands, reads, writes)
 }
 
 pub fn lift_extraarg(raw: RawInstruction54) -> Body
@@ -200,11 +146,5 @@ pub fn lift_extraarg(raw: RawInstruction54) -> Body
     let operands = operands1(TypedOperand::ExtraArg { value: raw.ax });
     let reads = reads0();
     let writes = writes0();
-    Body {
-        operands,
-        reads,
-        writes,
-        implicit_effect: ImplicitEffect::NoEffect,
-        jump_target: OptionalPc::NoPc,
-    }
+    plain(operands, reads, writes)
 }

@@ -32,13 +32,7 @@ pub fn lift_tbc(raw: RawInstruction54) -> Body
     let operands = operands1(TypedOperand::Register { index: raw.a });
     let reads = reads0();
     let writes = writes0();
-    Body {
-        operands,
-        reads,
-        writes,
-        implicit_effect: ImplicitEffect::NoEffect,
-        jump_target: OptionalPc::NoPc,
-    }
+    plain(operands, reads, writes)
 }
 
 pub fn lift_jmp(raw: RawInstruction54, dest: usize) -> Body

@@ -18,13 +18,7 @@ pub fn lift_unary(raw: RawInstruction54) -> Body
     );
     let reads = reads1(EffectTarget::Register { index: raw.b });
     let writes = writes1(EffectTarget::Register { index: raw.a });
-    Body {
-        operands,
-        reads,
-        writes,
-        implicit_effect: ImplicitEffect::NoEffect,
-        jump_target: OptionalPc::NoPc,
-    }
+    plain(operands, reads, writes)
 }
 
 pub fn lift_load(raw: RawInstruction54, value: TypedOperand, effect: ImplicitEffect) -> Body
@@ -81,11 +75,5 @@ pub fn lift_loadnil(raw: RawInstruction54) -> Body
         start: raw.a,
         end: register_plus(raw.a, raw.b),
     });
-    Body {
-        operands,
-        reads,
-        writes,
-        implicit_effect: ImplicitEffect::NoEffect,
-        jump_target: OptionalPc::NoPc,
-    }
+    plain(operands, reads, writes)
 }

@@ -5,8 +5,6 @@ use crate::builders::*;
 use crate::parts::*;
 use fields::word::RawInstruction54;
 use values::ir::EffectTarget;
-use values::ir::ImplicitEffect;
-use values::ir::OptionalPc;
 use values::ir::TypedOperand;
 
 pub fn lift_getupval(names: &[u64], raw: RawInstruction54) -> Body
@@ -18,13 +16,7 @@ pub fn lift_getupval(names: &[u64], raw: RawInstruction54) -> Body
     );
     let reads = reads1(upvalue_target(names, raw.b));
     let writes = writes1(EffectTarget::Register { index: raw.a });
-    Body {
-        operands,
-        reads,
-        writes,
-        implicit_effect: ImplicitEffect::NoEffect,
-        jump_target: OptionalPc::NoPc,
-    }
+    plain(operands, reads, writes)
 }
 
 pub fn lift_setupval(names: &[u64], raw: RawInstruction54) -> Body
@@ -36,13 +28,7 @@ pub fn lift_setupval(names: &[u64], raw: RawInstruction54) -> Body
     );
     let reads = reads1(EffectTarget::Register { index: raw.a });
     let writes = writes1(upvalue_target(names, raw.b));
-    Body {
-        operands,
-        reads,
-        writes,
-        implicit_effect: ImplicitEffect::NoEffect,
-        jump_target: OptionalPc::NoPc,
-    }
+    plain(operands, reads, writes)
 }
 
 pub fn lift_gettabup(tags: &[u8], payloads: &[u64], names: &[u64], raw: RawInstruction54) -> Body
@@ -55,13 +41,7 @@ pub fn lift_gettabup(tags: &[u8], payloads: &[u64], names: &[u64], raw: RawInstr
     );
     let reads = reads2(rk_target(raw.k, raw.c), upvalue_target(names, raw.b));
     let writes = writes1(EffectTarget::Register { index: raw.a });
-    Body {
-        operands,
-        reads,
-        writes,
-        implicit_effect: ImplicitEffect::NoEffect,
-        jump_target: OptionalPc::NoPc,
-    }
+    plain(operands, reads, writes)
 }
 
 pub fn lift_three_registers(raw: RawInstruction54) -> Body
@@ -77,13 +57,7 @@ pub fn lift_three_registers(raw: RawInstruction54) -> Body
         EffectTarget::Register { index: raw.c },
     );
     let writes = writes1(EffectTarget::Register { index: raw.a });
-    Body {
-        operands,
-        reads,
-        writes,
-        implicit_effect: ImplicitEffect::NoEffect,
-        jump_target: OptionalPc::NoPc,
-    }
+    plain(operands, reads, writes)
 }
 
 pub fn lift_with_immediate(raw: RawInstruction54, value: TypedOperand) -> Body
@@ -96,13 +70,7 @@ pub fn lift_with_immediate(raw: RawInstruction54, value: TypedOperand) -> Body
     );
     let reads = reads1(EffectTarget::Register { index: raw.b });
     let writes = writes1(EffectTarget::Register { index: raw.a });
-    Body {
-        operands,
-        reads,
-        writes,
-        implicit_effect: ImplicitEffect::NoEffect,
-        jump_target: OptionalPc::NoPc,
-    }
+    plain(operands, reads, writes)
 }
 
 pub fn lift_with_constant(tags: &[u8], payloads: &[u64], raw: RawInstruction54) -> Body
@@ -120,13 +88,7 @@ pub fn lift_with_constant(tags: &[u8], payloads: &[u64], raw: RawInstruction54) 
         },
     );
     let writes = writes1(EffectTarget::Register { index: raw.a });
-    Body {
-        operands,
-        reads,
-        writes,
-        implicit_effect: ImplicitEffect::NoEffect,
-        jump_target: OptionalPc::NoPc,
-    }
+    plain(operands, reads, writes)
 }
 
 pub fn lift_settabup(tags: &[u8], payloads: &[u64], names: &[u64], raw: RawInstruction54) -> Body
@@ -142,13 +104,7 @@ pub fn lift_settabup(tags: &[u8], payloads: &[u64], names: &[u64], raw: RawInstr
         EffectTarget::Register { index: raw.c },
     );
     let writes = writes1(upvalue_target(names, raw.a));
-    Body {
-        operands,
-        reads,
-        writes,
-        implicit_effect: ImplicitEffect::NoEffect,
-        jump_target: OptionalPc::NoPc,
-    }
+    plain(operands, reads, writes)
 }
 
 pub fn lift_settable(tags: &[u8], payloads: &[u64], raw: RawInstruction54) -> Body
@@ -165,13 +121,7 @@ pub fn lift_settable(tags: &[u8], payloads: &[u64], raw: RawInstruction54) -> Bo
         EffectTarget::Register { index: raw.b },
     );
     let writes = writes0();
-    Body {
-        operands,
-        reads,
-        writes,
-        implicit_effect: ImplicitEffect::NoEffect,
-        jump_target: OptionalPc::NoPc,
-    }
+    plain(operands, reads, writes)
 }
 
 pub fn lift_seti(tags: &[u8], payloads: &[u64], raw: RawInstruction54) -> Body
@@ -187,13 +137,7 @@ pub fn lift_seti(tags: &[u8], payloads: &[u64], raw: RawInstruction54) -> Body
         EffectTarget::Register { index: raw.a },
     );
     let writes = writes0();
-    Body {
-        operands,
-        reads,
-        writes,
-        implicit_effect: ImplicitEffect::NoEffect,
-        jump_target: OptionalPc::NoPc,
-    }
+    plain(operands, reads, writes)
 }
 
 pub fn lift_setfield(tags: &[u8], payloads: &[u64], raw: RawInstruction54) -> Body
@@ -212,13 +156,7 @@ pub fn lift_setfield(tags: &[u8], payloads: &[u64], raw: RawInstruction54) -> Bo
         },
     );
     let writes = writes0();
-    Body {
-        operands,
-        reads,
-        writes,
-        implicit_effect: ImplicitEffect::NoEffect,
-        jump_target: OptionalPc::NoPc,
-    }
+    plain(operands, reads, writes)
 }
 
 pub fn lift_newtable(raw: RawInstruction54) -> Body
@@ -237,13 +175,7 @@ pub fn lift_newtable(raw: RawInstruction54) -> Body
     );
     let reads = reads0();
     let writes = writes1(EffectTarget::Register { index: raw.a });
-    Body {
-        operands,
-        reads,
-        writes,
-        implicit_effect: ImplicitEffect::NoEffect,
-        jump_target: OptionalPc::NoPc,
-    }
+    plain(operands, reads, writes)
 }
 
 pub fn lift_self(tags: &[u8], payloads: &[u64], raw: RawInstruction54) -> Body
@@ -264,11 +196,5 @@ pub fn lift_self(tags: &[u8], payloads: &[u64], raw: RawInstruction54) -> Body
             index: register_plus(raw.a, 1),
         },
     );
-    Body {
-        operands,
-        reads,
-        writes,
-        implicit_effect: ImplicitEffect::NoEffect,
-        jump_target: OptionalPc::NoPc,
-    }
+    plain(operands, reads, writes)
 }

@@ -5,11 +5,8 @@ use mathlib.Core.Path.{_≡_, refl, sym, subst}
 use mathlib.Core.Bool.{Bool, true, false, cond}
 use native.Mathlib.Omega.{arith}
 use lib.Dec.{T, eqb}
+use Rattle.fields.specs.Laws.{all}
 use borrow.Author.Tests.{eqb-true, eqb-false}
-
-abbrev pub all : (ℕ → Bool) → ℕ → Bool
-all f zero = true
-all f (suc n) = cond (f n) (all f n) false
 
 left-of : (a b : Bool) → T (cond a b false) → T a
 left-of true b t = tt

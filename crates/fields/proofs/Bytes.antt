@@ -9,8 +9,9 @@ use native.Mathlib.Omega.{arith}
 use lib.Dec.{T, eqb, eqb→eq}
 use borrow.Author.Tests.{ne-eqb}
 use Rattle.fields.specs.Table.{StepClass, following, returning, branching, skipping, skippingIfK, jumping, looping, preparing, entering, invalid, classNumber, classOf, companionNumber, companionOf, fallbackOf}
-use Rattle.fields.specs.Packed.{bothOf, ruleOf, eightOf, byteOf}
-use Rattle.fields.proofs.Below.{all, all-at}
+use Rattle.fields.specs.Packed.{companionAndClass, ruleOf, eightOf, byteOf}
+use Rattle.fields.specs.Laws.{all}
+use Rattle.fields.proofs.Below.{all-at}
 
 -- a block that has no arm; the arms' blocks last first
 abbrev pub NoneOf : List ℕ → ℕ → Type 0
@@ -45,15 +46,15 @@ module _ (column : ℕ → ℕ) where
   at-others ks number t block h none =
       eqb→eq number (eightOf column block) (rw (none-of ks block none) at (all-at (otherRight ks number) 16 t block h))
 
-pub both-byte : (o : ℕ) → o < 128 → byteOf (eightOf bothOf (o / 8)) o ≡ bothOf o
+pub steps-byte : (o : ℕ) → o < 128 → byteOf (eightOf companionAndClass (o / 8)) o ≡ companionAndClass o
 unfolding eightOf classOf companionOf
-both-byte = byte-at bothOf tt
+steps-byte = byte-at companionAndClass tt
 
 pub rule-byte : (o : ℕ) → o < 128 → byteOf (eightOf ruleOf (o / 8)) o ≡ ruleOf o
 unfolding eightOf fallbackOf
 rule-byte = byte-at ruleOf tt
 
--- the two halves of a byte of both columns
+-- the two halves of such a byte
 
 class-low : (x : StepClass) → classNumber x < 16
 class-low following = omega arith
@@ -67,9 +68,9 @@ class-low preparing = omega arith
 class-low entering = omega arith
 class-low invalid = omega arith
 
-module _ (o : ℕ) {both : ℕ} (right : both ≡ bothOf o) where
-  pub low-half : both % 16 ≡ classNumber (classOf o)
+module _ (o : ℕ) {byte : ℕ} (right : byte ≡ companionAndClass o) where
+  pub low-half : byte % 16 ≡ classNumber (classOf o)
   low-half = omega (arith, right, class-low (classOf o))
 
-  pub high-half : both / 16 ≡ companionNumber (companionOf o)
+  pub high-half : byte / 16 ≡ companionNumber (companionOf o)
   high-half = omega (arith, right, class-low (classOf o))

@@ -1,6 +1,9 @@
--- The metamethod events, named and numbered as ltm.h has them: "0 `__index` to 24 `__close`".
+-- The metamethod events, named and numbered as ltm.h of Lua 5.4.8 has them: "0 `__index` to 24 `__close`".
 -- Assumes nothing.
 use Prim.Native.Nat.{ℕ}
+use mathlib.Core.Path.{_≡_}
+use mathlib.Core.List.{List, [], _∷_}
+use Rattle.fields.specs.Opcodes.{numbers}
 
 abbrev pub «TM_INDEX» : ℕ
 «TM_INDEX» = 0
@@ -76,3 +79,37 @@ abbrev pub «TM_CALL» : ℕ
 
 abbrev pub «TM_CLOSE» : ℕ
 «TM_CLOSE» = 24
+
+-- the enumeration TMS, in its order
+abbrev pub «TMS» : List ℕ
+«TMS» =
+    «TM_INDEX»
+    ∷ «TM_NEWINDEX»
+    ∷ «TM_GC»
+    ∷ «TM_MODE»
+    ∷ «TM_LEN»
+    ∷ «TM_EQ»
+    ∷ «TM_ADD»
+    ∷ «TM_SUB»
+    ∷ «TM_MUL»
+    ∷ «TM_MOD»
+    ∷ «TM_POW»
+    ∷ «TM_DIV»
+    ∷ «TM_IDIV»
+    ∷ «TM_BAND»
+    ∷ «TM_BOR»
+    ∷ «TM_BXOR»
+    ∷ «TM_SHL»
+    ∷ «TM_SHR»
+    ∷ «TM_UNM»
+    ∷ «TM_BNOT»
+    ∷ «TM_LT»
+    ∷ «TM_LE»
+    ∷ «TM_CONCAT»
+    ∷ «TM_CALL»
+    ∷ «TM_CLOSE»
+    ∷ []
+
+-- C numbers them from 0 on
+abbrev pub Enumerated : Type 0
+Enumerated = «TMS» ≡ numbers 0 25

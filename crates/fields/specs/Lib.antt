@@ -4,4 +4,6 @@ pub mod Events
 pub mod Word
 pub mod Lopcodes
 pub mod Table
+pub mod Opmodes
 pub mod Packed
+pub mod Laws

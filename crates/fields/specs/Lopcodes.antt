@@ -1,4 +1,4 @@
--- The fields of a word as lopcodes.h of Lua 5.4 takes them, in the header's own shape: sizes and positions added up,
+-- The fields of a word as lopcodes.h of Lua 5.4.8 takes them, in the header's own shape: sizes and positions added up,
 -- a mask made by shifts and complements, offsets as half of the largest argument. `Agreement` says that they are document 01's.
 -- Assumes nothing.
 use Prim.Native.Nat.{ℕ, _+_, _-_, _*_, _/_, _%_, _^_}

@@ -1,6 +1,8 @@
--- The 83 opcodes of Lua 5.4, named and numbered as lopcodes.h has them. Opcodes 0 to 82 are known, 83 to 127 not.
+-- The 83 opcodes, named and numbered as lopcodes.h of Lua 5.4.8 has them. Opcodes 0 to 82 are known, 83 to 127 not.
 -- Assumes nothing.
-use Prim.Native.Nat.{ℕ}
+use Prim.Native.Nat.{ℕ, zero, suc}
+use mathlib.Core.Path.{_≡_}
+use mathlib.Core.List.{List, [], _∷_}
 
 abbrev pub «OP_MOVE» : ℕ
 «OP_MOVE» = 0
@@ -257,3 +259,100 @@ abbrev pub «OP_UNKNOWN» : ℕ
 
 abbrev pub «OP_LAST» : ℕ
 «OP_LAST» = 127
+
+-- the enumeration OpCode, in its order
+abbrev pub «OpCode» : List ℕ
+«OpCode» =
+    «OP_MOVE»
+    ∷ «OP_LOADI»
+    ∷ «OP_LOADF»
+    ∷ «OP_LOADK»
+    ∷ «OP_LOADKX»
+    ∷ «OP_LOADFALSE»
+    ∷ «OP_LFALSESKIP»
+    ∷ «OP_LOADTRUE»
+    ∷ «OP_LOADNIL»
+    ∷ «OP_GETUPVAL»
+    ∷ «OP_SETUPVAL»
+    ∷ «OP_GETTABUP»
+    ∷ «OP_GETTABLE»
+    ∷ «OP_GETI»
+    ∷ «OP_GETFIELD»
+    ∷ «OP_SETTABUP»
+    ∷ «OP_SETTABLE»
+    ∷ «OP_SETI»
+    ∷ «OP_SETFIELD»
+    ∷ «OP_NEWTABLE»
+    ∷ «OP_SELF»
+    ∷ «OP_ADDI»
+    ∷ «OP_ADDK»
+    ∷ «OP_SUBK»
+    ∷ «OP_MULK»
+    ∷ «OP_MODK»
+    ∷ «OP_POWK»
+    ∷ «OP_DIVK»
+    ∷ «OP_IDIVK»
+    ∷ «OP_BANDK»
+    ∷ «OP_BORK»
+    ∷ «OP_BXORK»
+    ∷ «OP_SHRI»
+    ∷ «OP_SHLI»
+    ∷ «OP_ADD»
+    ∷ «OP_SUB»
+    ∷ «OP_MUL»
+    ∷ «OP_MOD»
+    ∷ «OP_POW»
+    ∷ «OP_DIV»
+    ∷ «OP_IDIV»
+    ∷ «OP_BAND»
+    ∷ «OP_BOR»
+    ∷ «OP_BXOR»
+    ∷ «OP_SHL»
+    ∷ «OP_SHR»
+    ∷ «OP_MMBIN»
+    ∷ «OP_MMBINI»
+    ∷ «OP_MMBINK»
+    ∷ «OP_UNM»
+    ∷ «OP_BNOT»
+    ∷ «OP_NOT»
+    ∷ «OP_LEN»
+    ∷ «OP_CONCAT»
+    ∷ «OP_CLOSE»
+    ∷ «OP_TBC»
+    ∷ «OP_JMP»
+    ∷ «OP_EQ»
+    ∷ «OP_LT»
+    ∷ «OP_LE»
+    ∷ «OP_EQK»
+    ∷ «OP_EQI»
+    ∷ «OP_LTI»
+    ∷ «OP_LEI»
+    ∷ «OP_GTI»
+    ∷ «OP_GEI»
+    ∷ «OP_TEST»
+    ∷ «OP_TESTSET»
+    ∷ «OP_CALL»
+    ∷ «OP_TAILCALL»
+    ∷ «OP_RETURN»
+    ∷ «OP_RETURN0»
+    ∷ «OP_RETURN1»
+    ∷ «OP_FORLOOP»
+    ∷ «OP_FORPREP»
+    ∷ «OP_TFORPREP»
+    ∷ «OP_TFORCALL»
+    ∷ «OP_TFORLOOP»
+    ∷ «OP_SETLIST»
+    ∷ «OP_CLOSURE»
+    ∷ «OP_VARARG»
+    ∷ «OP_VARARGPREP»
+    ∷ «OP_EXTRAARG»
+    ∷ []
+
+-- n numbers from the given one on
+abbrev pub numbers : ℕ → ℕ → List ℕ
+numbers i zero = []
+numbers i (suc n) = i ∷ numbers (suc i) n
+
+-- C numbers them from 0 on
+abbrev pub Enumerated : Type 0
+Enumerated = «OpCode» ≡ numbers 0 «OP_UNKNOWN»

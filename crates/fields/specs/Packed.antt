@@ -4,8 +4,8 @@ use Prim.Native.Nat.{ℕ, zero, suc, _+_, _*_, _/_, _%_, _^_}
 use Rattle.fields.specs.Table.{classNumber, classOf, companionNumber, companionOf, fallbackNumber, fallbackOf}
 
 -- the companion and the step class of an opcode in a byte
-abbrev pub bothOf : ℕ → ℕ
-bothOf opcode = companionNumber (companionOf opcode) * 16 + classNumber (classOf opcode)
+abbrev pub companionAndClass : ℕ → ℕ
+companionAndClass opcode = companionNumber (companionOf opcode) * 16 + classNumber (classOf opcode)
 
 -- the fallback rule of an opcode
 abbrev pub ruleOf : ℕ → ℕ

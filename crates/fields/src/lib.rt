@@ -1,4 +1,4 @@
-// Layer 1: the fields of a Lua 5.4 instruction word, and what the opcode table says of its opcode.
+// Layer 1: the fields of a Lua 5.4.8 instruction word, and what the opcode table says of its opcode.
 pub mod columns;
 pub mod events;
 pub mod lookup;

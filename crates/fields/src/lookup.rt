@@ -4,8 +4,8 @@ ghost use Prim.Native.Nat.{_+_, _*_, _<_};
 ghost use lib.ListN.{getD};
 ghost use Rattle.fields.specs.Word.{opcodeOf};
 ghost use Rattle.fields.specs.Table.{opcodeTable, modeNumber, modeOf, classNumber, classOf, companionNumber, companionOf, fallbackNumber, fallbackOf};
-use crate::packed::both;
 use crate::packed::byte;
+use crate::packed::companion_and_class;
 use crate::packed::eight_fallbacks;
 use crate::table::TABLE;
 
@@ -50,13 +50,13 @@ pub fn mode(word: u32) -> u8
 pub fn step_class(word: u32) -> u8
     ensures { λ r. ⌜ r ≡ classNumber (classOf (opcodeOf word)) ⌝ }
 {
-    both(word) % 16
+    companion_and_class(word) % 16
 }
 
 pub fn companion(word: u32) -> u8
     ensures { λ r. ⌜ r ≡ companionNumber (companionOf (opcodeOf word)) ⌝ }
 {
-    both(word) / 16
+    companion_and_class(word) / 16
 }
 
 pub fn fallback(word: u32) -> u8

@@ -1,4 +1,6 @@
-// The 83 opcodes of Lua 5.4, named and numbered as lopcodes.h has them.
+// The 83 opcodes, named and numbered as lopcodes.h of Lua 5.4.8 has them.
+ghost use mathlib.Core.Path.{_≡_};
+ghost use Rattle.fields.specs.Opcodes.{«OpCode»};
 
 pub const OP_MOVE: u8 = 0;
 
@@ -165,3 +167,97 @@ pub const OP_VARARG: u8 = 80;
 pub const OP_VARARGPREP: u8 = 81;
 
 pub const OP_EXTRAARG: u8 = 82;
+
+// The enumeration OpCode, in its order.
+const OPCODES: [u8; 83] = [
+    OP_MOVE,
+    OP_LOADI,
+    OP_LOADF,
+    OP_LOADK,
+    OP_LOADKX,
+    OP_LOADFALSE,
+    OP_LFALSESKIP,
+    OP_LOADTRUE,
+    OP_LOADNIL,
+    OP_GETUPVAL,
+    OP_SETUPVAL,
+    OP_GETTABUP,
+    OP_GETTABLE,
+    OP_GETI,
+    OP_GETFIELD,
+    OP_SETTABUP,
+    OP_SETTABLE,
+    OP_SETI,
+    OP_SETFIELD,
+    OP_NEWTABLE,
+    OP_SELF,
+    OP_ADDI,
+    OP_ADDK,
+    OP_SUBK,
+    OP_MULK,
+    OP_MODK,
+    OP_POWK,
+    OP_DIVK,
+    OP_IDIVK,
+    OP_BANDK,
+    OP_BORK,
+    OP_BXORK,
+    OP_SHRI,
+    OP_SHLI,
+    OP_ADD,
+    OP_SUB,
+    OP_MUL,
+    OP_MOD,
+    OP_POW,
+    OP_DIV,
+    OP_IDIV,
+    OP_BAND,
+    OP_BOR,
+    OP_BXOR,
+    OP_SHL,
+    OP_SHR,
+    OP_MMBIN,
+    OP_MMBINI,
+    OP_MMBINK,
+    OP_UNM,
+    OP_BNOT,
+    OP_NOT,
+    OP_LEN,
+    OP_CONCAT,
+    OP_CLOSE,
+    OP_TBC,
+    OP_JMP,
+    OP_EQ,
+    OP_LT,
+    OP_LE,
+    OP_EQK,
+    OP_EQI,
+    OP_LTI,
+    OP_LEI,
+    OP_GTI,
+    OP_GEI,
+    OP_TEST,
+    OP_TESTSET,
+    OP_CALL,
+    OP_TAILCALL,
+    OP_RETURN,
+    OP_RETURN0,
+    OP_RETURN1,
+    OP_FORLOOP,
+    OP_FORPREP,
+    OP_TFORPREP,
+    OP_TFORCALL,
+    OP_TFORLOOP,
+    OP_SETLIST,
+    OP_CLOSURE,
+    OP_VARARG,
+    OP_VARARGPREP,
+    OP_EXTRAARG,
+];
+
+// All opcodes: its contract holds each name here against the definitions'.
+pub fn enumeration() -> [u8; 83]
+    ensures { λ r. ⌜ r ≡ «OpCode» ⌝ }
+{
+    OPCODES
+}

@@ -3,13 +3,13 @@
 ghost use mathlib.Core.Path.{_≡_};
 ghost use Prim.Native.Nat.{_<_};
 ghost use Rattle.fields.specs.Word.{opcodeOf};
-ghost use Rattle.fields.specs.Packed.{bothOf, ruleOf, eightOf, byteOf};
+ghost use Rattle.fields.specs.Packed.{companionAndClass, ruleOf, eightOf, byteOf};
 
 // Eight opcodes from 8 * block on, a byte each, the first lowest: 16 times the companion wanted, plus the step class.
 // The unknown blocks stand one by one too: the feed then loads one byte, with no test of the block before it.
 fn eight_steps(block: u32) -> u64
     requires { ⌜ block < 16 ⌝ }
-    ensures { λ r. ⌜ r ≡ eightOf bothOf block ⌝ }
+    ensures { λ r. ⌜ r ≡ eightOf companionAndClass block ⌝ }
 {
     match block {
         // OP_MOVE to OP_LOADTRUE
@@ -72,8 +72,8 @@ pub(crate) fn byte(eight: u64, opcode: u32) -> u8
 }
 
 // 16 times the number of the companion that a word's opcode wants, plus that of its step class.
-pub fn both(word: u32) -> u8
-    ensures { λ r. ⌜ r ≡ bothOf (opcodeOf word) ⌝ }
+pub fn companion_and_class(word: u32) -> u8
+    ensures { λ r. ⌜ r ≡ companionAndClass (opcodeOf word) ⌝ }
 {
     let opcode = word % 128;
     byte(eight_steps(opcode / 8), opcode)

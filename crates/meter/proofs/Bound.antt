@@ -7,22 +7,22 @@ use mathlib.Core.List.{List, [], _∷_, _++_, append-assoc, append-nil}
 use native.Mathlib.Omega.{arith}
 use lib.ListN.{length, replicate, length-append}
 use borrow.Author.Tests.{eq-eqb, lt-ltb}
+use Rattle.common.specs.Limits.{mostWords}
 use Rattle.runs.specs.Graph.{In, Graph, Lawful, Along, Path, Unserved, Segment}
-use Rattle.runs.specs.Run.{mostWords}
-use Rattle.runs.proofs.Paths.{along-in}
+use Rattle.runs.proofs.Laws.{laws}
 use Rattle.meter.specs.declared.step.Meter.{Meter}
 use Rattle.meter.specs.Feed.{follows, ceiling, beginOf}
 use Rattle.meter.specs.Model.{Call, begin, feed, Model, emptyModel, lastFrom, writes, servesTo, fed, called, answerTo, modelAfter, modelAnswers, anyServes, sinceService, wordsSince}
 use Rattle.meter.specs.Calls.{meterAfter}
 use Rattle.meter.specs.Bound.{feeds, ShownOn, Bound}
-use Rattle.meter.proofs.Paths.{in-of-member, member-of-in, last-more}
-use Rattle.meter.proofs.Trust.{first-word, follows-model}
+use Rattle.meter.proofs.Paths.{last-more}
+use Rattle.meter.proofs.Calls.{first-word, follows-model}
 
 module _ (g : Graph) (law : Lawful g) where
   -- What the model writes down is a path, or nothing.
 
   along-more : (p : ℕ) (ps : List ℕ) (q : ℕ) → Along g p ps → follows g (lastFrom p ps) q ≡ true → Along g p (ps ++ (q ∷ []))
-  along-more p [] q a h = let i : In q (g .successors p) = in-of-member q (g .successors p) h in (a, i, law .inside p q i)
+  along-more p [] q a h = let i : In q (g .successors p) = laws .member-in q (g .successors p) .0 h in (a, i, law .inside p q i)
   along-more p (x ∷ ps) q a h = (a .0, a .1, along-more x ps q (a .2) h)
 
   abbrev PathOrNone : List ℕ → Type 0
@@ -98,7 +98,7 @@ module _ (g : Graph) (law : Lawful g) where
   written x xs k (q ∷ qs) a =
       let now : (fed g (record { path = x ∷ xs; tally = k }) q ≡ record { path = x ∷ (xs ++ (q ∷ [])); tally = cond (g .serves (lastFrom x xs) q) (k + 1) k })
       × (answerTo g (record { path = x ∷ xs; tally = k }) q ≡ 0) =
-      after-word (record { path = x ∷ xs; tally = k }) q (member-of-in q (g .successors (lastFrom x xs)) (a .1)) in
+      after-word (record { path = x ∷ xs; tally = k }) q (laws .member-in q (g .successors (lastFrom x xs)) .1 (a .1)) in
       let rest : Written x (xs ++ (q ∷ [])) (cond (g .serves (lastFrom x xs) q) (k + 1) k) qs =
       written x (xs ++ (q ∷ [])) (cond (g .serves (lastFrom x xs) q) (k + 1) k) qs (rw (last-more x xs q) (a .2)) in (
         ap (λ (b : Model). modelAfter g b (feeds qs) .path) (now .0) ∙ rest .0 ∙ ap (λ (l : List ℕ). x ∷ l) (append-assoc xs (q ∷ []) qs),
@@ -110,7 +110,7 @@ module _ (g : Graph) (law : Lawful g) where
   written-path [] path = absurd path
   written-path (p ∷ ps) path =
       let rest : Written p [] 0 ps = written p [] 0 ps (path .1) in
-      let first : writes g [] p ≡ true = rw (eq-eqb p 0 (path .0), lt-ltb 0 (g .size) (omega (arith, along-in g p ps (path .1)))) in
+      let first : writes g [] p ≡ true = rw (eq-eqb p 0 (path .0), lt-ltb 0 (g .size) (omega (arith, laws .along-inside g p ps (path .1)))) in
       let now : (fed g emptyModel p ≡ record { path = p ∷ []; tally = 0 }) × (answerTo g emptyModel p ≡ 0) = after-word emptyModel p first in (
         ap (λ (b : Model). modelAfter g b (feeds ps) .path) (now .0) ∙ rest .0,
         rw (now .1, now .0) (ap (λ (l : List ℕ). 0 ∷ l) (rest .1)),
@@ -143,7 +143,7 @@ module _ (g : Graph) (law : Lawful g) where
     ends-least (b ∷ bs) = since-least b bs
 
   along-start : (p : ℕ) (ps qs : List ℕ) → Along g p (ps ++ qs) → Along g p ps
-  along-start p [] qs a = along-in g p qs a
+  along-start p [] qs a = laws .along-inside g p qs a
   along-start p (x ∷ ps) qs a = (a .0, a .1, along-start x ps qs (a .2))
 
   path-start : (bs : List ℕ) (p : ℕ) (ps qs : List ℕ) → Path g (bs ++ ((p ∷ ps) ++ qs)) → Path g (bs ++ (p ∷ ps))

@@ -1,5 +1,5 @@
 pub mod Checks
 pub mod Paths
-pub mod Trust
+pub mod Calls
 pub mod Bound
 pub mod Demand3

@@ -1,4 +1,4 @@
--- Demand 3, its second half: a meter through a list of calls, held against the reference model. proofs/Trust.antt proves it.
+-- Demand 3, its second half: a meter through a list of calls, held against the reference model. proofs/Calls.antt proves it.
 -- Assumes nothing.
 use mathlib.Core.Path.{_≡_}
 use mathlib.Core.List.{List, [], _∷_}

@@ -5,6 +5,7 @@ use mathlib.Core.Path.{_≡_}
 use mathlib.Core.List.{List}
 use Prim.Native.Nat.{ℕ, _≤_}
 use lib.ListN.{length}
+use Rattle.common.specs.Numbers.{«ACCEPTED»}
 use Rattle.runs.specs.Demand.{Demand}
 use Rattle.runs.specs.Instance.{graphOf}
 use Rattle.runs.specs.Run.{runOf, numberOf, longestOf}
@@ -28,5 +29,5 @@ pub record Demand3 (ws : List ℕ) : Type 0 where
   pub meter : (m : Meter) → m .services ≤ ceiling → (calls : List Call) → FollowsModel (graphOf ws) m calls
   -- both together, what owners read first: if accepted, a meter just begun and fed a course never shows a count above L, and on
   -- some course it shows L
-  pub bound : (marks lengths : ℕ) → numberOf (runOf ws marks lengths) ≡ 0 → (m : Meter) → m .services ≤ ceiling
+  pub bound : (marks lengths : ℕ) → numberOf (runOf ws marks lengths) ≡ «ACCEPTED» → (m : Meter) → m .services ≤ ceiling
       → Bound (graphOf ws) m (longestOf (runOf ws marks lengths))

@@ -1,18 +1,14 @@
 -- Document 01, "Meter": begin and feed, over any graph of words. The contracts give the graph of the words lent.
 -- Assumes nothing.
-use mathlib.Core.Bool.{Bool, false, cond, not, _||_}
-use mathlib.Core.List.{List, [], _∷_}
+use mathlib.Core.Bool.{Bool, cond, not, _||_}
 use Prim.Native.Nat.{ℕ, _+_}
 use lib.Dec.{ltb, leb, eqb}
-use Rattle.runs.specs.Graph.{Graph}
-use Rattle.runs.specs.Run.{mostWords}
+use Rattle.common.specs.Limits.{mostWords}
+use Rattle.common.specs.Numbers.{«ACCEPTED», «TOO_MANY_WORDS», «NO_STEP», «FOREIGN_METER»}
+use Rattle.common.specs.Chain.{refuseIf}
+use Rattle.runs.specs.Graph.{member, Graph}
 use Rattle.meter.specs.declared.step.Meter.{Meter}
 use Rattle.meter.specs.declared.step.Fed.{Fed}
-
--- a number stands in a list: the test of `In`
-abbrev pub member : ℕ → List ℕ → Bool
-member q [] = false
-member q (x ∷ xs) = eqb x q || member q xs
 
 -- q is "a step from" p
 abbrev pub follows : Graph → ℕ → ℕ → Bool
@@ -55,14 +51,17 @@ isForeign n m =
 unfoldable pub isStray : Graph → Meter → ℕ → Bool
 isStray g m q = leb (g .size) q || cond (isBegun m) (not (follows g (m .last) q)) (not (eqb q 0))
 
--- where the test holds, the number and the "meter unchanged"; else what the later checks say
-abbrev pub refuseFeed : Bool → ℕ → Meter → Fed → Fed
-refuseFeed t number m later = cond t (record { meter = m; number = number }) later
+-- a number and the "meter unchanged"
+abbrev pub refusal : ℕ → Meter → Fed
+refusal number m = record { meter = m; number = number }
 
--- "Checks run in this order": "a feed 1, 11, 10". Number 1 is "more than 32,768 words"; 0 is acceptance
+-- "Checks run in this order": "a feed 1, 11, 10"
 unfoldable pub feedOf : Graph → Meter → ℕ → Fed
 feedOf g m q =
-    refuseFeed (ltb mostWords (g .size)) 1 m
-    (refuseFeed (isForeign (g .size) m) 11 m
-    (refuseFeed (isStray g m q) 10 m
-    (record { meter = movedTo g m q; number = 0 })))
+    -- "more than 32,768 words"
+    refuseIf (ltb mostWords (g .size)) (refusal «TOO_MANY_WORDS» m)
+    -- "meter not of this function"
+    (refuseIf (isForeign (g .size) m) (refusal «FOREIGN_METER» m)
+    -- "fed word is n or more, or no step from the last, or the first is not 0"
+    (refuseIf (isStray g m q) (refusal «NO_STEP» m)
+    (record { meter = movedTo g m q; number = «ACCEPTED» })))

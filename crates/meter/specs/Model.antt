@@ -5,6 +5,7 @@ use mathlib.Core.List.{List, [], _∷_, _++_}
 use Prim.Native.Nat.{ℕ, _+_}
 use lib.Dec.{ltb, eqb}
 use lib.ListN.{length}
+use Rattle.common.specs.Numbers.{«ACCEPTED», «NO_STEP»}
 use Rattle.runs.specs.Graph.{Graph}
 use Rattle.meter.specs.Feed.{follows}
 
@@ -51,7 +52,7 @@ called g b (feed q) = fed g b q
 
 -- "its answer is 10, and that of a written one 0"
 abbrev pub answerTo : Graph → Model → ℕ → ℕ
-answerTo g b q = cond (writes g (b .path) q) 0 10
+answerTo g b q = cond (writes g (b .path) q) «ACCEPTED» «NO_STEP»
 
 -- "The list may have any length.": the model after the calls, and its answers to the feeds among them
 abbrev pub modelAfter : Graph → Model → List Call → Model

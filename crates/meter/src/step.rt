@@ -1,10 +1,20 @@
 // Begin and feed by value: a meter goes in, a meter comes out.
 ghost use mathlib.Core.Path.{_≡_};
 ghost use Prim.Native.Nat.{_<_, _≤_};
+ghost use Rattle.common.specs.Limits.{mostWords};
 ghost use Rattle.runs.specs.Instance.{graphOf};
-ghost use Rattle.runs.specs.Run.{mostWords};
 ghost use Rattle.meter.specs.Feed.{beginOf, oneService, movedTo, isForeign, isStray, feedOf};
-use runs::longest::MOST_WORDS;
+use common::limits::MOST_WORDS;
+
+// A feed's number has 32 bits, as C gets it.
+
+const ACCEPTED: u32 = common::numbers::ACCEPTED as u32;
+
+const TOO_MANY_WORDS: u32 = common::numbers::TOO_MANY_WORDS as u32;
+
+const NO_STEP: u32 = common::numbers::NO_STEP as u32;
+
+const FOREIGN_METER: u32 = common::numbers::FOREIGN_METER as u32;
 
 // Document 01, "Meter": services stay at this.
 const CEILING: u32 = 4294967295;
@@ -125,24 +135,24 @@ pub fn feed_step(words: &[u32], m: Meter, q: usize) -> Fed
     if MOST_WORDS < words.len() {
         return Fed {
             meter: m,
-            number: 1,
+            number: TOO_MANY_WORDS,
         };
     }
     if is_foreign(words.len(), m) {
         return Fed {
             meter: m,
-            number: 11,
+            number: FOREIGN_METER,
         };
     }
     if is_stray(words, m, q) {
         return Fed {
             meter: m,
-            number: 10,
+            number: NO_STEP,
         };
     }
     let next = moved(words, m, q);
     Fed {
         meter: next,
-        number: 0,
+        number: ACCEPTED,
     }
 }

@@ -31,6 +31,7 @@ use denote.Triple.Walked.{says}
 use denote.Triple.Clauses.{ensured, lasts}
 use Rattle.values.specs.declared.ir.SemanticInstruction.{SemanticInstruction}
 use Rattle.records.specs.declared.refusals.Plan.{Plan}
+use Rattle.common.specs.Limits.{mostWords}
 use Rattle.records.specs.Lift.{liftOf}
 use Rattle.records.specs.Refusals.{planOf}
 use Rattle.values.proofs.ir.SemanticInstruction as R
@@ -197,7 +198,7 @@ module _ {M : Type 1} (𝓤 : URA M) (H : Heap 𝓤) (A : Atoms 𝓤) (W : Given
   abbrev pub to-one : ℕ → One 𝓤 H A at-mem run .Ghost
   to-one i = (((κ, tt), (q, tt), tt, y₁ i, passed₁ i), tt)
 
-  pub ask-one : (i : ℕ) → i < 2 ^ 64 → (i < length (now wr)) × (length (now wr) ≤ 32768) → ent 𝓤 (sep 𝓤 (sem 𝓤 H A (flft κ q)) (sem 𝓤 H A All)) (sep 𝓤 (One 𝓤 H A at-mem run .pre (to-one i)) (sem 𝓤 H A All))
+  pub ask-one : (i : ℕ) → i < 2 ^ 64 → (i < length (now wr)) × (length (now wr) ≤ mostWords) → ent 𝓤 (sep 𝓤 (sem 𝓤 H A (flft κ q)) (sem 𝓤 H A All)) (sep 𝓤 (One 𝓤 H A at-mem run .pre (to-one i)) (sem 𝓤 H A All))
   ask-one i fits required =
       qed W (‵ (flft κ q) ∷ ‵ All ∷ []) ∵ use2 W ((‵ (flft κ q) ⊛ ‵ ftrue) ⊛ ‵ (Asked₁ i) ⊛ ‵ All) (gathers₁ i fits) $ split ! $ move ! (1 ∷ []) $ split ! $ move ! (2 ∷ 0 ∷ []) $
       use2 W (raw (One 𝓤 H A at-mem run .pre (to-one i))) (qed W ((‵ (flft κ q) ⊛ ‵ ftrue) ∷ ‵ (Asked₁ i) ∷ []) ∵ says ! required $ done !) $ done !

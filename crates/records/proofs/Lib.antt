@@ -1,7 +1,7 @@
-pub mod Columns
-pub mod Elements
+pub mod ElementWise
+pub mod Fallbacks
+pub mod Laws
 pub mod Lent
-pub mod Lowest
-pub mod Plan
+pub mod Sources
 pub mod Turns
 pub mod Wrap

@@ -1,6 +1,6 @@
 -- Document 01, "Records": the record of a word. A refinement of the original: lift_instruction_54 of lifter.rs, whose behaviour it is,
--- with its corners. Which arm an opcode takes stands here, the arms themselves in crate families; fallback and companion come from the
--- opcode table.
+-- with its corners. Which arm an opcode takes stands here, the arms themselves in crate families. The fallback comes from the opcode table's
+-- fourth column, which is the Rust's; of the columns that are Lua's a record takes nothing.
 -- Assumes nothing.
 use Prim.Native.Nat.{ℕ, _+_, _-_, _^_}
 use mathlib.Core.Bool.{true, false}
@@ -10,9 +10,9 @@ use lib.IntN.{ℤ, pos, negsuc, _+ℤ_, negℤ}
 use lib.Ieee.{binary64, ofInt}
 use lib.ListN.{length, getD}
 use Rattle.fields.specs.declared.word.RawInstruction54.{RawInstruction54}
-use Rattle.fields.specs.Opcodes.{«OP_MOVE», «OP_LOADI», «OP_LOADF», «OP_LOADK», «OP_LOADKX», «OP_LOADFALSE», «OP_LFALSESKIP», «OP_LOADTRUE», «OP_LOADNIL», «OP_GETUPVAL», «OP_SETUPVAL», «OP_GETTABUP», «OP_GETTABLE», «OP_GETI», «OP_GETFIELD», «OP_SETTABUP», «OP_SETTABLE», «OP_SETI», «OP_SETFIELD», «OP_NEWTABLE», «OP_SELF», «OP_ADDI», «OP_BXORK», «OP_SHLI», «OP_SHR», «OP_MMBINI», «OP_MMBINK», «OP_LEN», «OP_CONCAT», «OP_CLOSE», «OP_TBC», «OP_JMP», «OP_EQK», «OP_GEI», «OP_TESTSET», «OP_CALL», «OP_TAILCALL», «OP_RETURN», «OP_RETURN0», «OP_RETURN1», «OP_FORLOOP», «OP_FORPREP», «OP_TFORPREP», «OP_TFORCALL», «OP_TFORLOOP», «OP_SETLIST», «OP_CLOSURE», «OP_VARARG», «OP_VARARGPREP», «OP_EXTRAARG»}
+use Rattle.fields.specs.Opcodes.{«OP_MOVE», «OP_LOADI», «OP_LOADF», «OP_LOADK», «OP_LOADKX», «OP_LOADFALSE», «OP_LFALSESKIP», «OP_LOADTRUE», «OP_LOADNIL», «OP_GETUPVAL», «OP_SETUPVAL», «OP_GETTABUP», «OP_GETTABLE», «OP_GETI», «OP_GETFIELD», «OP_SETTABUP», «OP_SETTABLE», «OP_SETI», «OP_SETFIELD», «OP_NEWTABLE», «OP_SELF», «OP_ADDI», «OP_BXORK», «OP_SHLI», «OP_SHR», «OP_MMBIN», «OP_MMBINI», «OP_MMBINK», «OP_LEN», «OP_CONCAT», «OP_CLOSE», «OP_TBC», «OP_JMP», «OP_EQK», «OP_GEI», «OP_TESTSET», «OP_CALL», «OP_TAILCALL», «OP_RETURN», «OP_RETURN0», «OP_RETURN1», «OP_FORLOOP», «OP_FORPREP», «OP_TFORPREP», «OP_TFORCALL», «OP_TFORLOOP», «OP_SETLIST», «OP_CLOSURE», «OP_VARARG», «OP_VARARGPREP», «OP_EXTRAARG»}
 use Rattle.fields.specs.Word.{fieldsOf, opcodeOf, cOf, bxOf, axOf, sjOf}
-use Rattle.fields.specs.Table.{Companion, alone, metamethodAfter, arithmeticBefore, jumpAfter, extraAfter, extraAfterIfK, callAtTarget, loopAfter, companionOf, FallbackRule, fixed, byC, noFallback, fallbackOf}
+use Rattle.fields.specs.Table.{FallbackRule, fixed, byC, noFallback, fallbackOf}
 use Rattle.values.specs.declared.ir.TypedOperand.the-variants as O
 use Rattle.values.specs.declared.ir.ImplicitEffect.the-variants.{NoEffect, ConditionalSkip, CompanionPair}
 use Rattle.values.specs.declared.ir.CompanionRole.the-variants as role
@@ -23,7 +23,7 @@ use Rattle.values.specs.declared.ir.OptionalPc.the-variants.{NoPc, Pc}
 use Rattle.values.specs.declared.ir.Confidence.{Confidence}
 use Rattle.values.specs.declared.ir.Confidence.the-variants.{Reviewed, Unverified}
 use Rattle.values.specs.declared.ir.SemanticInstruction.{SemanticInstruction}
-use Rattle.values.specs.Values.{choose}
+use Rattle.common.specs.Chain.{choose}
 use Rattle.families.specs.declared.builders.Body.{Body}
 use Rattle.families.specs.Parts.{eventOf}
 use Rattle.families.specs.Families as F
@@ -145,7 +145,7 @@ bodyOf words tags payloads names pc word raw opcode =
     (choose (leb opcode «OP_CONCAT») (arithmetic tags payloads pc raw opcode)
     (choose (leb opcode «OP_TESTSET») (control pc word raw opcode) (calls pc word raw opcode))))
 
--- What the opcode table decides
+-- What stands beside the arms
 
 -- the fallback column: none, a fixed event, or the event that lifter.rs's tm_name gives for C
 abbrev pub fallbackBy : FallbackRule → ℕ → Fallback
@@ -157,22 +157,15 @@ fallbackBy noFallback c = NoFallback
 unfoldable pub before : ℕ → OptionalPc
 before pc = choose (eqb pc 0) NoPc (Pc (pc - 1))
 
--- the companion column, as far as lifter.rs names companions: the EXTRAARG after a word, the word before 46 to 48. It names neither the
--- word after arithmetic or a test, nor what SETLIST, TFORPREP and TFORCALL want.
-abbrev pub companionBy : Companion → ℕ → OptionalPc
-companionBy alone pc = NoPc
-companionBy metamethodAfter pc = NoPc
-companionBy arithmeticBefore pc = before pc
-companionBy jumpAfter pc = NoPc
-companionBy extraAfter pc = Pc (pc + 1)
-companionBy extraAfterIfK pc = NoPc
-companionBy callAtTarget pc = NoPc
-companionBy loopAfter pc = NoPc
-
--- the column, but for two opcodes: NEWTABLE's EXTRAARG is "unmentioned", and EXTRAARG itself, which wants nothing, names the word before
+-- the word that lifter.rs names as a record's companion: the EXTRAARG that LOADKX takes, there or not; the word before 46 to 48 and EXTRAARG;
+-- and no other opcode has one (NEWTABLE's EXTRAARG is "unmentioned"). What lvm.c wants beside a word is another matter: it stands in the opcode
+-- table, and no record takes it from there.
 unfoldable pub companionPc : ℕ → ℕ → OptionalPc
 companionPc opcode pc =
-    choose (eqb opcode «OP_NEWTABLE») NoPc (choose (eqb opcode «OP_EXTRAARG») (before pc) (companionBy (companionOf opcode) pc))
+    choose (eqb opcode «OP_LOADKX») (Pc (pc + 1))
+    (choose (eqb opcode «OP_MMBIN») (before pc)
+    (choose (eqb opcode «OP_MMBINI») (before pc)
+    (choose (eqb opcode «OP_MMBINK») (before pc) (choose (eqb opcode «OP_EXTRAARG») (before pc) NoPc))))
 
 -- "Confidence is Unverified exactly for opcodes above 82"
 unfoldable pub confidenceOf : ℕ → Confidence

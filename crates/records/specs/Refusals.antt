@@ -1,38 +1,17 @@
 -- Document 01, "Refused inputs": what lifting refuses, numbers 1 to 6 in their order. The Rust refuses nothing: all of this is added.
 -- Assumes nothing.
-use Prim.Native.Nat.{ℕ, zero, suc, _+_, _/_, _%_, _^_}
+use Prim.Native.Nat.{ℕ, _+_, _/_, _%_, _^_}
 use mathlib.Core.Bool.{Bool, true, false, not}
 use mathlib.Core.List.{List}
 use lib.Dec.{ltb, eqb}
 use lib.ListN.{length, getD}
-use Rattle.values.specs.Values.{choose, unnamed, «TAG_NIL», «TAG_FALSE», «TAG_TRUE», «TAG_INTEGER», «TAG_FLOAT», «TAG_SHORT_STRING», «TAG_LONG_STRING»}
-use Rattle.records.specs.declared.refusals.Place.{Place}
-use Rattle.records.specs.declared.refusals.Place.the-variants.{Nowhere, At}
-use Rattle.records.specs.declared.refusals.Answer.{Answer}
+use Rattle.common.specs.declared.answer.Answer.{Answer}
+use Rattle.common.specs.Limits.{mostWords, mostConstants, mostNames}
+use Rattle.common.specs.Numbers.{«ACCEPTED», «TOO_MANY_WORDS», «CONSTANT_COUNT», «UNKNOWN_TAG», «STRING_PAST_BYTES», «NAMES», «SHORT_SLICE»}
+use Rattle.common.specs.Chain.{choose, refuseIf, answer, accepted}
+use Rattle.common.specs.Lowest.{lowest}
+use Rattle.values.specs.Values.{unnamed, «TAG_NIL», «TAG_FALSE», «TAG_TRUE», «TAG_INTEGER», «TAG_FLOAT», «TAG_SHORT_STRING», «TAG_LONG_STRING»}
 use Rattle.records.specs.declared.refusals.Plan.{Plan}
-
--- "32,769 words (32,768 pass)"
-abbrev pub mostWords : ℕ
-mostWords = 32768
-
--- "Each answer carries its number, 0 when accepted, and a place, 0 unless named"
-abbrev pub answer : ℕ → ℕ → Answer
-answer number place = record { number = number; place = place }
-
--- a refusal on a condition, else what is checked next
-unfoldable pub refuseIf : ℕ → Bool → Answer → Answer
-refuseIf number true next = answer number 0
-refuseIf number false next = next
-
--- a refusal with its place, where there is one, else what is checked next
-unfoldable pub refuseAt : ℕ → Place → Answer → Answer
-refuseAt number (At place) next = answer number place
-refuseAt number Nowhere next = next
-
--- "place: lowest index": of the n indices from the given one on, the first at which the test is true
-unfoldable pub lowest : (ℕ → Bool) → ℕ → ℕ → Place
-lowest test index zero = Nowhere
-lowest test index (suc n) = choose (test index) (At index) (lowest test (index + 1) n)
 
 -- 3, "unknown tag"
 unfoldable pub unknownTag : ℕ → Bool
@@ -55,42 +34,42 @@ unfoldable pub isString : ℕ → Bool
 isString tag = choose (eqb tag «TAG_SHORT_STRING») true (eqb tag «TAG_LONG_STRING»)
 
 -- 4, "string ends past the string bytes"
-unfoldable pub longStringAt : List ℕ → List ℕ → ℕ → ℕ → Bool
-longStringAt tags payloads bytes index = choose (isString (getD tags index 0)) (past bytes (getD payloads index 0)) false
+unfoldable pub stringPastAt : List ℕ → List ℕ → ℕ → ℕ → Bool
+stringPastAt tags payloads bytes index = choose (isString (getD tags index 0)) (past bytes (getD payloads index 0)) false
 
 -- 5, "a name past the string bytes"; one that is unnamed has no bytes
-unfoldable pub longNameAt : List ℕ → ℕ → ℕ → Bool
-longNameAt names bytes index = choose (eqb (getD names index 0) unnamed) false (past bytes (getD names index 0))
+unfoldable pub namePastAt : List ℕ → ℕ → ℕ → Bool
+namePastAt names bytes index = choose (eqb (getD names index 0) unnamed) false (past bytes (getD names index 0))
 
--- 6, "a lent result slice shorter than the words"
-abbrev pub checkRoom : ℕ → ℕ → Answer
-checkRoom n room = refuseIf 6 (ltb room n) (answer 0 0)
+-- "place: lowest index"; where there is none, the number of them
 
--- 5, "over 255 names, or a name past the string bytes; place: lowest index if the count is allowed, else 0"
-abbrev pub checkNames : List ℕ → ℕ → Answer → Answer
-checkNames names bytes next =
-    refuseIf 5 (ltb 255 (length names)) (refuseAt 5 (lowest (longNameAt names bytes) 0 (length names)) next)
+abbrev pub firstUnknownTag : List ℕ → ℕ
+firstUnknownTag tags = lowest (unknownTagAt tags) (length tags)
 
--- 4, "string ends past the string bytes; place: lowest index"
-abbrev pub checkStrings : List ℕ → List ℕ → ℕ → Answer → Answer
-checkStrings tags payloads bytes next = refuseAt 4 (lowest (longStringAt tags payloads bytes) 0 (length tags)) next
+abbrev pub firstStringPast : List ℕ → List ℕ → ℕ → ℕ
+firstStringPast tags payloads bytes = lowest (stringPastAt tags payloads bytes) (length tags)
 
--- 2, "tag and payload counts differ, or over 65,536"; 3, "unknown tag; place: lowest index"; then 4
-abbrev pub checkConstants : List ℕ → List ℕ → ℕ → Answer → Answer
-checkConstants tags payloads bytes next =
-    refuseIf 2 (not (eqb (length tags) (length payloads)))
-    (refuseIf 2 (ltb 65536 (length tags))
-    (refuseAt 3 (lowest (unknownTagAt tags) 0 (length tags)) (checkStrings tags payloads bytes next)))
+abbrev pub firstNamePast : List ℕ → ℕ → ℕ
+firstNamePast names bytes = lowest (namePastAt names bytes) (length names)
 
--- 1, "more than 32,768 words"; then the others. "Checks run in this order".
+-- "Checks run in this order": 1, "more than 32,768 words"; 2, "tag and payload counts differ, or over 65,536"; 3, "unknown tag; place: lowest
+-- index"; 4, "string ends past the string bytes; place: lowest index"; 5, "over 255 names, or a name past the string bytes; place: lowest
+-- index if the count is allowed, else 0"; 6, "a lent result slice shorter than the words".
 unfoldable pub answerOf : ℕ → List ℕ → List ℕ → List ℕ → ℕ → ℕ → Answer
 answerOf n tags payloads names bytes room =
-    refuseIf 1 (ltb mostWords n) (checkConstants tags payloads bytes (checkNames names bytes (checkRoom n room)))
+    refuseIf (ltb mostWords n) (answer «TOO_MANY_WORDS» 0)
+    (refuseIf (not (eqb (length tags) (length payloads))) (answer «CONSTANT_COUNT» 0)
+    (refuseIf (ltb mostConstants (length tags)) (answer «CONSTANT_COUNT» 0)
+    (refuseIf (ltb (firstUnknownTag tags) (length tags)) (answer «UNKNOWN_TAG» (firstUnknownTag tags))
+    (refuseIf (ltb (firstStringPast tags payloads bytes) (length tags)) (answer «STRING_PAST_BYTES» (firstStringPast tags payloads bytes))
+    (refuseIf (ltb mostNames (length names)) (answer «NAMES» 0)
+    (refuseIf (ltb (firstNamePast names bytes) (length names)) (answer «NAMES» (firstNamePast names bytes))
+    (refuseIf (ltb room n) (answer «SHORT_SLICE» 0) accepted)))))))
 
 -- the answer, and how many records are written: all or none
 unfoldable pub planOf : ℕ → List ℕ → List ℕ → List ℕ → ℕ → ℕ → Plan
 planOf n tags payloads names bytes room =
     record {
       answer = answerOf n tags payloads names bytes room;
-      count = choose (eqb (answerOf n tags payloads names bytes room .number) 0) n 0;
+      count = choose (eqb (answerOf n tags payloads names bytes room .number) «ACCEPTED») n 0;
     }

@@ -12,12 +12,14 @@ use Rattle.values.specs.declared.ir.ImplicitEffect.the-variants.{NoEffect}
 use Rattle.values.specs.declared.ir.Fallback.the-variants.{NoFallback}
 use Rattle.values.specs.declared.ir.OptionalPc.the-variants.{NoPc}
 use Rattle.values.specs.declared.ir.Confidence.the-variants.{Unverified}
-use Rattle.values.specs.Values.{choose}
+use Rattle.common.specs.Limits.{mostWords}
+use Rattle.common.specs.Numbers.{«ACCEPTED»}
+use Rattle.common.specs.Chain.{choose}
 use Rattle.families.specs.Shapes.{operandsOf, readsOf, writesOf}
 use Rattle.records.specs.declared.lift.Lifted.{Lifted}
 use Rattle.records.specs.declared.refusals.Plan.{Plan}
 use Rattle.records.specs.Lift.{liftOf}
-use Rattle.records.specs.Refusals.{mostWords, answerOf, planOf}
+use Rattle.records.specs.Refusals.{answerOf, planOf}
 
 -- the records of the first n words, in the first n places of a list
 abbrev pub filled : List ℕ → List ℕ → List ℕ → List ℕ → ℕ → List SemanticInstruction → List SemanticInstruction
@@ -35,7 +37,7 @@ pub record ElementWise (words tags payloads names : List ℕ) (bytes : ℕ) (rec
   pub same-length : length (recordsAfter words tags payloads names bytes records) ≡ length records
   -- accepted: record i is the lift of word i, for i below n
   pub lifted :
-      answerOf (length words) tags payloads names bytes (length records) .number ≡ 0
+      answerOf (length words) tags payloads names bytes (length records) .number ≡ «ACCEPTED»
       → (i : ℕ) (d : SemanticInstruction)
       → i < length words
       → getD (recordsAfter words tags payloads names bytes records) i d ≡ liftOf words tags payloads names i
@@ -46,14 +48,14 @@ pub record ElementWise (words tags payloads names : List ℕ) (bytes : ℕ) (rec
       → getD (recordsAfter words tags payloads names bytes records) i d ≡ getD records i d
   -- refused: "Nothing lent is altered"
   pub refused :
-      eqb (answerOf (length words) tags payloads names bytes (length records) .number) 0 ≡ false
+      eqb (answerOf (length words) tags payloads names bytes (length records) .number) «ACCEPTED» ≡ false
       → recordsAfter words tags payloads names bytes records ≡ records
 
 -- The record of one word, by value: the answer of lifting with room for each word, and the record, where there is one.
 
 -- what stands in place of a record that there is not
-unfoldable pub blank : SemanticInstruction
-blank =
+unfoldable pub blankRecord : SemanticInstruction
+blankRecord =
     record {
       pc = 0;
       «raw_word» = 0;
@@ -73,7 +75,7 @@ unfoldable pub liftedBy : Plan → ℕ → SemanticInstruction → Lifted
 liftedBy plan pc instruction =
     choose (ltb pc (plan .count))
     (record { answer = plan .answer; present = true; instruction = instruction })
-    (record { answer = plan .answer; present = false; instruction = blank })
+    (record { answer = plan .answer; present = false; instruction = blankRecord })
 
 abbrev pub liftedOf : List ℕ → List ℕ → List ℕ → List ℕ → ℕ → ℕ → Lifted
 liftedOf words tags payloads names bytes pc =
@@ -81,6 +83,6 @@ liftedOf words tags payloads names bytes pc =
 
 -- The record of one word, by value, with no answer: for a caller that has made the plan once for all words, and then asks for the words
 -- below its count. Past 32,768 words, or past the words, there is none.
-unfoldable pub recordAt : List ℕ → List ℕ → List ℕ → List ℕ → ℕ → SemanticInstruction
-recordAt words tags payloads names pc =
-    choose (ltb mostWords (length words)) blank (choose (ltb pc (length words)) (liftOf words tags payloads names pc) blank)
+unfoldable pub recordOrBlank : List ℕ → List ℕ → List ℕ → List ℕ → ℕ → SemanticInstruction
+recordOrBlank words tags payloads names pc =
+    choose (ltb mostWords (length words)) blankRecord (choose (ltb pc (length words)) (liftOf words tags payloads names pc) blankRecord)

@@ -1,7 +1,7 @@
 // Which arm of lifter.rs an opcode takes, a group of opcodes at a time. Callers keep pc below the most words.
 ghost use mathlib.Core.Path.{_≡_};
 ghost use Prim.Native.Nat.{_<_};
-ghost use Rattle.records.specs.Refusals.{mostWords};
+ghost use Rattle.common.specs.Limits.{mostWords};
 ghost use Rattle.records.specs.Lift.{extendedIndex, jmpTarget, ahead, back, loads, tables, arithmetic, control, calls, bodyOf};
 use families::arithmetic::*;
 use families::builders::Body;

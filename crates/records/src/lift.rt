@@ -1,20 +1,19 @@
-// The record of a word: its arm's operands and effects, with what the opcode table decides.
+// The record of a word: its arm's operands and effects, with fallback, companion and confidence.
 ghost use mathlib.Core.Path.{_≡_};
 ghost use Prim.Native.Nat.{_<_, _≤_};
 ghost use lib.ListN.{length};
+ghost use Rattle.common.specs.Limits.{mostWords};
 ghost use Rattle.fields.specs.Word.{opcodeOf};
 ghost use Rattle.fields.specs.Table.{fallbackOf};
 ghost use Rattle.records.specs.Lift.{fallbackBy, before, companionPc, confidenceOf, liftOf};
-ghost use Rattle.records.specs.Refusals.{mostWords};
-ghost use Rattle.records.specs.Walk.{blank, liftedOf, recordAt};
+ghost use Rattle.records.specs.Walk.{blankRecord, liftedOf, recordOrBlank};
 use crate::dispatch::lift_body;
-use crate::refusals::Answer;
-use crate::refusals::MOST_WORDS;
 use crate::refusals::planned;
+use common::Answer;
+use common::limits::MOST_WORDS;
 use families::builders::*;
 use families::parts::event_of;
 use fields::columns::*;
-use fields::lookup::companion;
 use fields::lookup::fallback;
 use fields::opcodes::*;
 use fields::word::decode;
@@ -55,24 +54,17 @@ fn word_before(pc: usize) -> OptionalPc
     }
 }
 
-fn companion_of(word: u32, pc: usize) -> OptionalPc
+fn companion_of(opcode: u8, pc: usize) -> OptionalPc
     requires { ⌜ pc < mostWords ⌝ }
-    ensures { λ r. ⌜ r ≡ companionPc (opcodeOf word) pc ⌝ }
+    ensures { λ r. ⌜ r ≡ companionPc opcode pc ⌝ }
 {
-    let number = opcode(word);
-    if number == OP_NEWTABLE {
-        return OptionalPc::NoPc;
-    }
-    if number == OP_EXTRAARG {
-        return word_before(pc);
-    }
-    let wanted = companion(word);
-    if wanted == EXTRA_AFTER {
-        OptionalPc::Pc(pc + 1)
-    } else if wanted == ARITHMETIC_BEFORE {
-        word_before(pc)
-    } else {
-        OptionalPc::NoPc
+    match opcode {
+        OP_LOADKX => OptionalPc::Pc(pc + 1),
+        OP_MMBIN => word_before(pc),
+        OP_MMBINI => word_before(pc),
+        OP_MMBINK => word_before(pc),
+        OP_EXTRAARG => word_before(pc),
+        _ => OptionalPc::NoPc,
     }
 }
 
@@ -115,13 +107,13 @@ pub(crate) fn lift_at<'a>(
         implicit_effect,
         metamethod_fallback: fallback_of(raw_word, raw.c),
         jump_target,
-        companion_pc: companion_of(raw_word, pc),
+        companion_pc: companion_of(number, pc),
         confidence: confidence_of(number),
     }
 }
 
-fn no_instruction() -> SemanticInstruction
-    ensures { λ r. ⌜ r ≡ blank ⌝ }
+fn blank_record() -> SemanticInstruction
+    ensures { λ r. ⌜ r ≡ blankRecord ⌝ }
 {
     SemanticInstruction {
         pc: 0,
@@ -162,27 +154,27 @@ pub fn lift_word<'a>(
         Lifted {
             answer,
             present: false,
-            instruction: no_instruction(),
+            instruction: blank_record(),
         }
     }
 }
 
 // One record by value, for a caller that has made the plan once for all words: the tables need no check to be read.
-pub fn record_at<'a>(
+pub fn record_or_blank<'a>(
     words: &'a [u32],
     tags: &'a [u8],
     payloads: &'a [u64],
     names: &'a [u64],
     pc: usize,
 ) -> SemanticInstruction
-    ensures { λ r. ⌜ r ≡ recordAt (now (words .entry)) (now (tags .entry)) (now (payloads .entry)) (now (names .entry)) pc ⌝ }
+    ensures { λ r. ⌜ r ≡ recordOrBlank (now (words .entry)) (now (tags .entry)) (now (payloads .entry)) (now (names .entry)) pc ⌝ }
 {
     if MOST_WORDS < words.len() {
-        return no_instruction();
+        return blank_record();
     }
     if pc < words.len() {
         lift_at(words, tags, payloads, names, pc)
     } else {
-        no_instruction()
+        blank_record()
     }
 }

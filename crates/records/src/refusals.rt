@@ -3,31 +3,19 @@ ghost use mathlib.Core.Path.{_≡_};
 ghost use mathlib.Core.Bool.{false};
 ghost use lib.Dec.{eqb};
 ghost use lib.ListN.{length};
-ghost use Rattle.values.specs.Values.{choose, unnamed};
-ghost use Rattle.records.specs.Refusals.{answer, lowest, unknownTag, unknownTagAt, past, isString, longStringAt, longNameAt, checkRoom, checkNames, checkStrings, checkConstants, answerOf, planOf};
+ghost use Rattle.common.specs.Chain.{choose, answer};
+ghost use Rattle.values.specs.Values.{unnamed};
+ghost use Rattle.records.specs.Refusals.{unknownTag, past, isString, firstUnknownTag, firstStringPast, firstNamePast};
+ghost use Rattle.records.specs.Refusals.{answerOf, planOf};
+use common::Answer;
+use common::limits::*;
+use common::numbers::*;
 use values::lookup::*;
-
-pub struct Answer {
-    pub number: u8,
-    pub place: usize,
-}
 
 pub struct Plan {
     pub answer: Answer,
     pub count: usize,
 }
-
-// Where a check fails, if it does.
-pub enum Place {
-    Nowhere,
-    At(usize),
-}
-
-pub(crate) const MOST_WORDS: usize = 32768;
-
-const MOST_CONSTANTS: usize = 65536;
-
-const MOST_NAMES: usize = 255;
 
 fn refuse(number: u8, place: usize) -> Answer
     ensures { λ r. ⌜ r ≡ answer number place ⌝ }
@@ -68,7 +56,7 @@ fn is_past(bytes: usize, payload: u64) -> bool
     bytes < end as usize
 }
 
-fn is_long_string(tag: u8, payload: u64, bytes: usize) -> bool
+fn is_string_past(tag: u8, payload: u64, bytes: usize) -> bool
     ensures { λ r. ⌜ r ≡ choose (isString tag) (past bytes payload) false ⌝ }
 {
     if is_string(tag) {
@@ -78,7 +66,7 @@ fn is_long_string(tag: u8, payload: u64, bytes: usize) -> bool
     }
 }
 
-fn is_long_name(payload: u64, bytes: usize) -> bool
+fn is_name_past(payload: u64, bytes: usize) -> bool
     ensures { λ r. ⌜ r ≡ choose (eqb payload unnamed) false (past bytes payload) ⌝ }
 {
     if payload == UNNAMED {
@@ -88,104 +76,46 @@ fn is_long_name(payload: u64, bytes: usize) -> bool
     }
 }
 
-fn first_unknown_tag(tags: &[u8]) -> Place
-    ensures { λ r. ⌜ r ≡ lowest (unknownTagAt (now (tags .entry))) 0 (length (now (tags .entry))) ⌝ }
+// Where a test holds first; the number of elements if it does so nowhere.
+
+fn first_unknown_tag(tags: &[u8]) -> usize
+    ensures { λ r. ⌜ r ≡ firstUnknownTag (now (tags .entry)) ⌝ }
 {
     let mut i: usize = 0;
     while i < tags.len() {
         if is_unknown(tags[i]) {
-            return Place::At(i);
+            return i;
         }
         i += 1;
     }
-    Place::Nowhere
+    i
 }
 
-fn first_long_string(tags: &[u8], payloads: &[u64], bytes: usize) -> Place
+fn first_string_past(tags: &[u8], payloads: &[u64], bytes: usize) -> usize
     requires { ⌜ length (now tags) ≡ length (now payloads) ⌝ }
-    ensures { λ r. ⌜ r ≡ lowest (longStringAt (now (tags .entry)) (now (payloads .entry)) bytes) 0 (length (now (tags .entry))) ⌝ }
+    ensures { λ r. ⌜ r ≡ firstStringPast (now (tags .entry)) (now (payloads .entry)) bytes ⌝ }
 {
     let mut i: usize = 0;
     while i < tags.len() {
-        if is_long_string(tags[i], payloads[i], bytes) {
-            return Place::At(i);
+        if is_string_past(tags[i], payloads[i], bytes) {
+            return i;
         }
         i += 1;
     }
-    Place::Nowhere
+    i
 }
 
-fn first_long_name(names: &[u64], bytes: usize) -> Place
-    ensures { λ r. ⌜ r ≡ lowest (longNameAt (now (names .entry)) bytes) 0 (length (now (names .entry))) ⌝ }
+fn first_name_past(names: &[u64], bytes: usize) -> usize
+    ensures { λ r. ⌜ r ≡ firstNamePast (now (names .entry)) bytes ⌝ }
 {
     let mut i: usize = 0;
     while i < names.len() {
-        if is_long_name(names[i], bytes) {
-            return Place::At(i);
+        if is_name_past(names[i], bytes) {
+            return i;
         }
         i += 1;
     }
-    Place::Nowhere
-}
-
-fn check_room(n: usize, room: usize) -> Answer
-    ensures { λ r. ⌜ r ≡ checkRoom n room ⌝ }
-{
-    if room < n { refuse(6, 0) } else { refuse(0, 0) }
-}
-
-fn check_names(names: &[u64], bytes: usize, n: usize, room: usize) -> Answer
-    ensures { λ r. ⌜ r ≡ checkNames (now (names .entry)) bytes (checkRoom n room) ⌝ }
-{
-    if MOST_NAMES < names.len() {
-        return refuse(5, 0);
-    }
-    let long = first_long_name(names, bytes);
-    match long {
-        Place::At(i) => refuse(5, i),
-        Place::Nowhere => check_room(n, room),
-    }
-}
-
-fn check_strings(
-    tags: &[u8],
-    payloads: &[u64],
-    names: &[u64],
-    bytes: usize,
-    n: usize,
-    room: usize,
-) -> Answer
-    requires { ⌜ length (now tags) ≡ length (now payloads) ⌝ }
-    ensures { λ r. ⌜ r ≡ checkStrings (now (tags .entry)) (now (payloads .entry)) bytes (checkNames (now (names .entry)) bytes (checkRoom n room)) ⌝ }
-{
-    let long = first_long_string(tags, payloads, bytes);
-    match long {
-        Place::At(i) => refuse(4, i),
-        Place::Nowhere => check_names(names, bytes, n, room),
-    }
-}
-
-fn check_constants(
-    tags: &[u8],
-    payloads: &[u64],
-    names: &[u64],
-    bytes: usize,
-    n: usize,
-    room: usize,
-) -> Answer
-    ensures { λ r. ⌜ r ≡ checkConstants (now (tags .entry)) (now (payloads .entry)) bytes (checkNames (now (names .entry)) bytes (checkRoom n room)) ⌝ }
-{
-    if tags.len() != payloads.len() {
-        return refuse(2, 0);
-    }
-    if MOST_CONSTANTS < tags.len() {
-        return refuse(2, 0);
-    }
-    let unknown = first_unknown_tag(tags);
-    match unknown {
-        Place::At(i) => refuse(3, i),
-        Place::Nowhere => check_strings(tags, payloads, names, bytes, n, room),
-    }
+    i
 }
 
 // The answer for so many words, string bytes and places for records.
@@ -200,9 +130,35 @@ fn check(
     ensures { λ r. ⌜ r ≡ answerOf n (now (tags .entry)) (now (payloads .entry)) (now (names .entry)) bytes room ⌝ }
 {
     if MOST_WORDS < n {
-        refuse(1, 0)
-    } else {
-        check_constants(tags, payloads, names, bytes, n, room)
+        return refuse(TOO_MANY_WORDS, 0);
+    }
+    if tags.len() != payloads.len() {
+        return refuse(CONSTANT_COUNT, 0);
+    }
+    if MOST_CONSTANTS < tags.len() {
+        return refuse(CONSTANT_COUNT, 0);
+    }
+    let unknown = first_unknown_tag(tags);
+    if unknown < tags.len() {
+        return refuse(UNKNOWN_TAG, unknown);
+    }
+    let string = first_string_past(tags, payloads, bytes);
+    if string < tags.len() {
+        return refuse(STRING_PAST_BYTES, string);
+    }
+    if MOST_NAMES < names.len() {
+        return refuse(NAMES, 0);
+    }
+    let name = first_name_past(names, bytes);
+    if name < names.len() {
+        return refuse(NAMES, name);
+    }
+    if room < n {
+        return refuse(SHORT_SLICE, 0);
+    }
+    Answer {
+        number: ACCEPTED,
+        place: 0,
     }
 }
 
@@ -219,7 +175,7 @@ pub fn planned<'a>(
 {
     let answer = check(words.len(), tags, payloads, names, bytes.len(), room);
     let number = answer.number;
-    if number == 0 {
+    if number == ACCEPTED {
         Plan {
             answer,
             count: words.len(),

@@ -4,8 +4,8 @@ ghost use lib.ListN.{length};
 ghost use Rattle.records.specs.Refusals.{planOf};
 ghost use Rattle.records.specs.Walk.{recordsAfter};
 use crate::lift::lift_at;
-use crate::refusals::Answer;
 use crate::refusals::planned;
+use common::Answer;
 use values::ir::SemanticInstruction;
 
 // All decisions are the plan's: a refusal is a loop of no turns, so that nothing is written.

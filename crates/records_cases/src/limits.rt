@@ -1,5 +1,6 @@
 // Refusals 1 to 6 at their edges. Each line: the answer's number and place, and how many records are written.
 use crate::print;
+use common::numbers::UNKNOWN_TAG;
 use records::refusals::planned;
 use values::lookup::*;
 
@@ -189,7 +190,7 @@ fn tag(t: u8) {
     let payloads = [0u64; 2];
     let plan = planned(&words, &tags, &payloads, &payloads, &tags, 1);
     let answer = plan.answer;
-    if answer.number != 3 {
+    if answer.number != UNKNOWN_TAG {
         print::number(t as u64);
     } else if answer.place != 1 {
         print::text(b" place");

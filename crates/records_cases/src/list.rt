@@ -7,7 +7,7 @@ ghost use Rattle.records.specs.Walk.{recordsAfter};
 use crate::print;
 use crate::sums;
 use crate::tables;
-use records::refusals::Answer;
+use common::Answer;
 use records::walk::lift_proto_lua54;
 use values::ir::Confidence;
 use values::ir::EffectTarget;

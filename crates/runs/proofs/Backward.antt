@@ -13,7 +13,7 @@ use Rattle.runs.specs.Graph.{Graph, In, Lawful}
 use Rattle.runs.specs.Marks.{markOf}
 use Rattle.runs.specs.Longest.{best, within, heaviest, lengthOf}
 use Rattle.runs.specs.Invariants.{Filled, at}
-use Rattle.runs.proofs.Order.{past, one-of, bit}
+use Rattle.common.proofs.Order.{past, one-of, bit}
 use Rattle.runs.proofs.Paths.{Reach, next}
 use Rattle.runs.proofs.Heaviest.{best-same, heaviest-is}
 use Rattle.runs.proofs.Moves.{at-set}

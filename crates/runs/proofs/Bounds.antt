@@ -1,21 +1,19 @@
 -- The laws of the successors: below the number of words, the lower first, and forward where a step does not serve.
 -- Assumes nothing.
 use Prim.Native.Nat.{ℕ, _+_, _<_}
-use mathlib.Core.Path.{_≡_, refl}
-use mathlib.Core.Bool.{Bool, true, false, cond, _||_}
+use mathlib.Core.Path.{_≡_, refl, sym, _∙_}
+use mathlib.Core.Bool.{Bool, true, false, cond, or-true, true≢false}
 use mathlib.Core.List.{List}
 use lib.Dec.{ltb, leb, eqb}
 use lib.IntN.{ℤ, pos, negsuc}
 use lib.ListN.{length, getD}
 use borrow.Author.Tests.{ltb-true, leb-false}
-use Rattle.fields.specs.Opcodes.{«OP_CALL», «OP_TFORCALL»}
 use Rattle.fields.specs.Word.{kOf}
 use Rattle.fields.specs.Table.{StepClass, following, returning, branching, skipping, skippingIfK, jumping, looping, preparing, entering, invalid, classOf}
 use Rattle.runs.specs.declared.edges.Successors.{Successors}
 use Rattle.runs.specs.declared.edges.Successors.the-variants.{One, Two}
 use Rattle.runs.specs.Successors.{unless, one, ordered, two, opcodeAt, nextOf, companionPresent, successorsOf, servesOf}
-use Rattle.runs.specs.Laws.{Below, Laws}
-use Rattle.runs.proofs.Tests.{neither}
+use Rattle.runs.specs.Laws.{Below}
 
 -- a test, and what it says where it holds
 by-test : (n : ℕ) (t : Bool) (s : Successors) → (t ≡ true → Below n s) → Below n (unless t s)
@@ -61,7 +59,8 @@ below ws p =
 
 pub forward : (ws : List ℕ) (p q : ℕ) → servesOf ws p q ≡ false → p < q
 unfolding servesOf
-forward ws p q e = leb-false q p (neither (eqb (opcodeAt ws p) «OP_CALL» || eqb (opcodeAt ws p) «OP_TFORCALL») (leb q p) e .1)
-
-pub laws : Laws
-laws = record { below = below; forward = forward }
+forward ws p q e = go (leb q p) refl
+  where
+    go : (t : Bool) → leb q p ≡ t → p < q
+    go true d = absurd (true≢false (sym (rw (d, or-true)) ∙ e))
+    go false d = leb-false q p d

@@ -7,9 +7,8 @@ use native.Mathlib.Omega.{arith}
 use lib.ListN.{getD, List·getD-eq-default}
 use Rattle.fields.specs.Word.{opcodeOf}
 use Rattle.fields.specs.Table.{StepClass, following, returning, branching, skipping, skippingIfK, jumping, looping, preparing, entering, invalid, classNumber, classOf, Companion, alone, metamethodAfter, arithmeticBefore, jumpAfter, extraAfter, extraAfterIfK, callAtTarget, loopAfter, companionNumber, companionOf, opcodeTable}
-use Rattle.fields.specs.Packed.{bothOf}
-use Rattle.fields.proofs.Bytes.{low-half, high-half}
-use Rattle.fields.proofs.Entries.{entry}
+use Rattle.fields.specs.Packed.{companionAndClass}
+use Rattle.fields.proofs.Laws.{laws}
 use Rattle.runs.specs.Successors.{opcodeAt}
 use Rattle.runs.specs.Columns.{classes, classFrom, companions, companionFrom}
 
@@ -51,24 +50,24 @@ module _ (table ws : List ℕ) (p : ℕ) (right : table ≡ opcodeTable) where
   pub class-in : classFrom (getD table (opcodeOf (getD ws p 0) * 4 + 1) 0) ≡ classOf (opcodeAt ws p)
   unfolding opcodeAt
   class-in =
-      rw (right, entry (opcodeOf (getD ws p 0)) 1 (omega arith) (omega arith)) (class-back (classOf (opcodeOf (getD ws p 0))))
+      rw (right, laws .class-entry (opcodeOf (getD ws p 0)) (omega arith)) (class-back (classOf (opcodeOf (getD ws p 0))))
 
   pub companion-in : companionFrom (getD table (opcodeOf (getD ws p 0) * 4 + 2) 0) ≡ companionOf (opcodeAt ws p)
   unfolding opcodeAt
   companion-in =
-      rw (right, entry (opcodeOf (getD ws p 0)) 2 (omega arith) (omega arith))
+      rw (right, laws .companion-entry (opcodeOf (getD ws p 0)) (omega arith))
       (companion-back (companionOf (opcodeOf (getD ws p 0))))
 
--- the same, from both columns in a byte
-module _ (ws : List ℕ) (p both : ℕ) (right : both ≡ bothOf (opcodeOf (getD ws p 0))) where
-  pub class-of-both : classFrom (both % 16) ≡ classOf (opcodeAt ws p)
+-- the same, from a byte of the packed table
+module _ (ws : List ℕ) (p byte : ℕ) (right : byte ≡ companionAndClass (opcodeOf (getD ws p 0))) where
+  pub class-of-byte : classFrom (byte % 16) ≡ classOf (opcodeAt ws p)
   unfolding opcodeAt
-  class-of-both =
+  class-of-byte =
       let o : ℕ = opcodeOf (getD ws p 0) in
-      ap classFrom (low-half o right) ∙ class-back (classOf o)
+      ap classFrom (laws .class-half o right) ∙ class-back (classOf o)
 
-  pub companion-of-both : companionFrom (both / 16) ≡ companionOf (opcodeAt ws p)
+  pub companion-of-byte : companionFrom (byte / 16) ≡ companionOf (opcodeAt ws p)
   unfolding opcodeAt
-  companion-of-both =
+  companion-of-byte =
       let o : ℕ = opcodeOf (getD ws p 0) in
-      ap companionFrom (high-half o right) ∙ companion-back (companionOf o)
+      ap companionFrom (laws .companion-half o right) ∙ companion-back (companionOf o)

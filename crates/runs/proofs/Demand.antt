@@ -1,31 +1,39 @@
 -- Demand 3, first half, of the definition that the contract of `longest_run` cites. Assumes nothing.
 use mathlib.Core.Path.{_≡_, refl, sym, subst, _∙_}
 use mathlib.Core.Logic.{_↔_, _⊎_, inl, inr, ⊎-elim}
-use mathlib.Core.Bool.{true}
+use mathlib.Core.Bool.{Bool, true, false, _&&_, false≢true}
 use mathlib.Core.List.{List, [], _∷_}
 use Prim.Native.Nat.{ℕ, _≤_, _<_}
 use native.Mathlib.Nat.{pos-of-ne-zero}
 use native.Mathlib.Omega.{arith}
 use borrow.Author.Tests.{eqb-true, eq-eqb, lt-ltb, le-ltb}
 use lib.ListN.{length}
+use Rattle.common.specs.Limits.{mostWords}
+use Rattle.common.specs.Numbers.{«NO_WORDS», «REACHES_INVALID», «RUN_TOO_LONG»}
+use Rattle.common.specs.Lowest.{lowest}
+use Rattle.common.proofs.Lowest.{lowest-laws}
 use Rattle.runs.specs.declared.longest.Run.{Run}
 use Rattle.runs.specs.declared.longest.Run.the-variants.{Accepted, Refused}
 use Rattle.runs.specs.Graph.{Graph, Reachable, weigh}
 use Rattle.runs.specs.Marks.{markOf}
-use Rattle.runs.specs.Longest.{lowestFrom, longest, first}
+use Rattle.runs.specs.Longest.{longest, first}
 use Rattle.runs.specs.Instance.{graphOf, unitWeight}
-use Rattle.runs.specs.Run.{mostWords, reachesInvalid, lowestInvalid, runOf}
+use Rattle.runs.specs.Run.{reachesInvalid, lowestInvalid, runOf}
 use Rattle.runs.specs.Meaning.{Meaning}
 use Rattle.runs.specs.Demand.{MeetsInvalidAt, MeetsInvalid, Passes, RunsTooLong, Demand}
-use Rattle.runs.proofs.Order.{split, same-or-not}
-use Rattle.runs.proofs.Tests.{both}
+use Rattle.common.proofs.Order.{split, same-or-not}
 use Rattle.runs.proofs.Paths.{reach-in, reach-of, segment-start}
-use Rattle.runs.proofs.Lists.{lowest-first, apart}
+use Rattle.runs.proofs.Lists.{apart}
 use Rattle.runs.proofs.Meaning.{meaning}
-use Rattle.runs.proofs.Outcome.{run-7, run-words}
+use Rattle.runs.proofs.Outcome.{run-none, run-words}
 use Rattle.runs.proofs.Lawful.{lawful}
 
-weigh-counts : (ps : List ℕ) → weigh unitWeight ps ≡ length ps
+-- two tests that both hold
+both : (t u : Bool) → t && u ≡ true → (t ≡ true) × (u ≡ true)
+both true u e = (refl, e)
+both false u e = absurd (false≢true e)
+
+pub weigh-counts : (ps : List ℕ) → weigh unitWeight ps ≡ length ps
 weigh-counts [] = refl
 weigh-counts (p ∷ ps) = let h = weigh-counts ps in omega arith
 
@@ -33,26 +41,26 @@ module _ (ws : List ℕ) where
   abbrev graph : Graph
   graph = graphOf ws
 
-  means : Meaning graph unitWeight
+  pub means : Meaning graph unitWeight
   means = meaning graph (lawful ws) unitWeight (λ p. omega arith)
 
-  inside : {p : ℕ} → Reachable graph p → p < length ws
+  pub inside : {p : ℕ} → Reachable graph p → p < length ws
   inside r = reach-in graph (reach-of graph r)
 
   -- the lowest reachable invalid word is met by a path, and none below it is
   met : lowestInvalid ws < length ws → MeetsInvalidAt ws (lowestInvalid ws)
   unfolding lowestInvalid
   met h =
-      let e = both _ _ (lowest-first (reachesInvalid ws) 0 (length ws) .holds (omega arith)) in
-      record { reachable = means .mark-one (lowestFrom (reachesInvalid ws) 0 (length ws)) h .0 (eqb-true _ _ (e .0)); invalid = e .1 }
+      let e = both _ _ (lowest-laws .first (reachesInvalid ws) 0 (length ws) .holds (omega arith)) in
+      record { reachable = means .mark-one (lowest (reachesInvalid ws) (length ws)) h .0 (eqb-true _ _ (e .0)); invalid = e .1 }
 
   least-met : (p : ℕ) → MeetsInvalidAt ws p → lowestInvalid ws ≤ p
   unfolding lowestInvalid
   least-met p m =
       let y : reachesInvalid ws p ≡ true = simp (eq-eqb (markOf graph p) 1 (means .mark-one p (inside (m .reachable)) .1 (m .reachable)), m .invalid) in
       ⊎-elim (λ d. d)
-      (λ d. absurd (apart (reachesInvalid ws) p y (lowest-first (reachesInvalid ws) 0 (length ws) .not-before p (omega arith) d)))
-      (split (lowestFrom (reachesInvalid ws) 0 (length ws)) p)
+      (λ d. absurd (apart (reachesInvalid ws) p y (lowest-laws .first (reachesInvalid ws) 0 (length ws) .not-before p (omega arith) d)))
+      (split (lowest (reachesInvalid ws) (length ws)) p)
 
   unmet : length ws ≤ lowestInvalid ws → MeetsInvalid ws → ⊥
   unmet h m = omega (arith, least-met (m .word) (m .met), inside (m .met .reachable))
@@ -74,7 +82,7 @@ module _ (ws : List ℕ) where
   Ground = (length ws ≡ 0) ⊎ (MeetsInvalid ws ⊎ RunsTooLong ws)
 
   -- a refusal that names no place
-  unplaced : (number : ℕ) → 0 < number → (number ≡ 8 → ⊥) → Ground → (number ≡ 7) ↔ (length ws ≡ 0) → (MeetsInvalid ws → ⊥) → (number ≡ 9) ↔ RunsTooLong ws → Demand ws (Refused number 0)
+  unplaced : (number : ℕ) → 0 < number → (number ≡ «REACHES_INVALID» → ⊥) → Ground → (number ≡ «NO_WORDS») ↔ (length ws ≡ 0) → (MeetsInvalid ws → ⊥) → (number ≡ «RUN_TOO_LONG») ↔ RunsTooLong ws → Demand ws (Refused number 0)
   unplaced number h other ground seven valid nine =
       record {
         refused = (λ k. ground, λ k. h);
@@ -89,12 +97,12 @@ module _ (ws : List ℕ) where
         first-lowest = λ z. absurd (omega arith);
       }
 
-  none : length ws ≡ 0 → Demand ws (Refused 7 0)
+  none : length ws ≡ 0 → Demand ws (Refused «NO_WORDS» 0)
   none z =
-      unplaced 7 (omega arith) (λ e. omega arith) (inl z) (λ e. z, λ e. refl)
+      unplaced «NO_WORDS» (omega arith) (λ e. omega arith) (inl z) (λ e. z, λ e. refl)
       (λ m. omega (arith, inside (m .met .reachable))) (λ e. absurd (omega arith), λ t. absurd (omega (arith, passes-some (t .passes))))
 
-  invalid : lowestInvalid ws < length ws → Demand ws (Refused 8 (lowestInvalid ws))
+  invalid : lowestInvalid ws < length ws → Demand ws (Refused «REACHES_INVALID» (lowestInvalid ws))
   invalid h =
       let m : MeetsInvalid ws = record { word = lowestInvalid ws; met = met h } in
       record {
@@ -111,10 +119,10 @@ module _ (ws : List ℕ) where
       }
 
   module _ (some : 0 < length ws) (valid : length ws ≤ lowestInvalid ws) where
-    long : mostWords < longest graph unitWeight → Demand ws (Refused 9 0)
+    long : mostWords < longest graph unitWeight → Demand ws (Refused «RUN_TOO_LONG» 0)
     long h =
         let t : RunsTooLong ws = record { start = first graph unitWeight; count = longest graph unitWeight; over = h; passes = passes-first some } in
-        unplaced 9 (omega arith) (λ e. omega arith) (inr (inr t)) (λ e. absurd (omega arith), λ z. absurd (omega arith)) (unmet valid) (λ e. t, λ e. refl)
+        unplaced «RUN_TOO_LONG» (omega arith) (λ e. omega arith) (inr (inr t)) (λ e. absurd (omega arith), λ z. absurd (omega arith)) (unmet valid) (λ e. t, λ e. refl)
 
     accepted : longest graph unitWeight ≤ mostWords → Demand ws (Accepted (longest graph unitWeight) (first graph unitWeight))
     accepted h =
@@ -146,7 +154,7 @@ module _ (ws : List ℕ) where
     pub demand : Demand ws (runOf ws a b)
     demand =
         ⊎-elim
-        (λ z. of-run (none z) (run-7 ws a b few h k z))
+        (λ z. of-run (none z) (run-none ws a b few h k z))
         (λ n. let some = pos-of-ne-zero n in let r = run-words ws a b few h k some in
         ⊎-elim
         (λ valid. ⊎-elim

@@ -6,7 +6,7 @@ use mathlib.Core.List.{List, [], _∷_}
 use Prim.Native.Nat.{ℕ, zero, suc, _+_, _-_, _≤_, _<_, max}
 use native.Mathlib.Omega.{arith}
 use native.Mathlib.Nat.{le-antisymm}
-use Rattle.runs.proofs.Order.{split}
+use Rattle.common.proofs.Order.{split}
 use Rattle.runs.specs.Graph.{Graph, In, Lawful, weigh}
 use Rattle.runs.specs.Longest.{best, within, heaviest}
 use Rattle.runs.proofs.Paths.{Free}

@@ -9,7 +9,7 @@ use Rattle.runs.specs.Graph.{In, Lawful}
 use Rattle.runs.specs.Laws.{Below}
 use Rattle.runs.specs.Successors.{listOf, successorsOf}
 use Rattle.runs.specs.Instance.{graphOf}
-use Rattle.runs.proofs.Bounds.{laws}
+use Rattle.runs.proofs.Bounds.{below, forward}
 
 below-each : (n : ℕ) (s : Successors) → Below n s → (q : ℕ) → In q (listOf s) → q < n
 below-each n Invalid b q i = absurd i
@@ -21,4 +21,4 @@ below-each n (Two a c) b q (inr (inl e)) = omega arith
 below-each n (Two a c) b q (inr (inr i)) = absurd i
 
 pub lawful : (ws : List ℕ) → Lawful (graphOf ws)
-lawful ws = record { inside = λ p. below-each _ (successorsOf ws p) (laws .below ws p); forward = λ p q i. laws .forward ws p q }
+lawful ws = record { inside = λ p. below-each _ (successorsOf ws p) (below ws p); forward = λ p q i. forward ws p q }

@@ -1,97 +1,43 @@
--- The laws of specs/Successors.antt: which case holds where. The proofs cite these and do not open the definitions.
--- Assumes nothing.
-use Prim.Native.Nat.{ℕ, zero, suc, _+_, _-_, _<_, _≤_}
-use mathlib.Core.Path.{_≡_, refl, ap, sym, _∙_}
-use mathlib.Core.Bool.{Bool, true, false, false≢true}
-use native.Mathlib.Omega.{arith}
-use mathlib.Core.List.{List}
-use lib.ListN.{length, getD}
-use Rattle.fields.specs.Table.{classOf, companionOf}
-use Rattle.runs.specs.Columns.{classFrom, companionFrom}
-use lib.Dec.{ltb}
-use lib.IntN.{ℤ, pos, negsuc, negℤ, _+ℤ_, _-ℤ_, +ℤ-assoc}
-use native.Mathlib.Nat.{not-suc-le-zero}
-use borrow.Author.Tests.{lt-ltb, le-ltb}
-use Rattle.runs.specs.declared.edges.Successors.{Successors}
-use Rattle.runs.specs.declared.edges.Successors.the-variants.{Invalid, One, Two}
-use Rattle.runs.specs.Successors.{unless, one, ordered, two, opcodeAt, nextOf, standsAt, companionPresent, successorsOf}
+-- The laws that callers go by, each from its own file. Assumes nothing.
+use mathlib.Core.Path.{_≡_, refl, sym}
+use mathlib.Core.Logic.{inl, inr}
+use mathlib.Core.Bool.{Bool, true, false, _||_, or-true, false≢true}
+use mathlib.Core.List.{List, [], _∷_}
+use Prim.Native.Nat.{ℕ}
+use lib.Dec.{eqb}
+use borrow.Author.Tests.{eqb-true, eq-eqb}
+use Rattle.runs.specs.Graph.{In, member}
+use Rattle.runs.specs.Laws.{Laws}
+use Rattle.runs.proofs.Bounds.{below, forward}
+use Rattle.runs.proofs.Lawful.{lawful}
+use Rattle.runs.proofs.Lvm.{agreement-holds}
+use Rattle.runs.proofs.Paths.{along-in}
+use Rattle.runs.proofs.Demand.{demand}
+use Rattle.runs.proofs.Slices.{enough, slices}
 
-pub one-in : {n q : ℕ} → q < n → One q ≡ one n (pos q)
-unfolding one unless
-one-in {n} {q} h = rw (lt-ltb q n h)
-
-pub one-out : {n q : ℕ} → n ≤ q → Invalid ≡ one n (pos q)
-unfolding one unless
-one-out {n} {q} h = rw (le-ltb q n h)
-
-pub two-in : {n q r : ℕ} → q < r → r < n → Two q r ≡ two n (pos q) (pos r)
-unfolding two unless ordered
-two-in {n} {q} {r} h k = rw (lt-ltb q n (omega arith), lt-ltb r n k, lt-ltb q r h)
-
-pub two-out : {n r : ℕ} (z : ℤ) → n ≤ r → Invalid ≡ two n z (pos r)
-unfolding two unless
-two-out {n} {r} (pos q) k = rw (le-ltb r n k) (const (ltb q n))
+in-of-member : (q : ℕ) (xs : List ℕ) → member q xs ≡ true → In q xs
+in-of-member q [] h = absurd (false≢true h)
+in-of-member q (x ∷ xs) h = go (eqb x q) refl (in-of-member q xs) h
   where
-    const : (t : Bool) → Invalid ≡ unless t Invalid
-    const true = refl
-    const false = refl
-two-out (negsuc q) k = refl
+    go : (t : Bool) → eqb x q ≡ t → (member q xs ≡ true → In q xs) → t || member q xs ≡ true → In q (x ∷ xs)
+    go true e later d = inl (sym (eqb-true x q e))
+    go false e later d = inr (later d)
 
--- a difference of two naturals, by its sign
-difference-in : (x b : ℕ) → b ≤ x → pos x -ℤ pos b ≡ pos (x - b)
-difference-in x zero h = ap pos (omega arith)
-difference-in x (suc b) h = rw (le-ltb x (suc b) h)
+member-of-in : (q : ℕ) (xs : List ℕ) → In q xs → member q xs ≡ true
+member-of-in q [] i = absurd i
+member-of-in q (x ∷ xs) (inl e) = rw (eq-eqb x q (sym e))
+member-of-in q (x ∷ xs) (inr i) = rw (member-of-in q xs i, or-true)
 
-difference-below : (x b : ℕ) → x < b → pos x -ℤ pos b ≡ negsuc (b - suc x)
-difference-below x zero h = absurd (not-suc-le-zero h)
-difference-below x (suc b) h = rw (lt-ltb x (suc b) h)
-
--- a word and a signed distance: the sum in naturals, less the offset
-module _ (n m a b : ℕ) where
-  pub away-in : b ≤ m + a → one n (pos (m + a - b)) ≡ one n (pos m +ℤ (pos a -ℤ pos b))
-  away-in h = ap (one n) (sym (difference-in (m + a) b h) ∙ +ℤ-assoc (pos m) (pos a) (negℤ (pos b)))
-
-  pub away-below : m + a < b → Invalid ≡ one n (pos m +ℤ (pos a -ℤ pos b))
-  unfolding one
-  away-below h = ap (one n) (sym (difference-below (m + a) b h) ∙ +ℤ-assoc (pos m) (pos a) (negℤ (pos b)))
-
--- two equal next words are one
-twice : (t : Bool) (s : Successors) → unless t s ≡ unless t (unless t s)
-unfolding unless
-twice true s = refl
-twice false s = refl
-
-two-equal : (n x : ℕ) → one n (pos x) ≡ two n (pos x) (pos x)
-unfolding one two ordered
-two-equal n x = rw (le-ltb x x (omega arith)) (twice (ltb x n) (One x))
-
--- a word and a distance back
-module _ (n x b : ℕ) where
-  pub back-in : b ≤ x → two n (pos (x - b)) (pos x) ≡ two n (pos x -ℤ pos b) (pos x)
-  back-in h = ap (λ (z : ℤ). two n z (pos x)) (sym (difference-in x b h))
-
-  pub back-below : x < b → Invalid ≡ two n (pos x -ℤ pos b) (pos x)
-  unfolding two
-  back-below h = ap (λ (z : ℤ). two n z (pos x)) (sym (difference-below x b h))
-
-  pub back-none : b ≡ 0 → one n (pos x) ≡ two n (pos x -ℤ pos b) (pos x)
-  back-none e =
-      two-equal n x ∙ ap (λ (z : ℤ). two n z (pos x)) (ap pos (omega arith) ∙ sym (difference-in x b (omega arith)))
-
--- a test that holds
-let-through : (t : Bool) (s : Successors) → t ≡ true → s ≡ unless t s
-unfolding unless
-let-through true s e = refl
-let-through false s e = absurd (false≢true e)
-
--- a word, by the columns of its opcode
-module _ (ws : List ℕ) (p : ℕ) where
-  pub outside : length ws ≤ p → successorsOf ws p ≡ Invalid
-  unfolding successorsOf unless
-  outside h = rw (le-ltb p (length ws) h)
-
-  -- within the words, by the numbers of the two columns
-  module _ (companion class : ℕ) (inside : p < length ws) (d : companionFrom companion ≡ companionOf (opcodeAt ws p)) (e : classFrom class ≡ classOf (opcodeAt ws p)) where
-    pub by-columns : unless (standsAt (companionFrom companion) ws p) (nextOf (classFrom class) (length ws) (getD ws p 0) p) ≡ successorsOf ws p
-    unfolding successorsOf companionPresent
-    by-columns = rw (d, e) (let-through (ltb p (length ws)) _ (lt-ltb p (length ws) inside))
+pub laws : Laws
+laws =
+    record {
+      member-in = λ q xs. (in-of-member q xs, member-of-in q xs);
+      below = below;
+      forward = forward;
+      lawful = lawful;
+      agreement = agreement-holds;
+      along-inside = along-in;
+      enough = enough;
+      demand = λ ws a b e. demand ws a b (e .few) (e .marks-long) (e .lengths-long);
+      slices = slices;
+    }

@@ -1,6 +1,5 @@
 pub mod Backward
 pub mod Bounds
-pub mod Clearing
 pub mod Columns
 pub mod Demand
 pub mod Heaviest
@@ -11,8 +10,8 @@ pub mod Lvm
 pub mod Marks
 pub mod Meaning
 pub mod Moves
-pub mod Order
 pub mod Outcome
 pub mod Paths
-pub mod Tests
+pub mod Slices
+pub mod Steps
 pub mod Turn

@@ -2,7 +2,7 @@
 -- test, and then a case of the switch at a time.
 -- Assumes nothing.
 use Prim.Native.Nat.{ℕ, _+_, _*_, _<_, _^_}
-use mathlib.Core.Path.{_≡_, refl, ap, sym, subst, _∙_}
+use mathlib.Core.Path.{_≡_, refl, ap, sym, _∙_}
 use mathlib.Core.Logic.{inl, inr, _↔_}
 use mathlib.Core.Bool.{Bool, true, false, cond, true≢false}
 use mathlib.Core.List.{List, [], _∷_}
@@ -13,17 +13,18 @@ use lib.IntN.{ℤ, pos, negsuc, _+ℤ_, _-ℤ_, +ℤ-assoc, +ℤ-comm, +ℤ-idr}
 use lib.ListN.{length, getD}
 use borrow.Author.Tests.{ltb-false, eqb-true, eqb-false, eq-eqb, ne-eqb}
 use Rattle.fields.specs.declared.word.RawInstruction54.{RawInstruction54}
-use Rattle.fields.specs.Opcodes.{«OP_JMP»}
+use Rattle.fields.specs.Opcodes.{«OP_JMP», «OP_TFORCALL», «OP_TFORLOOP»}
 use Rattle.fields.specs.Word.{opcodeOf, kOf, bxOf, sjOf}
 use Rattle.fields.specs.Lopcodes.{«GET_OPCODE», «GETARG_Bx», «GETARG_sJ», «TESTARG_k»}
-use Rattle.fields.specs.Table.{StepClass, following, returning, branching, skipping, skippingIfK, jumping, looping, preparing, entering, invalid, classNumber, classOf, Companion, jumpAfter, companionNumber, companionOf}
-use Rattle.fields.proofs.Below.{all, all-at}
-use Rattle.fields.proofs.Lopcodes.{agreement}
+use Rattle.fields.specs.Table.{StepClass, following, returning, branching, skipping, skippingIfK, jumping, looping, preparing, entering, invalid, classNumber, classOf, Companion, alone, jumpAfter, callAtTarget, loopAfter, companionNumber, companionOf}
+use Rattle.fields.specs.Laws.{all}
+use Rattle.fields.proofs.Laws.{laws}
 use Rattle.runs.specs.declared.edges.Successors.{Successors}
 use Rattle.runs.specs.declared.edges.Successors.the-variants.{One, Two}
 use Rattle.runs.specs.Columns.{classFrom, companionFrom}
 use Rattle.runs.specs.Successors.{unless, one, ordered, two, opcodeAt, nextOf, standsAt, companionPresent, successorsOf, isInvalid, listOf}
-use Rattle.runs.specs.Lvm.{Body, still, skip, arith as arithmetic, jmp, condjump, testset, call, leave, loop, forprep, tforprep, tforcall, setlist, assert0, absent, fetch, dojump, waysOf, switch, vmdispatch, targetsOf, waysAt, goesOn, Among, integers, Alike, Agreement}
+use Rattle.runs.specs.Graph.{In}
+use Rattle.runs.specs.Lvm.{Body, still, skip, arith as arithmetic, jmp, condjump, testset, call, leave, forloop, forprep, tforprep, tforcall, tforloop, setlist, assert0, absent, fetch, dojump, waysOf, switch, vmdispatch, targetsOf, bodyAt, waysAt, goesOn, integers, Alike, Agreement}
 use Rattle.runs.proofs.Columns.{class-back, companion-back}
 
 -- The two classifications.
@@ -38,10 +39,11 @@ classBy condjump = branching
 classBy testset = branching
 classBy call = following
 classBy leave = returning
-classBy loop = looping
+classBy forloop = looping
 classBy forprep = preparing
 classBy tforprep = entering
 classBy tforcall = following
+classBy tforloop = looping
 classBy setlist = skippingIfK
 classBy assert0 = invalid
 classBy absent = invalid
@@ -57,24 +59,24 @@ class-by : (o : ℕ) → o < 128 → classOf o ≡ classBy (vmdispatch switch o)
 unfolding alike-at
 class-by o h =
     sym (class-back (classOf o))
-    ∙ (ap classFrom (eqb→eq _ _ (all-at alike-at 128 alike-below o h)) ∙ class-back (classBy (vmdispatch switch o)))
+    ∙ (ap classFrom (eqb→eq _ _ (laws .each-below alike-at 128 alike-below o h)) ∙ class-back (classBy (vmdispatch switch o)))
 
 -- Sets of next words.
 
 abbrev Same : List ℤ → List ℤ → Type 0
-Same xs ys = (z : ℤ) → Among z xs ↔ Among z ys
+Same xs ys = (z : ℤ) → In z xs ↔ In z ys
 
-swapped : {x y z : ℤ} → Among z (x ∷ y ∷ []) → Among z (y ∷ x ∷ [])
+swapped : {x y z : ℤ} → In z (x ∷ y ∷ []) → In z (y ∷ x ∷ [])
 swapped (inl e) = inr (inl e)
 swapped (inr (inl e)) = inl e
 swapped (inr (inr e)) = absurd e
 
-doubled : {x y z : ℤ} → x ≡ y → Among z (x ∷ y ∷ []) → Among z (x ∷ [])
+doubled : {x y z : ℤ} → x ≡ y → In z (x ∷ y ∷ []) → In z (x ∷ [])
 doubled d (inl e) = inl e
 doubled d (inr (inl e)) = inl (e ∙ sym d)
 doubled d (inr (inr e)) = absurd e
 
-single : {x y z : ℤ} → Among z (x ∷ []) → Among z (x ∷ y ∷ [])
+single : {x y z : ℤ} → In z (x ∷ []) → In z (x ∷ y ∷ [])
 single (inl e) = inl e
 single (inr e) = absurd e
 
@@ -115,13 +117,13 @@ two-same n (negsuc q) y e = absurd (true≢false e)
 -- A word's fields, by the header's macros.
 module _ (w : ℕ) where
   opcode-is : «GET_OPCODE» w ≡ opcodeOf w
-  opcode-is = ap (λ (i : RawInstruction54). i .«opcode_num») (agreement w)
+  opcode-is = ap (λ (i : RawInstruction54). i .«opcode_num») (laws .lopcodes w)
 
   bx-is : «GETARG_Bx» w ≡ bxOf w
-  bx-is = ap (λ (i : RawInstruction54). i .bx) (agreement w)
+  bx-is = ap (λ (i : RawInstruction54). i .bx) (laws .lopcodes w)
 
   sj-is : «GETARG_sJ» w ≡ sjOf w
-  sj-is = ap (λ (i : RawInstruction54). i .sj) (agreement w)
+  sj-is = ap (λ (i : RawInstruction54). i .sj) (laws .lopcodes w)
 
 test-is : (w : ℕ) → «TESTARG_k» w ≡ kOf w * 2 ^ 15
 test-is w = and-high w 1 15
@@ -153,6 +155,10 @@ module _ (ws : List ℕ) (n w p : ℕ) where
   list-same true d e = rw (k-set w (eqb-true _ _ d)) (one-by n _ (pos (p + 2)) (ap pos (omega arith)) e)
   list-same false d e = rw (k-clear w (eqb-false _ _ d)) (one-by n _ (pos (p + 1)) refl e)
 
+  loop-same : isInvalid (nextOf looping n w p) ≡ false → Same (targetsOf (waysOf ws forloop (pos (p + 1)) w)) (integers (listOf (nextOf looping n w p)))
+  loop-same e =
+      two-by n _ _ (pos (p + 1) -ℤ pos (bxOf w)) (pos (p + 1)) (ap (λ (b : ℕ). pos (p + 1) -ℤ pos b) (bx-is w)) refl e
+
   body-same : (b : Body) → isInvalid (nextOf (classBy b) n w p) ≡ false
       → Same (targetsOf (waysOf ws b (pos (p + 1)) w)) (integers (listOf (nextOf (classBy b) n w p)))
   body-same still e = one-by n _ (pos (p + 1)) refl e
@@ -163,12 +169,12 @@ module _ (ws : List ℕ) (n w p : ℕ) where
   body-same testset e = two-back n (pos (p + 1)) _ (pos (p + 1)) (pos (p + 2)) refl (ap pos (omega arith)) e
   body-same call e = one-by n _ (pos (p + 1)) refl e
   body-same leave e = itself []
-  body-same loop e =
-      two-by n _ _ (pos (p + 1) -ℤ pos (bxOf w)) (pos (p + 1)) (ap (λ (b : ℕ). pos (p + 1) -ℤ pos b) (bx-is w)) refl e
+  body-same forloop e = loop-same e
   body-same forprep e =
       two-back n _ _ (pos (p + 1)) (pos (p + 2 + bxOf w)) refl (ap pos (omega (arith, bx-is w))) e
   body-same tforprep e = one-by n _ (pos (p + 1 + bxOf w)) (ap pos (omega (arith, bx-is w))) e
   body-same tforcall e = one-by n _ (pos (p + 1)) refl e
+  body-same tforloop e = loop-same e
   body-same setlist e = list-same (eqb (kOf w) 1) refl e
   body-same assert0 e = absurd (true≢false e)
   body-same absent e = absurd (true≢false e)
@@ -187,7 +193,7 @@ steps-by ws p e =
     first ∙ passed (companionPresent ws p) steps (sym (ap isInvalid first) ∙ e)
 
 same : (ws : List ℕ) (p : ℕ) → isInvalid (successorsOf ws p) ≡ false → Same (goesOn ws p) (integers (listOf (successorsOf ws p)))
-unfolding waysAt opcodeAt
+unfolding waysAt bodyAt opcodeAt
 same ws p e =
     found-same ws (length ws) (getD ws p 0) p (vmdispatch switch (opcodeOf (getD ws p 0))) (successorsOf ws p) (goesOn ws p)
     (ap (λ (o : ℕ). targetsOf (waysOf ws (vmdispatch switch o) (pos (p + 1)) (getD ws p 0))) (opcode-is (getD ws p 0)))
@@ -195,38 +201,40 @@ same ws p e =
     ∙ ap (λ (x : StepClass). nextOf x (length ws) (getD ws p 0) p) (class-by (opcodeOf (getD ws p 0)) (omega arith)))
     e
 
--- A JMP that is done at once.
+-- Words that are run without a dispatch of their own.
 
-abbrev isTest : Body → Bool
-isTest still = false
-isTest skip = false
-isTest arithmetic = false
-isTest jmp = false
-isTest condjump = true
-isTest testset = true
-isTest call = false
-isTest leave = false
-isTest loop = false
-isTest forprep = false
-isTest tforprep = false
-isTest tforcall = false
-isTest setlist = false
-isTest assert0 = false
-isTest absent = false
+-- the companion that a body of the switch leans on: the word that it runs itself
+abbrev wantedBy : Body → Companion
+wantedBy condjump = jumpAfter
+wantedBy testset = jumpAfter
+wantedBy tforprep = callAtTarget
+wantedBy tforcall = loopAfter
+wantedBy still = alone
+wantedBy skip = alone
+wantedBy arithmetic = alone
+wantedBy jmp = alone
+wantedBy call = alone
+wantedBy leave = alone
+wantedBy forloop = alone
+wantedBy forprep = alone
+wantedBy tforloop = alone
+wantedBy setlist = alone
+wantedBy assert0 = alone
+wantedBy absent = alone
+
+-- it is the companion that document 01's table wants
+abbrev wants : Body → Companion → Bool
+wants b c = cond (eqb (companionNumber (wantedBy b)) 0) true (eqb (companionNumber c) (companionNumber (wantedBy b)))
 
 wants-right : ℕ → Bool
-wants-right o = cond (isTest (vmdispatch switch o)) (eqb (companionNumber (companionOf o)) (companionNumber jumpAfter)) true
+wants-right o = wants (vmdispatch switch o) (companionOf o)
 
 wants-below : T (all wants-right 128)
 unfolding wants-right companionOf
 wants-below = tt
 
-wants-jump : (o : ℕ) → o < 128 → isTest (vmdispatch switch o) ≡ true → companionOf o ≡ jumpAfter
-unfolding wants-right
-wants-jump o h e =
-    let wanted : Bool = eqb (companionNumber (companionOf o)) (companionNumber jumpAfter) in
-    let right : T wanted = subst (λ (t : Bool). T (cond t wanted true)) e (all-at wants-right 128 wants-below o h) in
-    sym (companion-back (companionOf o)) ∙ (ap companionFrom (eqb→eq _ _ right) ∙ companion-back jumpAfter)
+same-companion : (c d : Companion) → companionNumber c ≡ companionNumber d → c ≡ d
+same-companion c d e = sym (companion-back c) ∙ (ap companionFrom e ∙ companion-back d)
 
 held : (t : Bool) (s : Successors) → isInvalid (unless t s) ≡ false → t ≡ true
 unfolding unless
@@ -237,55 +245,80 @@ opcode-fits : (ws : List ℕ) (p : ℕ) → opcodeAt ws p < 128
 unfolding opcodeAt
 opcode-fits ws p = omega arith
 
--- a test that is not bad has a JMP after it
-jump-after : (ws : List ℕ) (p : ℕ) → isInvalid (successorsOf ws p) ≡ false → isTest (vmdispatch switch (opcodeAt ws p)) ≡ true
-    → opcodeAt ws (p + 1) ≡ «OP_JMP»
+-- the body of a word
+body-by : (ws : List ℕ) (q o : ℕ) → opcodeAt ws q ≡ o → bodyAt ws q ≡ vmdispatch switch o
+unfolding bodyAt opcodeAt
+body-by ws q o e = ap (vmdispatch switch) (opcode-is (getD ws q 0) ∙ e)
+
+-- the companion that a word that is not bad wants is there
+present : (ws : List ℕ) (p : ℕ) → isInvalid (successorsOf ws p) ≡ false → standsAt (companionOf (opcodeAt ws p)) ws p ≡ true
 unfolding successorsOf companionPresent
-jump-after ws p e t =
+present ws p e =
     let steps : Successors = nextOf (classOf (opcodeAt ws p)) (length ws) (getD ws p 0) p in
     let first = passed (ltb p (length ws)) (unless (companionPresent ws p) steps) e in
-    let there : companionPresent ws p ≡ true = held (companionPresent ws p) steps (sym (ap isInvalid first) ∙ e) in
-    eqb-true _ _ (sym (ap (λ (c : Companion). standsAt c ws p) (wants-jump (opcodeAt ws p) (opcode-fits ws p) t)) ∙ there)
+    held (companionPresent ws p) steps (sym (ap isInvalid first) ∙ e)
+
+-- and so is the one that its body leans on
+module _ (ws : List ℕ) (p : ℕ) where
+  leaned : (b : Body) (c : Companion) (t : Bool) → eqb (companionNumber (wantedBy b)) 0 ≡ t
+      → T (cond t true (eqb (companionNumber c) (companionNumber (wantedBy b)))) → standsAt c ws p ≡ true → standsAt (wantedBy b) ws p ≡ true
+  leaned b c true e r there = ap (λ (d : Companion). standsAt d ws p) (same-companion (wantedBy b) alone (eqb-true _ _ e))
+  leaned b c false e r there = ap (λ (d : Companion). standsAt d ws p) (sym (same-companion c (wantedBy b) (eqb→eq _ _ r))) ∙ there
+
+  lean : isInvalid (successorsOf ws p) ≡ false → standsAt (wantedBy (bodyAt ws p)) ws p ≡ true
+  unfolding wants-right
+  lean e =
+      let o : ℕ = opcodeAt ws p in
+      let b : Body = vmdispatch switch o in
+      ap (λ (b : Body). standsAt (wantedBy b) ws p) (body-by ws p o refl)
+      ∙ leaned b (companionOf o) (eqb (companionNumber (wantedBy b)) 0) refl (laws .each-below wants-right 128 wants-below o (opcode-fits ws p)) (present ws p e)
 
 one-later : (p : ℕ) (j : ℤ) → pos p +ℤ (j +ℤ pos 1) ≡ pos (p + 1) +ℤ (j +ℤ pos 0)
 one-later p j =
     ap (pos p +ℤ_) (+ℤ-comm j (pos 1)) ∙ (sym (+ℤ-assoc (pos p) (pos 1) j) ∙ ap (pos (p + 1) +ℤ_) (sym (+ℤ-idr j)))
 
 -- where the case of a JMP leads
-jump-ways : (ws : List ℕ) (q : ℕ) → opcodeAt ws q ≡ «OP_JMP» → waysAt ws q ≡ fetch (dojump (pos q) (getD ws q 0) (pos 1)) ∷ []
-unfolding waysAt opcodeAt
+jump-ways : (ws : List ℕ) (q : ℕ) → bodyAt ws q ≡ jmp → waysAt ws q ≡ fetch (dojump (pos q) (getD ws q 0) (pos 1)) ∷ []
+unfolding waysAt
 jump-ways ws q e =
-    ap (λ (o : ℕ). waysOf ws (vmdispatch switch o) (pos (q + 1)) (getD ws q 0)) (opcode-is (getD ws q 0) ∙ e)
+    ap (λ (b : Body). waysOf ws b (pos (q + 1)) (getD ws q 0)) e
     ∙ ap (λ (z : ℤ). fetch z ∷ []) (sym (one-later q («GETARG_sJ» (getD ws q 0))))
 
-module _ (ws : List ℕ) (w p : ℕ) where
+module _ (ws : List ℕ) (p : ℕ) where
   fetched : (t : Bool) (x y : ℤ) → Alike ws (cond t (fetch x ∷ []) (fetch y ∷ []))
   fetched true x y = tt
   fetched false x y = tt
 
-  body-alike : (b : Body) → (isTest b ≡ true → waysAt ws (p + 1) ≡ fetch (dojump (pos (p + 1)) (getD ws (p + 1) 0) (pos 1)) ∷ [])
-      → Alike ws (waysOf ws b (pos (p + 1)) w)
-  body-alike condjump h = (h refl, tt)
-  body-alike testset h = (h refl, tt)
-  body-alike setlist h = fetched (eqb («TESTARG_k» w) 0) (pos (p + 1)) (pos (p + 1) +ℤ pos 1)
+  -- a JMP that is done at once
+  at-once : standsAt jumpAfter ws p ≡ true → Alike ws (waysOf ws condjump (pos (p + 1)) (getD ws p 0))
+  at-once h =
+      let b : bodyAt ws (p + 1) ≡ jmp = body-by ws (p + 1) «OP_JMP» (eqb-true _ _ h) in
+      (b, jump-ways ws (p + 1) b, tt)
+
+  entered : standsAt callAtTarget ws p ≡ true → bodyAt ws (p + 1 + «GETARG_Bx» (getD ws p 0)) ≡ tforcall
+  entered h = rw (bx-is (getD ws p 0)) (body-by ws (p + 1 + bxOf (getD ws p 0)) «OP_TFORCALL» (eqb-true _ _ h))
+
+  body-alike : (b : Body) → standsAt (wantedBy b) ws p ≡ true → Alike ws (waysOf ws b (pos (p + 1)) (getD ws p 0))
+  body-alike condjump h = at-once h
+  body-alike testset h = at-once h
+  body-alike tforprep h = (entered h, tt)
+  body-alike tforcall h = (body-by ws (p + 1) «OP_TFORLOOP» (eqb-true _ _ h), tt)
+  body-alike setlist h = fetched (eqb («TESTARG_k» (getD ws p 0)) 0) (pos (p + 1)) (pos (p + 1) +ℤ pos 1)
   body-alike still h = tt
   body-alike skip h = tt
   body-alike arithmetic h = tt
   body-alike jmp h = tt
   body-alike call h = tt
   body-alike leave h = tt
-  body-alike loop h = tt
+  body-alike forloop h = tt
   body-alike forprep h = tt
-  body-alike tforprep h = tt
-  body-alike tforcall h = tt
+  body-alike tforloop h = tt
   body-alike assert0 h = tt
   body-alike absent h = tt
 
 alike : (ws : List ℕ) (p : ℕ) → isInvalid (successorsOf ws p) ≡ false → Alike ws (waysAt ws p)
-unfolding waysAt opcodeAt
-alike ws p e =
-    body-alike ws (getD ws p 0) p (vmdispatch switch («GET_OPCODE» (getD ws p 0)))
-    (λ t. jump-ways ws (p + 1) (jump-after ws p e (sym (ap (λ (o : ℕ). isTest (vmdispatch switch o)) (opcode-is (getD ws p 0))) ∙ t)))
+unfolding waysAt
+alike ws p e = body-alike ws p (bodyAt ws p) (lean ws p e)
 
 pub agreement-holds : Agreement
 agreement-holds = record { same = same; alike = alike }

@@ -12,7 +12,7 @@ use Rattle.runs.specs.Graph.{Graph, In, Lawful, Reachable}
 use Rattle.runs.specs.Invariants.{Closed, Marking}
 use Rattle.runs.specs.Marks.{Search, push, pushAll, turn, turns, emptySearch, markOf}
 use Rattle.runs.proofs.Paths.{Reach, start, some-word, reach-of, reachable-of, reachable-next}
-use Rattle.runs.proofs.Order.{one-of}
+use Rattle.common.proofs.Order.{one-of}
 use Rattle.runs.proofs.Moves.{in-one, Pushed, marking-none, marking-take, marking-hand, marking-done, pushed-none, pushed-old, pushed-new, pushed-join, tail-le}
 
 module _ (g : Graph) where

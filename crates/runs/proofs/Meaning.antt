@@ -6,16 +6,18 @@ use Prim.Native.Nat.{ℕ, _≤_, _<_}
 use native.Mathlib.Omega.{arith}
 use borrow.Author.Tests.{eqb-true, eqb-false}
 use lib.Dec.{eqb}
+use Rattle.common.specs.Lowest.{lowest}
+use Rattle.common.proofs.Lowest.{lowest-laws}
 use Rattle.runs.specs.Graph.{Graph, Lawful, Reachable, Segment, weigh}
 use Rattle.runs.specs.Marks.{markOf}
-use Rattle.runs.specs.Longest.{lengthOf, most, lowestFrom, longest, first}
+use Rattle.runs.specs.Longest.{lengthOf, most, longest, first}
 use Rattle.runs.specs.Meaning.{Meaning}
-use Rattle.runs.proofs.Order.{split, bit}
+use Rattle.common.proofs.Order.{split, bit}
 use Rattle.runs.proofs.Paths.{Reach, start, reach-in, reach-of, reachable-of, segment-of, segment-free, segment-start}
 use Rattle.runs.proofs.Heaviest.{heaviest-upper, heaviest-attained}
 use Rattle.runs.proofs.Marks.{mark-of-reach, reach-of-mark, mark-bit}
 use Rattle.runs.proofs.Backward.{length-of-reach, length-unmarked}
-use Rattle.runs.proofs.Lists.{lowest-first, lowest-same, most-upper, most-attained, most-same}
+use Rattle.runs.proofs.Lists.{most-upper, most-attained, most-same}
 
 module _ (g : Graph) (law : Lawful g) where
   marked : (p : ℕ) → p < g .size → (markOf g p ≡ 1) ↔ Reachable g p
@@ -40,7 +42,7 @@ module _ (g : Graph) (law : Lawful g) (w : ℕ → ℕ) where
 
   longest-upper : (p : ℕ) → p < g .size → lengthOf g w p ≤ longest g w
   unfolding longest
-  longest-upper p l = most-upper (lengthOf g w) (g .size) p l
+  longest-upper p l = omega (arith, most-upper (lengthOf g w) (g .size) p l)
 
   longest-most : (p : ℕ) (ps : List ℕ) → Segment g p ps → weigh w (p ∷ ps) ≤ longest g w
   longest-most p ps s = omega (arith, length-most p ps s, longest-upper p (reach-in g (segment-start g s)))
@@ -50,8 +52,8 @@ module _ (g : Graph) (law : Lawful g) (w : ℕ → ℕ) where
   unfolding first
   first-least p l e =
       ⊎-elim (λ d. d)
-      (λ d. absurd (eqb-false _ _ (lowest-first (λ q. eqb (lengthOf g w q) (longest g w)) 0 (g .size) .not-before p (omega arith) d) e))
-      (split (lowestFrom (λ q. eqb (lengthOf g w q) (longest g w)) 0 (g .size)) p)
+      (λ d. absurd (eqb-false _ _ (lowest-laws .first (λ q. eqb (lengthOf g w q) (longest g w)) 0 (g .size) .not-before p (omega arith) d) e))
+      (split (lowest (λ q. eqb (lengthOf g w q) (longest g w)) (g .size)) p)
 
   module _ (pos : (p : ℕ) → 0 < w p) (some : 0 < g .size) where
     root-length : 0 < lengthOf g w 0
@@ -63,14 +65,14 @@ module _ (g : Graph) (law : Lawful g) (w : ℕ → ℕ) where
     -- a word of that length stands somewhere, so that the first is one
     attained : (p : ℕ) × (p < g .size) × (lengthOf g w p ≡ longest g w)
     unfolding longest
-    attained = most-attained (lengthOf g w) (g .size) longest-pos
+    attained = most-attained (lengthOf g w) (g .size) (omega (arith, root-length, most-upper (lengthOf g w) (g .size) 0 some))
 
     first-in : first g w < g .size
     first-in = let a = attained in omega (arith, a .1, first-least (a .0) (a .1) (a .2))
 
     first-length : lengthOf g w (first g w) ≡ longest g w
     unfolding first
-    first-length = eqb-true _ _ (lowest-first (λ q. eqb (lengthOf g w q) (longest g w)) 0 (g .size) .holds (omega (arith, first-in)))
+    first-length = eqb-true _ _ (lowest-laws .first (λ q. eqb (lengthOf g w q) (longest g w)) 0 (g .size) .holds (omega (arith, first-in)))
 
     first-reached : Reach g (first g w)
     first-reached =
@@ -88,10 +90,10 @@ module _ (g : Graph) (w : ℕ → ℕ) (f : ℕ → ℕ) (e : (p : ℕ) → p < 
   unfolding longest
   longest-found q = q ∙ most-same f (lengthOf g w) (g .size) e
 
-  pub first-found : {v a : ℕ} → v ≡ longest g w → a ≡ lowestFrom (λ p. eqb (f p) v) 0 (g .size) → a ≡ first g w
+  pub first-found : {v a : ℕ} → v ≡ longest g w → a ≡ lowest (λ p. eqb (f p) v) (g .size) → a ≡ first g w
   unfolding first
   first-found {v} q d =
-      d ∙ lowest-same (λ p. eqb (f p) v) (λ p. eqb (lengthOf g w p) (longest g w)) 0 (g .size) (λ p l. ap₂ (λ (y z : ℕ). eqb y z) (e p (omega arith)) q)
+      d ∙ lowest-laws .same (λ p. eqb (f p) v) (λ p. eqb (lengthOf g w p) (longest g w)) 0 (g .size) (λ p l. ap₂ (λ (y z : ℕ). eqb y z) (e p (omega arith)) q)
 
 pub meaning : (g : Graph) → Lawful g → (w : ℕ → ℕ) → ((p : ℕ) → 0 < w p) → Meaning g w
 meaning g law w pos =

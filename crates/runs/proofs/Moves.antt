@@ -10,7 +10,7 @@ use lib.Seq.{getD-set-same, getD-set-other}
 use Rattle.runs.specs.Graph.{Graph, In, Reachable}
 use Rattle.runs.specs.Invariants.{ones, Closed, Room, Marking}
 use Rattle.runs.proofs.Paths.{Reach, start, next}
-use Rattle.runs.proofs.Order.{same-or-not, past}
+use Rattle.common.proofs.Order.{same-or-not, past}
 
 -- from m, qu, t to m′, qu′, t′ the words of l were marked, and those among them that were not yet were queued
 pub record Pushed (g : Graph) (hand m qu : List ℕ) (h t : ℕ) (l : List ℕ) (m′ qu′ : List ℕ) (t′ : ℕ) : Type 0 where

@@ -7,40 +7,44 @@ use native.Mathlib.Omega.{arith}
 use borrow.Author.Tests.{lt-ltb, le-ltb, eq-eqb, ne-eqb}
 use lib.Dec.{ltb}
 use lib.ListN.{length, drop, replicate}
+use Rattle.common.specs.Limits.{mostWords}
+use Rattle.common.specs.Numbers.{«TOO_MANY_WORDS», «SHORT_SLICE», «NO_WORDS», «REACHES_INVALID», «RUN_TOO_LONG»}
+use Rattle.common.specs.Chain.{refuseIf}
+use Rattle.common.specs.Lists.{over}
 use Rattle.runs.specs.declared.longest.Run.{Run}
 use Rattle.runs.specs.declared.longest.Run.the-variants.{Accepted, Refused}
 use Rattle.runs.specs.Marks.{markOf}
 use Rattle.runs.specs.Longest.{lengthOf, longest, first}
 use Rattle.runs.specs.Instance.{graphOf, unitWeight}
-use Rattle.runs.specs.Run.{mostWords, lowestInvalid, refuseRun, runOf, untouched, over, marksAfter, lengthsAfter}
+use Rattle.runs.specs.Run.{lowestInvalid, runOf, untouched, marksAfter, lengthsAfter}
 use Rattle.runs.specs.Invariants.{Lent}
-use Rattle.runs.proofs.Lists.{zeros-table}
+use Rattle.common.proofs.Over.{over-laws}
 
 -- what the checks after the search say
 abbrev pub decided : List ℕ → Run
 decided ws =
-    refuseRun (ltb (lowestInvalid ws) (length ws)) 8 (lowestInvalid ws)
-    (refuseRun (ltb mostWords (longest (graphOf ws) unitWeight)) 9 0
+    refuseIf (ltb (lowestInvalid ws) (length ws)) (Refused «REACHES_INVALID» (lowestInvalid ws))
+    (refuseIf (ltb mostWords (longest (graphOf ws) unitWeight)) (Refused «RUN_TOO_LONG» 0)
     (Accepted (longest (graphOf ws) unitWeight) (first (graphOf ws) unitWeight)))
 
 -- the checks before any word is read
 module _ (ws : List ℕ) (a b : ℕ) where
-  pub run-1 : mostWords < length ws → runOf ws a b ≡ Refused 1 0
+  pub run-many : mostWords < length ws → runOf ws a b ≡ Refused «TOO_MANY_WORDS» 0
   unfolding runOf
-  run-1 h = simp (lt-ltb mostWords (length ws) h)
+  run-many h = simp (lt-ltb mostWords (length ws) h)
 
   module _ (few : length ws ≤ mostWords) where
-    pub run-6-marks : a < length ws → runOf ws a b ≡ Refused 6 0
+    pub run-short-marks : a < length ws → runOf ws a b ≡ Refused «SHORT_SLICE» 0
     unfolding runOf
-    run-6-marks h = simp (le-ltb mostWords (length ws) few, lt-ltb a (length ws) h)
+    run-short-marks h = simp (le-ltb mostWords (length ws) few, lt-ltb a (length ws) h)
 
-    pub run-6-lengths : b < length ws → runOf ws a b ≡ Refused 6 0
+    pub run-short-lengths : b < length ws → runOf ws a b ≡ Refused «SHORT_SLICE» 0
     unfolding runOf
-    run-6-lengths h = simp (le-ltb mostWords (length ws) few, lt-ltb b (length ws) h, or-true (ltb a (length ws)))
+    run-short-lengths h = simp (le-ltb mostWords (length ws) few, lt-ltb b (length ws) h, or-true (ltb a (length ws)))
 
-    pub run-7 : length ws ≤ a → length ws ≤ b → length ws ≡ 0 → runOf ws a b ≡ Refused 7 0
+    pub run-none : length ws ≤ a → length ws ≤ b → length ws ≡ 0 → runOf ws a b ≡ Refused «NO_WORDS» 0
     unfolding runOf
-    run-7 h k z = simp (le-ltb mostWords (length ws) few, le-ltb a (length ws) h, le-ltb b (length ws) k, eq-eqb (length ws) 0 z)
+    run-none h k z = simp (le-ltb mostWords (length ws) few, le-ltb a (length ws) h, le-ltb b (length ws) k, eq-eqb (length ws) 0 z)
 
     -- the checks after the search
     module _ (h : length ws ≤ a) (k : length ws ≤ b) (some : 0 < length ws) where
@@ -63,23 +67,23 @@ module _ (ws m l : List ℕ) where
 
     module _ {m′ l′ : List ℕ} (marks : m′ ≡ over (markOf (graphOf ws)) (length ws) m) where
       zeros : l′ ≡ replicate (length ws) 0 ++ drop (length ws) l → l′ ≡ over (λ p. 0) (length ws) l
-      zeros e = e ∙ ap (λ (x : List ℕ). x ++ drop (length ws) l) (zeros-table 0 (length ws))
+      zeros e = e ∙ ap (λ (x : List ℕ). x ++ drop (length ws) l) (over-laws .zeros 0 (length ws))
 
-      pub outcome-8 : {p : ℕ} → p ≡ lowestInvalid ws → p < length ws → l′ ≡ replicate (length ws) 0 ++ drop (length ws) l → Outcome (Refused 8 p) m′ l′
+      pub outcome-invalid : {p : ℕ} → p ≡ lowestInvalid ws → p < length ws → l′ ≡ replicate (length ws) 0 ++ drop (length ws) l → Outcome (Refused «REACHES_INVALID» p) m′ l′
       unfolding marksAfter lengthsAfter
-      outcome-8 {p} q h e =
-          let r : runOf ws (length m) (length l) ≡ Refused 8 p = run-is ∙ simp (← q, lt-ltb p (length ws) h) in
+      outcome-invalid {p} q h e =
+          let r : runOf ws (length m) (length l) ≡ Refused «REACHES_INVALID» p = run-is ∙ simp (← q, lt-ltb p (length ws) h) in
           (sym r, (simp r marks, simp r (zeros e)))
 
       module _ (valid : length ws ≤ lowestInvalid ws) where
-        pub outcome-9 : mostWords < longest (graphOf ws) unitWeight → l′ ≡ replicate (length ws) 0 ++ drop (length ws) l → Outcome (Refused 9 0) m′ l′
+        pub outcome-long : mostWords < longest (graphOf ws) unitWeight → l′ ≡ replicate (length ws) 0 ++ drop (length ws) l → Outcome (Refused «RUN_TOO_LONG» 0) m′ l′
         unfolding marksAfter lengthsAfter
-        outcome-9 h e =
-            let r : runOf ws (length m) (length l) ≡ Refused 9 0 = run-is ∙ simp (le-ltb _ _ valid, lt-ltb _ _ h) in
+        outcome-long h e =
+            let r : runOf ws (length m) (length l) ≡ Refused «RUN_TOO_LONG» 0 = run-is ∙ simp (le-ltb _ _ valid, lt-ltb _ _ h) in
             (sym r, (simp r marks, simp r (zeros e)))
 
-        pub outcome-0 : {v a : ℕ} → v ≡ longest (graphOf ws) unitWeight → a ≡ first (graphOf ws) unitWeight → v ≤ mostWords → l′ ≡ over (lengthOf (graphOf ws) unitWeight) (length ws) l → Outcome (Accepted v a) m′ l′
+        pub outcome-accepted : {v a : ℕ} → v ≡ longest (graphOf ws) unitWeight → a ≡ first (graphOf ws) unitWeight → v ≤ mostWords → l′ ≡ over (lengthOf (graphOf ws) unitWeight) (length ws) l → Outcome (Accepted v a) m′ l′
         unfolding marksAfter lengthsAfter
-        outcome-0 {v} {a} q f h e =
+        outcome-accepted {v} {a} q f h e =
             let r : runOf ws (length m) (length l) ≡ Accepted v a = run-is ∙ simp (le-ltb _ _ valid, ← q, ← f, le-ltb mostWords v h) in
             (sym r, (simp r marks, simp r e))

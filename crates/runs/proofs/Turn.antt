@@ -10,11 +10,11 @@ use lib.Dec.{eqb}
 use native.Mathlib.Omega.{arith}
 use lib.ListN.{length, getD, set, drop, replicate, length-append, length-replicate, length-drop, getD-replicate, List·getD-append}
 use lib.Seq.{drop-at, drop-set-lt, getD-set-same}
+use Rattle.common.specs.Limits.{mostWords}
 use Rattle.runs.specs.Graph.{Graph, In, Lawful, Reachable}
 use Rattle.runs.specs.Marks.{push, markOf}
-use Rattle.runs.specs.Run.{mostWords}
 use Rattle.runs.specs.Invariants.{ones, Closed, Room, Marking, inHand, Turned, Visiting, Visited, searchAt}
-use Rattle.runs.proofs.Order.{one-of, bit}
+use Rattle.common.proofs.Order.{one-of, bit}
 use Rattle.runs.proofs.Paths.{start, reach-of, reachable-of, reachable-next}
 use Rattle.runs.proofs.Moves.{in-one, ones-le, mark-stays, Pushed, count-set, tail-lt, tail-le, room-push, marking-none, marking-take, marking-hand, marking-hold, marking-done}
 use Rattle.runs.proofs.Marks.{push-is, mark-of-reach, reach-of-mark, mark-bit}

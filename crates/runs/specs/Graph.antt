@@ -2,14 +2,20 @@
 -- Assumes nothing.
 use mathlib.Core.Path.{_≡_}
 use mathlib.Core.Logic.{_⊎_}
-use mathlib.Core.Bool.{Bool, false}
+use mathlib.Core.Bool.{Bool, false, _||_}
 use mathlib.Core.List.{List, [], _∷_, _++_}
 use Prim.Native.Nat.{ℕ, _+_, _<_}
+use lib.Dec.{eqb}
 
--- a number stands in a list
-abbrev pub In : ℕ → List ℕ → Type 0
-In q [] = ⊥
-In q (x ∷ xs) = (q ≡ x) ⊎ In q xs
+-- a thing stands in a list
+abbrev pub In : {X : Type 0} → X → List X → Type 0
+In x [] = ⊥
+In x (y ∷ ys) = (x ≡ y) ⊎ In x ys
+
+-- the same of a number, as a test
+abbrev pub member : ℕ → List ℕ → Bool
+member q [] = false
+member q (x ∷ xs) = eqb x q || member q xs
 
 pub record Graph : Type 0 where
   -- n, the number of words

@@ -6,10 +6,10 @@ use mathlib.Core.Bool.{Bool, cond}
 use mathlib.Core.List.{List, [], _∷_}
 use Prim.Native.Nat.{ℕ, zero, suc, _+_, _≤_, _<_}
 use lib.ListN.{length, getD, drop}
+use Rattle.common.specs.Limits.{mostWords}
 use Rattle.runs.specs.Graph.{Graph, In, Reachable}
-use Rattle.runs.specs.Marks.{Search, markOf}
+use Rattle.runs.specs.Marks.{Search, push, markOf}
 use Rattle.runs.specs.Longest.{lengthOf}
-use Rattle.runs.specs.Run.{mostWords}
 
 -- how many of the first k words are marked, each mark being 0 or 1
 unfoldable pub ones : ℕ → List ℕ → ℕ
@@ -70,6 +70,15 @@ pub record Visited (g : Graph) (m qu : List ℕ) (h : ℕ) (m′ qu′ : List �
 -- a search's state but for the head, which a push does not look at
 abbrev pub searchAt : List ℕ → List ℕ → ℕ → Search
 searchAt m qu t = record { marks = m; queue = qu; head = 0; tail = t }
+
+-- what a push of word q leaves: the marks, the queue and the tail
+abbrev pub Pushes : List ℕ → List ℕ → ℕ → ℕ → List ℕ → List ℕ → ℕ → Type 0
+Pushes m qu t q m′ qu′ t′ =
+    (m′ ≡ push (searchAt m qu t) q .marks) × (qu′ ≡ push (searchAt m qu t) q .queue) × (t′ ≡ push (searchAt m qu t) q .tail)
+
+-- the elements of l past n are those of l₀
+abbrev pub SameRest : ℕ → List ℕ → List ℕ → Type 0
+SameRest n l₀ l = drop n l ≡ drop n l₀
 
 -- some words, not too many, and slices with room for each
 pub record Lent (n : ℕ) (m l : List ℕ) : Type 0 where

@@ -1,6 +1,5 @@
 -- Layer 2: the successors of a word, paths and the longest run.
 pub mod Columns
-pub mod Laws
 pub mod Lvm
 pub mod Successors
 pub mod Graph
@@ -10,4 +9,6 @@ pub mod Instance
 pub mod Run
 pub mod Meaning
 pub mod Demand
+pub mod Slices
+pub mod Laws
 pub mod Invariants

@@ -1,9 +1,10 @@
 -- The lengths, L and its first word, computed. `Meaning` says what they mean. w is what each word weighs.
 -- Assumes nothing.
-use mathlib.Core.Bool.{Bool, cond}
+use mathlib.Core.Bool.{cond}
 use mathlib.Core.List.{List, [], _∷_}
 use Prim.Native.Nat.{ℕ, zero, suc, _+_, _-_, max}
 use lib.Dec.{eqb}
+use Rattle.common.specs.Lowest.{lowest}
 use Rattle.runs.specs.Graph.{Graph}
 use Rattle.runs.specs.Marks.{markOf}
 
@@ -30,15 +31,10 @@ unfoldable pub most : (ℕ → ℕ) → ℕ → ℕ
 most f zero = 0
 most f (suc k) = max (most f k) (f k)
 
--- the lowest p from i on at which the test holds, of k numbers; the number after them if there is none
-unfoldable pub lowestFrom : (ℕ → Bool) → ℕ → ℕ → ℕ
-lowestFrom t i zero = i
-lowestFrom t i (suc k) = cond (t i) i (lowestFrom t (i + 1) k)
-
 -- "The longest run, L, is the most words any stretch has."
 unfoldable pub longest : Graph → (ℕ → ℕ) → ℕ
 longest g w = most (lengthOf g w) (g .size)
 
 -- "the lowest word at which an L-word stretch begins"
 unfoldable pub first : Graph → (ℕ → ℕ) → ℕ
-first g w = lowestFrom (λ p. eqb (lengthOf g w p) (longest g w)) 0 (g .size)
+first g w = lowest (λ p. eqb (lengthOf g w p) (longest g w)) (g .size)

@@ -1,11 +1,11 @@
--- lvm.c of Lua 5.4: where luaV_execute goes on after a word, in the C's own shape: pc after the fetch, then as each case of the
+-- lvm.c of Lua 5.4.8: where luaV_execute goes on after a word, in the C's own shape: pc after the fetch, then as each case of the
 -- switch moves it. What a case tests of values may come out either way, so both arms are given; errors and a coroutine's
 -- yield inside a word are left out (docs/DIFFERENCES.md has the yields). `Agreement` says that for a word that is not bad
 -- these are the next words of document 01's table of steps.
 -- Assumes nothing.
 use Prim.Native.Nat.{ℕ, _+_}
 use mathlib.Core.Path.{_≡_}
-use mathlib.Core.Logic.{_⊎_, _↔_}
+use mathlib.Core.Logic.{_↔_}
 use mathlib.Core.Bool.{false, cond}
 use mathlib.Core.List.{List, [], _∷_}
 use lib.Dec.{eqb}
@@ -13,16 +13,54 @@ use lib.IntN.{ℤ, pos, negsuc, _+ℤ_, _-ℤ_}
 use lib.ListN.{getD}
 use Rattle.fields.specs.Opcodes.{«OP_MOVE», «OP_LOADI», «OP_LOADF», «OP_LOADK», «OP_LOADKX», «OP_LOADFALSE», «OP_LFALSESKIP», «OP_LOADTRUE», «OP_LOADNIL», «OP_GETUPVAL», «OP_SETUPVAL», «OP_GETTABUP», «OP_GETTABLE», «OP_GETI», «OP_GETFIELD», «OP_SETTABUP», «OP_SETTABLE», «OP_SETI», «OP_SETFIELD», «OP_NEWTABLE», «OP_SELF», «OP_ADDI», «OP_ADDK», «OP_SUBK», «OP_MULK», «OP_MODK», «OP_POWK», «OP_DIVK», «OP_IDIVK», «OP_BANDK», «OP_BORK», «OP_BXORK», «OP_SHRI», «OP_SHLI», «OP_ADD», «OP_SUB», «OP_MUL», «OP_MOD», «OP_POW», «OP_DIV», «OP_IDIV», «OP_BAND», «OP_BOR», «OP_BXOR», «OP_SHR», «OP_SHL», «OP_MMBIN», «OP_MMBINI», «OP_MMBINK», «OP_UNM», «OP_BNOT», «OP_NOT», «OP_LEN», «OP_CONCAT», «OP_CLOSE», «OP_TBC», «OP_JMP», «OP_EQ», «OP_LT», «OP_LE», «OP_EQK», «OP_EQI», «OP_LTI», «OP_LEI», «OP_GTI», «OP_GEI», «OP_TEST», «OP_TESTSET», «OP_CALL», «OP_TAILCALL», «OP_RETURN», «OP_RETURN0», «OP_RETURN1», «OP_FORLOOP», «OP_FORPREP», «OP_TFORPREP», «OP_TFORCALL», «OP_TFORLOOP», «OP_SETLIST», «OP_CLOSURE», «OP_VARARG», «OP_VARARGPREP», «OP_EXTRAARG»}
 use Rattle.fields.specs.Lopcodes.{«GET_OPCODE», «GETARG_Bx», «GETARG_sJ», «TESTARG_k»}
+use Rattle.runs.specs.Graph.{In}
 use Rattle.runs.specs.Successors.{successorsOf, isInvalid, listOf}
+
+-- what the cases of the switch do to pc
+pub data Body : Type 0 where
+  -- nothing
+  still : Body
+  -- pc++, over an extra argument or the next word
+  skip : Body
+  -- op_arithI, op_arithK, op_arithfK, op_bitwiseK, op_arith, op_arithf, op_bitwise, and OP_SHRI and OP_SHLI alike: pc++ where the
+  -- operands are numbers that the operation takes, else on to the metamethod word
+  arith : Body
+  -- dojump(ci, i, 0)
+  jmp : Body
+  -- docondjump(), also at the end of op_order and op_orderI
+  condjump : Body
+  -- if (..) pc++; else { ..; donextjump(ci); }
+  testset : Body
+  -- luaD_precall, for a C function here, for a Lua function by `goto startfunc`, which `returning` ends at the saved pc
+  call : Body
+  -- goto ret, or for a tail call of a Lua function goto startfunc
+  leave : Body
+  -- pc -= GETARG_Bx(i) while the loop lasts
+  forloop : Body
+  -- if (forprep(L, ra)) pc += GETARG_Bx(i) + 1;
+  forprep : Body
+  -- pc += GETARG_Bx(i); i = *(pc++); goto l_tforcall;
+  tforprep : Body
+  -- l_tforcall: ..; i = *(pc++); goto l_tforloop;
+  tforcall : Body
+  -- l_tforloop: pc -= GETARG_Bx(i) while the loop lasts
+  tforloop : Body
+  -- if (TESTARG_k(i)) { ..; pc++; }
+  setlist : Body
+  -- lua_assert(0)
+  assert0 : Body
+  -- the switch has no such case, and no default
+  absent : Body
 
 -- how a case goes on
 pub data Way : Type 0 where
   -- `vmbreak`: the loop fetches the word at pc
   fetch : ℤ → Way
-  -- `goto l_tforcall`, `goto l_tforloop`: the word at pc is executed without being fetched anew, which document 01 takes for a step of
-  -- its own
-  along : ℤ → Way
-  -- the JMP at the first pc is done at once, which document 01 takes for a step of its own, and leaves pc at the second
+  -- `goto l_tforcall`, `goto l_tforloop`: the word at pc is run by the body at that label, whatever its opcode is, without a fetch and a
+  -- dispatch of its own. Document 01 takes going there for a step of its own
+  along : Body → ℤ → Way
+  -- the word at the first pc is run as a JMP at once, whatever its opcode is, and leaves pc at the second. Document 01 takes going there
+  -- for a step of its own, too
   jumped : ℤ → ℤ → Way
 
 -- *pc
@@ -42,40 +80,6 @@ donextjump ws pc = jumped pc (dojump pc (wordAt ws pc) (pos 1))
 abbrev pub docondjump : List ℕ → ℤ → List Way
 docondjump ws pc = fetch (pc +ℤ pos 1) ∷ donextjump ws pc ∷ []
 
--- what the cases of the switch do to pc
-pub data Body : Type 0 where
-  -- nothing
-  still : Body
-  -- pc++, over an extra argument or the next word
-  skip : Body
-  -- op_arithI, op_arithK, op_arithfK, op_bitwiseK, op_arith, op_arithf, op_bitwise and their like: pc++ where the operands
-  -- are numbers, else on to the metamethod word
-  arith : Body
-  -- dojump(ci, i, 0)
-  jmp : Body
-  -- docondjump(), also at the end of op_order and op_orderI
-  condjump : Body
-  -- if (..) pc++; else { ..; donextjump(ci); }
-  testset : Body
-  -- luaD_precall, for a C function here, for a Lua function by `goto startfunc`, which `returning` ends at the saved pc
-  call : Body
-  -- goto ret, or for a tail call of a Lua function goto startfunc
-  leave : Body
-  -- pc -= GETARG_Bx(i) while the loop lasts
-  loop : Body
-  -- if (forprep(L, ra)) pc += GETARG_Bx(i) + 1;
-  forprep : Body
-  -- pc += GETARG_Bx(i); i = *(pc++); goto l_tforcall;
-  tforprep : Body
-  -- i = *(pc++); goto l_tforloop;
-  tforcall : Body
-  -- if (TESTARG_k(i)) { ..; pc++; }
-  setlist : Body
-  -- lua_assert(0)
-  assert0 : Body
-  -- the switch has no such case, and no default
-  absent : Body
-
 abbrev pub waysOf : List ℕ → Body → ℤ → ℕ → List Way
 waysOf ws still pc i = fetch pc ∷ []
 waysOf ws skip pc i = fetch (pc +ℤ pos 1) ∷ []
@@ -85,10 +89,11 @@ waysOf ws condjump pc i = docondjump ws pc
 waysOf ws testset pc i = fetch (pc +ℤ pos 1) ∷ donextjump ws pc ∷ []
 waysOf ws call pc i = fetch pc ∷ []
 waysOf ws leave pc i = []
-waysOf ws loop pc i = fetch (pc -ℤ pos («GETARG_Bx» i)) ∷ fetch pc ∷ []
+waysOf ws forloop pc i = fetch (pc -ℤ pos («GETARG_Bx» i)) ∷ fetch pc ∷ []
 waysOf ws forprep pc i = fetch (pc +ℤ (pos («GETARG_Bx» i) +ℤ pos 1)) ∷ fetch pc ∷ []
-waysOf ws tforprep pc i = along (pc +ℤ pos («GETARG_Bx» i)) ∷ []
-waysOf ws tforcall pc i = along pc ∷ []
+waysOf ws tforprep pc i = along tforcall (pc +ℤ pos («GETARG_Bx» i)) ∷ []
+waysOf ws tforcall pc i = along tforloop pc ∷ []
+waysOf ws tforloop pc i = fetch (pc -ℤ pos («GETARG_Bx» i)) ∷ fetch pc ∷ []
 waysOf ws setlist pc i = cond (eqb («TESTARG_k» i) 0) (fetch pc ∷ []) (fetch (pc +ℤ pos 1) ∷ [])
 waysOf ws assert0 pc i = fetch pc ∷ []
 waysOf ws absent pc i = fetch pc ∷ []
@@ -172,11 +177,11 @@ switch =
     ∷ vmcase «OP_RETURN» leave
     ∷ vmcase «OP_RETURN0» leave
     ∷ vmcase «OP_RETURN1» leave
-    ∷ vmcase «OP_FORLOOP» loop
+    ∷ vmcase «OP_FORLOOP» forloop
     ∷ vmcase «OP_FORPREP» forprep
     ∷ vmcase «OP_TFORPREP» tforprep
     ∷ vmcase «OP_TFORCALL» tforcall
-    ∷ vmcase «OP_TFORLOOP» loop
+    ∷ vmcase «OP_TFORLOOP» tforloop
     ∷ vmcase «OP_SETLIST» setlist
     ∷ vmcase «OP_CLOSURE» still
     ∷ vmcase «OP_VARARG» still
@@ -191,42 +196,44 @@ vmdispatch (vmcase opcode body ∷ cases) o = cond (eqb o opcode) body (vmdispat
 -- the word that is executed next
 abbrev pub targetOf : Way → ℤ
 targetOf (fetch pc) = pc
-targetOf (along pc) = pc
+targetOf (along body pc) = pc
 targetOf (jumped pc after) = pc
 
 abbrev pub targetsOf : List Way → List ℤ
 targetsOf [] = []
 targetsOf (way ∷ ways) = targetOf way ∷ targetsOf ways
 
+-- the body to which the switch sends word p
+unfoldable pub bodyAt : List ℕ → ℕ → Body
+bodyAt ws p = vmdispatch switch («GET_OPCODE» (getD ws p 0))
+
 -- how luaV_execute can go on after word p, `i = *(pc++)`
 unfoldable pub waysAt : List ℕ → ℕ → List Way
-waysAt ws p = waysOf ws (vmdispatch switch («GET_OPCODE» (getD ws p 0))) (pos (p + 1)) (getD ws p 0)
+waysAt ws p = waysOf ws (bodyAt ws p) (pos (p + 1)) (getD ws p 0)
 
 -- the words at which it can go on
 abbrev pub goesOn : List ℕ → ℕ → List ℤ
 goesOn ws p = targetsOf (waysAt ws p)
 
-abbrev pub Among : ℤ → List ℤ → Type 0
-Among z [] = ⊥
-Among z (x ∷ xs) = (z ≡ x) ⊎ Among z xs
-
 abbrev pub integers : List ℕ → List ℤ
 integers [] = []
 integers (q ∷ qs) = pos q ∷ integers qs
 
--- each JMP that is done at once leaves pc where its own case would
+-- each word that is run without a dispatch of its own is run as the switch would run it: by the body to which its opcode leads, or as the
+-- JMP that it is, which leaves pc where that case would
 abbrev pub Alike : List ℕ → List Way → Type 0
 Alike ws [] = Unit {0}
 Alike ws (fetch pc ∷ ways) = Alike ws ways
-Alike ws (along pc ∷ ways) = Alike ws ways
-Alike ws (jumped (pos q) after ∷ ways) = (waysAt ws q ≡ fetch after ∷ []) × Alike ws ways
+Alike ws (along body (pos q) ∷ ways) = (bodyAt ws q ≡ body) × Alike ws ways
+Alike ws (along body (negsuc q) ∷ ways) = ⊥
+Alike ws (jumped (pos q) after ∷ ways) = (bodyAt ws q ≡ jmp) × (waysAt ws q ≡ fetch after ∷ []) × Alike ws ways
 Alike ws (jumped (negsuc q) after ∷ ways) = ⊥
 
 pub record Agreement : Type 0 where
   -- "for a word that is not bad, the set of next words is the same"
   pub same :
       (ws : List ℕ) (p : ℕ) → isInvalid (successorsOf ws p) ≡ false →
-      (z : ℤ) → Among z (goesOn ws p) ↔ Among z (integers (listOf (successorsOf ws p)))
-  -- "Where lvm.c takes the next word along without fetching it anew (JMP after a test ..), going to that word is a step of its own": it
-  -- leads on from there as the C does
+      (z : ℤ) → In z (goesOn ws p) ↔ In z (integers (listOf (successorsOf ws p)))
+  -- "Where lvm.c takes the next word along without fetching it anew (JMP after a test, TFORCALL after TFORPREP, TFORLOOP after TFORCALL),
+  -- going to that word is a step of its own": what is run there, and where it leads, is what a fetch of that word would run
   pub alike : (ws : List ℕ) (p : ℕ) → isInvalid (successorsOf ws p) ≡ false → Alike ws (waysAt ws p)

@@ -1,20 +1,25 @@
 -- The whole outcome of `longest_run`: its answer and the two lent slices, refusals included.
 -- Assumes nothing.
 use mathlib.Core.Bool.{Bool, cond, not, _&&_, _||_}
-use mathlib.Core.List.{List, [], _∷_, _++_}
-use Prim.Native.Nat.{ℕ, zero, suc}
+use mathlib.Core.List.{List}
+use Prim.Native.Nat.{ℕ}
 use lib.Dec.{ltb, eqb}
-use lib.ListN.{length, drop}
+use lib.ListN.{length}
+use Rattle.common.specs.Limits.{mostWords}
+use Rattle.common.specs.Numbers.{«ACCEPTED», «TOO_MANY_WORDS», «SHORT_SLICE», «NO_WORDS», «REACHES_INVALID», «RUN_TOO_LONG»}
+use Rattle.common.specs.Chain.{refuseIf}
+use Rattle.common.specs.Lowest.{lowest}
+use Rattle.common.specs.Lists.{over}
 use Rattle.runs.specs.declared.longest.Run.{Run}
 use Rattle.runs.specs.declared.longest.Run.the-variants.{Accepted, Refused}
 use Rattle.runs.specs.Marks.{markOf}
-use Rattle.runs.specs.Longest.{lengthOf, lowestFrom, longest, first}
+use Rattle.runs.specs.Longest.{lengthOf, longest, first}
 use Rattle.runs.specs.Successors.{successorsOf, isInvalid}
 use Rattle.runs.specs.Instance.{graphOf, unitWeight}
 
 -- "Each answer carries its number, 0 when accepted, and a place, 0 unless named. On refusal L and its first word are 0."
 abbrev pub numberOf : Run → ℕ
-numberOf (Accepted l f) = 0
+numberOf (Accepted l f) = «ACCEPTED»
 numberOf (Refused k p) = k
 
 abbrev pub placeOf : Run → ℕ
@@ -30,49 +35,32 @@ abbrev pub firstOf : Run → ℕ
 firstOf (Accepted l f) = f
 firstOf (Refused k p) = 0
 
--- "32,769 words (32,768 pass)"
-abbrev pub mostWords : ℕ
-mostWords = 32768
-
 -- "a reachable bad word"
 abbrev pub reachesInvalid : List ℕ → ℕ → Bool
 reachesInvalid ws p = eqb (markOf (graphOf ws) p) 1 && isInvalid (successorsOf ws p)
 
 -- "place: the lowest"; n if there is none
 unfoldable pub lowestInvalid : List ℕ → ℕ
-lowestInvalid ws = lowestFrom (reachesInvalid ws) 0 (length ws)
-
--- where the test holds, a refusal with its number and place; else what the later checks say
-abbrev pub refuseRun : Bool → ℕ → ℕ → Run → Run
-refuseRun t number place later = cond t (Refused number place) later
+lowestInvalid ws = lowest (reachesInvalid ws) (length ws)
 
 -- "Checks run in this order": of the words and of the lengths of the marks slice and the lengths slice
 unfoldable pub runOf : List ℕ → ℕ → ℕ → Run
 runOf ws marks lengths =
     -- "more than 32,768 words"
-    refuseRun (ltb mostWords (length ws)) 1 0
+    refuseIf (ltb mostWords (length ws)) (Refused «TOO_MANY_WORDS» 0)
     -- "a lent result slice shorter than the words"
-    (refuseRun (ltb marks (length ws) || ltb lengths (length ws)) 6 0
+    (refuseIf (ltb marks (length ws) || ltb lengths (length ws)) (Refused «SHORT_SLICE» 0)
     -- "no words"
-    (refuseRun (eqb (length ws) 0) 7 0
+    (refuseIf (eqb (length ws) 0) (Refused «NO_WORDS» 0)
     -- "a reachable bad word; place: the lowest"
-    (refuseRun (ltb (lowestInvalid ws) (length ws)) 8 (lowestInvalid ws)
+    (refuseIf (ltb (lowestInvalid ws) (length ws)) (Refused «REACHES_INVALID» (lowestInvalid ws))
     -- "L over 32,768"
-    (refuseRun (ltb mostWords (longest (graphOf ws) unitWeight)) 9 0
+    (refuseIf (ltb mostWords (longest (graphOf ws) unitWeight)) (Refused «RUN_TOO_LONG» 0)
     (Accepted (longest (graphOf ws) unitWeight) (first (graphOf ws) unitWeight))))))
 
--- f i, f (i + 1), .. : k of them
-abbrev pub table : (ℕ → ℕ) → ℕ → ℕ → List ℕ
-table f i zero = []
-table f i (suc k) = f i ∷ table f (suc i) k
-
--- a slice whose first n elements are those of f. "Elements past n are untouched"
-abbrev pub over : (ℕ → ℕ) → ℕ → List ℕ → List ℕ
-over f n l = table f 0 n ++ drop n l
-
--- "Nothing lent is altered, except that 8 and 9 leave the reachable marks and n zero lengths." 0 is acceptance
+-- "Nothing lent is altered, except that 8 and 9 leave the reachable marks and n zero lengths."
 abbrev pub untouched : ℕ → Bool
-untouched number = not (eqb number 0 || eqb number 8 || eqb number 9)
+untouched number = not (eqb number «ACCEPTED» || eqb number «REACHES_INVALID» || eqb number «RUN_TOO_LONG»)
 
 module _ (ws marks lengths : List ℕ) where
   abbrev pub numberIs : ℕ
@@ -86,4 +74,4 @@ module _ (ws marks lengths : List ℕ) where
   unfoldable pub lengthsAfter : List ℕ
   lengthsAfter =
       cond (untouched numberIs) lengths
-      (cond (eqb numberIs 0) (over (lengthOf (graphOf ws) unitWeight) (length ws) lengths) (over (λ p. 0) (length ws) lengths))
+      (cond (eqb numberIs «ACCEPTED») (over (lengthOf (graphOf ws) unitWeight) (length ws) lengths) (over (λ p. 0) (length ws) lengths))

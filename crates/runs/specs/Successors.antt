@@ -9,6 +9,7 @@ use lib.ListN.{length, getD}
 use Rattle.fields.specs.Opcodes.{«OP_ADDI», «OP_SHR», «OP_MMBIN», «OP_MMBINK», «OP_JMP», «OP_CALL», «OP_TFORCALL», «OP_TFORLOOP», «OP_EXTRAARG»}
 use Rattle.fields.specs.Word.{opcodeOf, kOf, bxOf, sjOf}
 use Rattle.fields.specs.Table.{StepClass, following, returning, branching, skipping, skippingIfK, jumping, looping, preparing, entering, invalid, classOf, Companion, alone, metamethodAfter, arithmeticBefore, jumpAfter, extraAfter, extraAfterIfK, callAtTarget, loopAfter, companionOf}
+use Rattle.runs.specs.Graph.{member}
 use Rattle.runs.specs.declared.edges.Successors.{Successors}
 use Rattle.runs.specs.declared.edges.Successors.the-variants.{Invalid, Stop, One, Two}
 
@@ -105,16 +106,9 @@ listOf Stop = []
 listOf (One a) = a ∷ []
 listOf (Two a b) = a ∷ b ∷ []
 
--- q is among the steps
-abbrev pub hasSuccessor : Successors → ℕ → Bool
-hasSuccessor Invalid q = false
-hasSuccessor Stop q = false
-hasSuccessor (One a) q = eqb a q
-hasSuccessor (Two a b) q = eqb a q || eqb b q
-
 -- q is a step from p
 unfoldable pub isSuccessor : List ℕ → ℕ → ℕ → Bool
-isSuccessor ws p q = hasSuccessor (successorsOf ws p) q
+isSuccessor ws p q = member q (listOf (successorsOf ws p))
 
 -- "a step p to q serves if p is CALL or TFORCALL, or q ≤ p"
 unfoldable pub servesOf : List ℕ → ℕ → ℕ → Bool

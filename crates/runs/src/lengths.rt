@@ -5,8 +5,9 @@ ghost use mathlib.Core.List.{_++_};
 ghost use Prim.Native.Nat.{_+_, _≤_, _<_};
 ghost use lib.Dec.{eqb};
 ghost use lib.ListN.{length, getD, drop, replicate};
+ghost use Rattle.common.specs.Lowest.{lowest};
 ghost use Rattle.fields.specs.Table.{opcodeTable};
-ghost use Rattle.runs.specs.Longest.{lengthOf, most, lowestFrom};
+ghost use Rattle.runs.specs.Longest.{lengthOf, most};
 ghost use Rattle.runs.specs.Successors.{servesOf};
 ghost use Rattle.runs.specs.Instance.{graphOf, unitWeight};
 ghost use Rattle.runs.specs.Run.{reachesInvalid, lowestInvalid};
@@ -108,10 +109,10 @@ pub(crate) fn clear_lengths(lengths: &mut [u32], n: usize)
     requires { ⌜ n ≤ length (now lengths) ⌝ }
     ensures { λ _. ⌜ now (lengths .exit) ≡ replicate n 0 ++ drop n (now (lengths .entry)) ⌝ }
 {
-    let mut i = 0;
-    while i < n {
-        lengths[i] = 0;
-        i += 1;
+    let mut p = 0;
+    while p < n {
+        lengths[p] = 0;
+        p += 1;
     }
 }
 
@@ -134,7 +135,7 @@ pub(crate) fn find_longest(lengths: &[u32], n: usize) -> u32
 // Where a length stands first among n, or n.
 pub(crate) fn find_first(lengths: &[u32], n: usize, sought: u32) -> usize
     requires { ⌜ n ≤ length (now lengths) ⌝ }
-    ensures { λ r. ⌜ r ≡ lowestFrom (λ p. eqb (at (now (lengths .entry)) p) sought) 0 n ⌝ }
+    ensures { λ r. ⌜ r ≡ lowest (λ p. eqb (at (now (lengths .entry)) p) sought) n ⌝ }
 {
     let mut i = 0;
     while i < n {

@@ -8,14 +8,13 @@ use crate::lengths::fill_lengths;
 use crate::lengths::find_first;
 use crate::lengths::find_longest;
 use crate::search::mark_reachable;
+use common::limits::MOST_WORDS;
+use common::numbers::*;
 
 pub enum Run {
     Accepted { longest: u32, first: usize },
     Refused { number: u8, place: usize },
 }
-
-// Document 01, number 1: at most so many words. Number 9: no longest run has more.
-pub const MOST_WORDS: usize = 32768;
 
 // The run of words that pass the checks of their number and of the slices.
 fn run_of_words(words: &[u32], marks: &mut [u8], lengths: &mut [u32]) -> Run
@@ -31,7 +30,7 @@ fn run_of_words(words: &[u32], marks: &mut [u8], lengths: &mut [u32]) -> Run
     if invalid < n {
         clear_lengths(lengths, n);
         return Run::Refused {
-            number: 8,
+            number: REACHES_INVALID,
             place: invalid,
         };
     }
@@ -39,7 +38,7 @@ fn run_of_words(words: &[u32], marks: &mut [u8], lengths: &mut [u32]) -> Run
     if MOST_WORDS < longest as usize {
         clear_lengths(lengths, n);
         return Run::Refused {
-            number: 9,
+            number: RUN_TOO_LONG,
             place: 0,
         };
     }
@@ -57,25 +56,25 @@ pub fn longest_run(words: &[u32], marks: &mut [u8], lengths: &mut [u32]) -> Run
     let n = words.len();
     if MOST_WORDS < n {
         return Run::Refused {
-            number: 1,
+            number: TOO_MANY_WORDS,
             place: 0,
         };
     }
     if marks.len() < n {
         return Run::Refused {
-            number: 6,
+            number: SHORT_SLICE,
             place: 0,
         };
     }
     if lengths.len() < n {
         return Run::Refused {
-            number: 6,
+            number: SHORT_SLICE,
             place: 0,
         };
     }
     if n == 0 {
         return Run::Refused {
-            number: 7,
+            number: NO_WORDS,
             place: 0,
         };
     }

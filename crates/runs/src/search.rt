@@ -3,18 +3,17 @@ ghost use mathlib.Core.Path.{_≡_};
 ghost use mathlib.Core.List.{_++_};
 ghost use Prim.Native.Nat.{_+_, _≤_, _<_};
 ghost use lib.ListN.{length, getD, drop, replicate};
+ghost use Rattle.common.specs.Limits.{mostWords};
 ghost use Rattle.fields.specs.Table.{opcodeTable};
-ghost use Rattle.runs.specs.Marks.{push as pushed};
 ghost use Rattle.runs.specs.Instance.{graphOf};
-ghost use Rattle.runs.specs.Run.{mostWords};
-ghost use Rattle.runs.specs.Invariants.{Lent, Marked, Room, Turned, Visiting, Visited, searchAt};
+ghost use Rattle.runs.specs.Invariants.{Lent, Marked, Pushes, Room, SameRest, Turned, Visiting, Visited};
 use crate::edges::Successors;
 use crate::successors::successors_in;
 
 // Word q is marked and put at the queue's end, if it is not marked yet. The new tail.
 fn push(marks: &mut [u8], queue: &mut [u32], tail: usize, q: usize) -> usize
     requires { ⌜ (q < length (now marks)) × (getD (now marks) q 0 ≡ 0 → tail < length (now queue)) × (q < mostWords) ⌝ }
-    ensures { λ r. ⌜ (now (marks .exit) ≡ pushed (searchAt (now (marks .entry)) (now (queue .entry)) tail) q .marks) × (now (queue .exit) ≡ pushed (searchAt (now (marks .entry)) (now (queue .entry)) tail) q .queue) × (r ≡ pushed (searchAt (now (marks .entry)) (now (queue .entry)) tail) q .tail) ⌝ }
+    ensures { λ r. ⌜ Pushes (now (marks .entry)) (now (queue .entry)) tail q (now (marks .exit)) (now (queue .exit)) r ⌝ }
 {
     if marks[q] == 0 {
         marks[q] = 1;
@@ -100,7 +99,7 @@ fn clear_marks(marks: &mut [u8], n: usize)
 // The marks of all words. The queue is work space: its first n elements are left as they come.
 pub(crate) fn mark_reachable(table: &[u8; 512], words: &[u32], marks: &mut [u8], queue: &mut [u32])
     requires { ⌜ (now table ≡ opcodeTable) × Lent (length (now words)) (now marks) (now queue) ⌝ }
-    ensures { λ _. ⌜ Marked (graphOf (now (words .entry))) (now (marks .entry)) (now (marks .exit)) × (drop (length (now (words .entry))) (now (queue .exit)) ≡ drop (length (now (words .entry))) (now (queue .entry))) ⌝ }
+    ensures { λ _. ⌜ Marked (graphOf (now (words .entry))) (now (marks .entry)) (now (marks .exit)) × SameRest (length (now (words .entry))) (now (queue .entry)) (now (queue .exit)) ⌝ }
 {
     clear_marks(marks, words.len());
     let mut tail = push(marks, queue, 0, 0);

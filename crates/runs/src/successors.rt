@@ -6,7 +6,8 @@ ghost use lib.ListN.{length, getD};
 ghost use Rattle.fields.specs.Word.{bxOf, sjOf};
 ghost use Rattle.fields.specs.Table.{opcodeTable, jumpAfter, metamethodAfter, arithmeticBefore};
 ghost use Rattle.runs.specs.Columns.{classFrom, companionFrom};
-ghost use Rattle.runs.specs.Successors.{one, two, opcodeAt, isBetween, nextOf, standsAt, unless, successorsOf, hasSuccessor, isSuccessor, servesOf};
+ghost use Rattle.runs.specs.Successors.{one, two, opcodeAt, isBetween, nextOf, standsAt, unless, listOf, successorsOf, isSuccessor, servesOf};
+ghost use Rattle.runs.specs.Graph.{member};
 use crate::edges::Successors;
 use fields::columns::*;
 use fields::opcodes::*;
@@ -220,19 +221,19 @@ pub(crate) fn successors_in(table: &[u8; 512], words: &[u32], p: usize) -> Succe
     successors_by(companion, class, words, p)
 }
 
-// The successors of word p, by both columns in a byte. A word that wants nothing and a test come first, as in `successors_in`.
+// The successors of word p, by its companion and its step class in a byte. A word that wants nothing and a test come first, as in `successors_in`.
 pub fn successors(words: &[u32], p: usize) -> Successors
     ensures { λ r. ⌜ r ≡ successorsOf (now (words .entry)) p ⌝ }
 {
     if words.len() <= p {
         return Successors::Invalid;
     }
-    let both = fields::packed::both(words[p]);
-    if both == 0 {
+    let byte = fields::packed::companion_and_class(words[p]);
+    if byte == 0 {
         return one_of(words.len(), p + 1);
     }
-    let companion = both / 16;
-    let class = both % 16;
+    let companion = byte / 16;
+    let class = byte % 16;
     if companion == JUMP_AFTER {
         if class == BRANCHING {
             return test(words, p);
@@ -242,7 +243,7 @@ pub fn successors(words: &[u32], p: usize) -> Successors
 }
 
 fn has_successor(s: Successors, q: usize) -> bool
-    ensures { λ r. ⌜ r ≡ hasSuccessor s q ⌝ }
+    ensures { λ r. ⌜ r ≡ member q (listOf s) ⌝ }
 {
     match s {
         Successors::Invalid => false,

@@ -2,22 +2,18 @@
 -- A refinement of the original: get_const_val and get_upval_name of lifter.rs, over tags and payloads in place of a Prototype.
 -- Assumes nothing.
 use Prim.Native.Nat.{ℕ, _-_, _/_, _%_, _^_}
-use mathlib.Core.Bool.{Bool, true, false}
+use mathlib.Core.Bool.{true, false}
 use mathlib.Core.List.{List}
 use lib.Dec.{ltb, eqb}
 use lib.IntN.{ℤ, pos, negsuc}
 use lib.Ieee.{binary64, ofBits, nanBits}
 use lib.ListN.{length, getD}
+unfoldable pub use Rattle.common.specs.Chain.{choose}
 use Rattle.values.specs.declared.model.Span.{Span}
 use Rattle.values.specs.declared.model.ConstantValue.{ConstantValue}
 use Rattle.values.specs.declared.model.ConstantValue.the-variants.{Nil, Boolean, Integer, Float, NanBits, ShortString, LongString}
 use Rattle.values.specs.declared.model.Name.{Name}
 use Rattle.values.specs.declared.model.Name.the-variants.{Unnamed, Named}
-
--- the library's `cond`, shut: what stands in many tests opens only where a proof says so
-unfoldable pub choose : {X : Type 0} → Bool → X → X → X
-choose true a b = a
-choose false a b = b
 
 -- "A constant has a Lua tag: 0 nil, 1 false, 17 true, 3 integer, 19 float, 4 short string, 20 long string"
 abbrev pub «TAG_NIL» : ℕ

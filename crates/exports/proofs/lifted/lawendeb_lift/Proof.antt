@@ -5,10 +5,10 @@ use native.Mathlib.Omega.{arith}
 use lib.ListN.{length}
 use denote.Ref.{now}
 use borrow.Author.Needs.{needs}
-use Rattle.records.proofs.Plan.{within}
+use Rattle.records.proofs.Laws.{plan-laws}
 use Rattle.exports.specs.Record.{roomIn, recordsNumbers}
-use Rattle.exports.proofs.Overlay.{put-start}
-use Rattle.exports.proofs.Counted.{length-records, recorded}
+use Rattle.common.proofs.Put.{put-laws}
+use Rattle.exports.proofs.Counted.{length-records}
 use Rattle.exports.proofs.lifted.lawendeb_lift.Statement.{statement}
 use Rattle.exports.proofs.lifted.lawendeb_lift.Tie as tie
 
@@ -17,14 +17,14 @@ put-records-requires c κs =
     let a = c .before .before .before .before .before .before .before .before .args in
     let words = now (a .words) in
     let room = roomIn (now (a .numbers)) in
-    let w = within (length words) (now (a .tags)) (now (a .payloads)) (now (a .names)) (length (now (a .bytes))) room in
-    rw (c .before .planned .ensures) (omega (arith, w .1 .0), recorded words (now (a .tags)) (now (a .payloads)) (now (a .names)) (length (now (a .bytes))) room)
+    let w = plan-laws words (now (a .tags)) (now (a .payloads)) (now (a .names)) (length (now (a .bytes))) room in
+    rw (c .before .planned .ensures) (omega (arith, w .within-room), w .recorded)
 
 returns : tie.Need-returns
 returns c =
     let t = c .before .before .before in
     let a = t .before .before .before .before .before .before .before .before .before .args in
-    (rw (t .before .before .planned .ensures), rw (← t .before .before .planned .ensures) (rw (← length-records (now (a .words)) (now (a .tags)) (now (a .payloads)) (now (a .names)) (t .before .before .planned .result .count)) (t .put-records .ensures ∙ put-start (now (a .numbers)) (recordsNumbers (now (a .words)) (now (a .tags)) (now (a .payloads)) (now (a .names)) (t .before .before .planned .result .count)))))
+    (rw (t .before .before .planned .ensures), rw (← t .before .before .planned .ensures) (rw (← length-records (now (a .words)) (now (a .tags)) (now (a .payloads)) (now (a .names)) (t .before .before .planned .result .count)) (t .put-records .ensures ∙ put-laws .start (now (a .numbers)) (recordsNumbers (now (a .words)) (now (a .tags)) (now (a .payloads)) (now (a .names)) (t .before .before .planned .result .count)))))
 
 pub lawendeb-lift-spec : {M : Type 1} → statement M
 lawendeb-lift-spec = tie.close (tie.spec (λ c κs. search needs) put-records-requires (λ c. search needs) (λ c. search needs) returns)

@@ -3,7 +3,7 @@
 use native.Mathlib.Omega.{arith}
 use lib.ListN.{length-set}
 use borrow.Author.Needs.{needs}
-use Rattle.exports.proofs.Overlay.{four-stored}
+use Rattle.exports.proofs.Stored.{four-stored}
 use Rattle.exports.proofs.lifted.put_four.Statement.{statement}
 use Rattle.exports.proofs.lifted.put_four.Tie as tie
 

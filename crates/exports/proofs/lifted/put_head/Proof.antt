@@ -4,7 +4,7 @@ use mathlib.Core.Path.{refl}
 use native.Mathlib.Omega.{arith}
 use borrow.Author.Needs.{needs}
 use Rattle.exports.specs.Record.{headNumbers}
-use Rattle.exports.proofs.Overlay.{and-then}
+use Rattle.common.proofs.Put.{put-laws}
 use Rattle.exports.proofs.lifted.put_head.Statement.{statement}
 use Rattle.exports.proofs.lifted.put_head.Tie as tie
 
@@ -26,10 +26,10 @@ returns c =
     let l = s .args .numbers .now in
     let at = s .args .at in
     let e₁ = rw (c₁ .before .flat-confidence .ensures) at (c₁ .put-four .ensures) in
-    let e₂ = and-then l _ _ at 4 _ _ e₁ refl (omega (arith, s .pre)) (rw (c₂ .before .flat-pc .ensures) at (c₂ .put-pair .ensures)) in
-    let e₃ = and-then l _ _ at 6 _ _ e₂ refl (omega (arith, s .pre)) (rw (c₃ .before .flat-pc2 .ensures) at (c₃ .put-pair2 .ensures)) in
-    let e₄ = and-then l _ _ at 8 _ _ e₃ refl (omega (arith, s .pre)) (rw (c₄ .before .flat-fallback .ensures) at (c₄ .put-pair3 .ensures)) in
-    and-then l _ _ at 10 _ _ e₄ refl (omega (arith, s .pre)) (rw (c₅ .before .flat-effect .ensures) at (c₅ .put-slot .ensures))
+    let e₂ = put-laws .and-then l _ _ at 4 _ _ e₁ refl (omega (arith, s .pre)) (rw (c₂ .before .flat-pc .ensures) at (c₂ .put-pair .ensures)) in
+    let e₃ = put-laws .and-then l _ _ at 6 _ _ e₂ refl (omega (arith, s .pre)) (rw (c₃ .before .flat-pc2 .ensures) at (c₃ .put-pair2 .ensures)) in
+    let e₄ = put-laws .and-then l _ _ at 8 _ _ e₃ refl (omega (arith, s .pre)) (rw (c₄ .before .flat-fallback .ensures) at (c₄ .put-pair3 .ensures)) in
+    put-laws .and-then l _ _ at 10 _ _ e₄ refl (omega (arith, s .pre)) (rw (c₅ .before .flat-effect .ensures) at (c₅ .put-slot .ensures))
 
 pub put-head-spec : {M : Type 1} → statement M
 put-head-spec = tie.close (tie.spec (λ c. search needs) (λ c. search needs) (λ c κs. search needs) (λ c κs. search needs) (λ c. search needs) (λ c κs. search needs) (λ c κs. search needs) (λ c. search needs) (λ c κs. search needs) (λ c κs. search needs) (λ c. search needs) (λ c κs. search needs) (λ c κs. search needs) add-put-slot (λ c κs. search needs) put-slot-requires (λ c. search needs) returns)

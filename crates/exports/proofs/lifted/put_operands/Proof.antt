@@ -4,7 +4,7 @@ use mathlib.Core.Path.{refl}
 use native.Mathlib.Omega.{arith}
 use borrow.Author.Needs.{needs}
 use Rattle.exports.specs.Record.{operandsNumbers}
-use Rattle.exports.proofs.Overlay.{and-then}
+use Rattle.common.proofs.Put.{put-laws}
 use Rattle.exports.proofs.lifted.put_operands.Statement.{statement}
 use Rattle.exports.proofs.lifted.put_operands.Tie as tie
 
@@ -25,10 +25,10 @@ returns c =
     let s = c₀ .before .before .before .before .before in
     let l = s .args .numbers .now in
     let at = s .args .at in
-    let e₁ = and-then l _ _ at 1 _ _ (c₀ .put-one .ensures) refl (omega (arith, s .pre)) (c₁ .put-operand .ensures) in
-    let e₂ = and-then l _ _ at 5 _ _ e₁ refl (omega (arith, s .pre)) (c₂ .put-operand2 .ensures) in
-    let e₃ = and-then l _ _ at 9 _ _ e₂ refl (omega (arith, s .pre)) (c₃ .put-operand3 .ensures) in
-    and-then l _ _ at 13 _ _ e₃ refl (omega (arith, s .pre)) (c₄ .put-operand4 .ensures)
+    let e₁ = put-laws .and-then l _ _ at 1 _ _ (c₀ .put-one .ensures) refl (omega (arith, s .pre)) (c₁ .put-operand .ensures) in
+    let e₂ = put-laws .and-then l _ _ at 5 _ _ e₁ refl (omega (arith, s .pre)) (c₂ .put-operand2 .ensures) in
+    let e₃ = put-laws .and-then l _ _ at 9 _ _ e₂ refl (omega (arith, s .pre)) (c₃ .put-operand3 .ensures) in
+    put-laws .and-then l _ _ at 13 _ _ e₃ refl (omega (arith, s .pre)) (c₄ .put-operand4 .ensures)
 
 pub put-operands-spec : {M : Type 1} → statement M
 put-operands-spec = tie.close (tie.spec (λ c. search needs) (λ c κs. search needs) (λ c. search needs) (λ c. search needs) (λ c κs. search needs) (λ c. search needs) (λ c. search needs) (λ c κs. search needs) (λ c. search needs) (λ c. search needs) (λ c κs. search needs) add-put-operand-4 (λ c. search needs) put-operand-requires-4 (λ c. search needs) returns)

@@ -3,7 +3,7 @@
 use native.Mathlib.Omega.{arith}
 use lib.ListN.{length-set}
 use borrow.Author.Needs.{needs}
-use Rattle.exports.proofs.Overlay.{two-stored}
+use Rattle.exports.proofs.Stored.{two-stored}
 use Rattle.exports.proofs.lifted.put_pair.Statement.{statement}
 use Rattle.exports.proofs.lifted.put_pair.Tie as tie
 

@@ -4,7 +4,7 @@ use mathlib.Core.Path.{refl}
 use native.Mathlib.Omega.{arith}
 use borrow.Author.Needs.{needs}
 use Rattle.exports.specs.Record.{readsNumbers}
-use Rattle.exports.proofs.Overlay.{and-then}
+use Rattle.common.proofs.Put.{put-laws}
 use Rattle.exports.proofs.lifted.put_reads.Statement.{statement}
 use Rattle.exports.proofs.lifted.put_reads.Tie as tie
 
@@ -18,9 +18,9 @@ returns c =
     let s = c₀ .before .before .before .before .before in
     let l = s .args .numbers .now in
     let at = s .args .at in
-    let e₁ = and-then l _ _ at 1 _ _ (c₀ .put-one .ensures) refl (omega (arith, s .pre)) (c₁ .put-target .ensures) in
-    let e₂ = and-then l _ _ at 5 _ _ e₁ refl (omega (arith, s .pre)) (c₂ .put-target2 .ensures) in
-    and-then l _ _ at 9 _ _ e₂ refl (omega (arith, s .pre)) (c₃ .put-target3 .ensures)
+    let e₁ = put-laws .and-then l _ _ at 1 _ _ (c₀ .put-one .ensures) refl (omega (arith, s .pre)) (c₁ .put-target .ensures) in
+    let e₂ = put-laws .and-then l _ _ at 5 _ _ e₁ refl (omega (arith, s .pre)) (c₂ .put-target2 .ensures) in
+    put-laws .and-then l _ _ at 9 _ _ e₂ refl (omega (arith, s .pre)) (c₃ .put-target3 .ensures)
 
 pub put-reads-spec : {M : Type 1} → statement M
 put-reads-spec = tie.close (tie.spec (λ c. search needs) (λ c κs. search needs) (λ c. search needs) (λ c. search needs) (λ c κs. search needs) (λ c. search needs) (λ c. search needs) (λ c κs. search needs) (λ c. search needs) (λ c. search needs) (λ c κs. search needs) (λ c. search needs) returns)

@@ -3,7 +3,7 @@
 use native.Mathlib.Omega.{arith}
 use borrow.Author.Needs.{needs}
 use Rattle.exports.specs.Record.{headNumbers, operandsNumbers, readsNumbers, writesNumbers, numbersOf}
-use Rattle.exports.proofs.Overlay.{and-then}
+use Rattle.common.proofs.Put.{put-laws}
 use Rattle.exports.proofs.Counted.{length-head, length-head-operands, length-before-writes, length-operands, length-reads, length-writes}
 use Rattle.exports.proofs.lifted.put_record.Statement.{statement}
 use Rattle.exports.proofs.lifted.put_record.Tie as tie
@@ -19,9 +19,9 @@ returns c =
     let l = s .args .numbers .now in
     let at = s .args .at in
     let i = s .args .i in
-    let e₂ = and-then l _ _ at 14 (headNumbers i) (operandsNumbers (i .operands)) (c₁ .put-head .ensures) (length-head i) (omega (arith, s .pre, length-operands (i .operands))) (c₂ .put-operands .ensures) in
-    let e₃ = and-then l _ _ at 31 _ (readsNumbers (i .reads)) e₂ (length-head-operands i) (omega (arith, s .pre, length-reads (i .reads))) (c₃ .put-reads .ensures) in
-    and-then l _ _ at 44 _ (writesNumbers (i .writes)) e₃ (length-before-writes i) (omega (arith, s .pre, length-writes (i .writes))) (c₄ .put-writes .ensures)
+    let e₂ = put-laws .and-then l _ _ at 14 (headNumbers i) (operandsNumbers (i .operands)) (c₁ .put-head .ensures) (length-head i) (omega (arith, s .pre, length-operands (i .operands))) (c₂ .put-operands .ensures) in
+    let e₃ = put-laws .and-then l _ _ at 31 _ (readsNumbers (i .reads)) e₂ (length-head-operands i) (omega (arith, s .pre, length-reads (i .reads))) (c₃ .put-reads .ensures) in
+    put-laws .and-then l _ _ at 44 _ (writesNumbers (i .writes)) e₃ (length-before-writes i) (omega (arith, s .pre, length-writes (i .writes))) (c₄ .put-writes .ensures)
 
 pub put-record-spec : {M : Type 1} → statement M
 put-record-spec = tie.close (tie.spec (λ c κs. search needs) (λ c. search needs) (λ c κs. search needs) (λ c. search needs) (λ c κs. search needs) (λ c. search needs) (λ c κs. search needs) (λ c. search needs) returns)

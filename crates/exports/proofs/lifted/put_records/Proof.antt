@@ -5,7 +5,8 @@ use Prim.Native.Nat.{_-_, _≤_}
 use native.Mathlib.Omega.{arith}
 use lib.ListN.{length}
 use borrow.Author.Needs.{needs}
-use Rattle.exports.specs.Record.{put, recordsNumbers}
+use Rattle.common.specs.Lists.{put}
+use Rattle.exports.specs.Record.{recordsNumbers}
 use Rattle.exports.proofs.Counted.{record-none, record-more}
 use Rattle.exports.proofs.lifted.put_records.Statement.{statement}
 use Rattle.exports.proofs.lifted.put_records.Tie as tie
@@ -28,7 +29,7 @@ loop-again c =
     let l = t .before .before .before .before .loop in
     let s = t .before .before .before .before .before .before .before .before .before .before in
     let a = s .args in
-    (omega arith, omega arith, record-more (a .words .now) (a .tags .now) (a .payloads .now) (a .names .now) (a .numbers .now) (l .numbers) (t .put-record .last .0) (l .i) (l .inv .2) (omega (arith, s .pre .0)) (rw (t .before .record-at .ensures, s .pre .1 (l .i) (omega arith)) at (t .put-record .ensures)))
+    (omega arith, omega arith, record-more (a .words .now) (a .tags .now) (a .payloads .now) (a .names .now) (a .numbers .now) (l .numbers) (t .put-record .last .0) (l .i) (l .inv .2) (omega (arith, s .pre .0)) (rw (t .before .record-or-blank .ensures, s .pre .1 (l .i) (omega arith)) at (t .put-record .ensures)))
 
 returns : tie.Need-returns Inv-loop μ-loop
 returns c =

@@ -4,7 +4,7 @@ use mathlib.Core.Path.{refl}
 use native.Mathlib.Omega.{arith}
 use borrow.Author.Needs.{needs}
 use Rattle.exports.specs.Record.{writesNumbers}
-use Rattle.exports.proofs.Overlay.{and-then}
+use Rattle.common.proofs.Put.{put-laws}
 use Rattle.exports.proofs.lifted.put_writes.Statement.{statement}
 use Rattle.exports.proofs.lifted.put_writes.Tie as tie
 
@@ -17,8 +17,8 @@ returns c =
     let s = c₀ .before .before .before .before .before in
     let l = s .args .numbers .now in
     let at = s .args .at in
-    let e₁ = and-then l _ _ at 1 _ _ (c₀ .put-one .ensures) refl (omega (arith, s .pre)) (c₁ .put-target .ensures) in
-    and-then l _ _ at 5 _ _ e₁ refl (omega (arith, s .pre)) (c₂ .put-target2 .ensures)
+    let e₁ = put-laws .and-then l _ _ at 1 _ _ (c₀ .put-one .ensures) refl (omega (arith, s .pre)) (c₁ .put-target .ensures) in
+    put-laws .and-then l _ _ at 5 _ _ e₁ refl (omega (arith, s .pre)) (c₂ .put-target2 .ensures)
 
 pub put-writes-spec : {M : Type 1} → statement M
 put-writes-spec = tie.close (tie.spec (λ c. search needs) (λ c κs. search needs) (λ c. search needs) (λ c. search needs) (λ c κs. search needs) (λ c. search needs) (λ c. search needs) (λ c κs. search needs) (λ c. search needs) returns)

@@ -5,7 +5,7 @@ use mathlib.Core.Bool.{not}
 use lib.Dec.{T}
 use lib.Ieee
 use lib.Ieee.{Float, nan, inf, fin, isNan, eq}
-use Rattle.values.specs.Values.{choose}
+use Rattle.common.specs.Chain.{choose}
 use Rattle.exports.specs.Record.{floatBits}
 use Rattle.exports.proofs.numbers.float_bits.Statement.{statement}
 use Rattle.exports.proofs.numbers.float_bits.Tie as tie

@@ -7,12 +7,13 @@ use Rattle.families.proofs.arithmetic.lift_concat.Tie as tie
 returns : tie.Need-returns
 returns c =
     rw (
-      c .writes1 .ensures,
-      c .before .reads1 .ensures,
-      c .before .before .register-less .ensures,
-      c .before .before .before .register-plus .ensures,
-      c .before .before .before .before .operands2 .ensures,
+      c .plain .ensures,
+      c .before .writes1 .ensures,
+      c .before .before .reads1 .ensures,
+      c .before .before .before .register-less .ensures,
+      c .before .before .before .before .register-plus .ensures,
+      c .before .before .before .before .before .operands2 .ensures,
     )
 
 pub lift-concat-spec : {M : Type 1} → statement M
-lift-concat-spec = tie.close (tie.spec (λ c. search needs) (λ c κs. search needs) (λ c κs. search needs) (λ c κs. search needs) (λ c κs. search needs) (λ c κs. search needs) returns)
+lift-concat-spec = tie.close (tie.spec (λ c. search needs) (λ c κs. search needs) (λ c κs. search needs) (λ c κs. search needs) (λ c κs. search needs) (λ c κs. search needs) (λ c κs. search needs) returns)

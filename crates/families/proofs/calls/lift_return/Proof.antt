@@ -7,11 +7,12 @@ use Rattle.families.proofs.calls.lift_return.Tie as tie
 returns : tie.Need-returns
 returns c =
     rw (
-      c .writes0 .ensures,
-      c .before .result-reads .ensures,
-      c .before .before .operands2 .ensures,
-      c .before .before .before .count-less .ensures,
+      c .plain .ensures,
+      c .before .writes0 .ensures,
+      c .before .before .result-reads .ensures,
+      c .before .before .before .operands2 .ensures,
+      c .before .before .before .before .count-less .ensures,
     )
 
 pub lift-return-spec : {M : Type 1} → statement M
-lift-return-spec = tie.close (tie.spec (λ c κs. search needs) (λ c κs. search needs) (λ c κs. search needs) (λ c κs. search needs) returns)
+lift-return-spec = tie.close (tie.spec (λ c κs. search needs) (λ c κs. search needs) (λ c κs. search needs) (λ c κs. search needs) (λ c κs. search needs) returns)

@@ -7,10 +7,11 @@ use Rattle.families.proofs.calls.lift_setlist.Tie as tie
 returns : tie.Need-returns
 returns c =
     rw (
-      c .writes0 .ensures,
-      c .before .reads1 .ensures,
-      c .before .before .operands2 .ensures,
+      c .plain .ensures,
+      c .before .writes0 .ensures,
+      c .before .before .reads1 .ensures,
+      c .before .before .before .operands2 .ensures,
     )
 
 pub lift-setlist-spec : {M : Type 1} → statement M
-lift-setlist-spec = tie.close (tie.spec (λ c. search needs) (λ c κs. search needs) (λ c κs. search needs) (λ c κs. search needs) returns)
+lift-setlist-spec = tie.close (tie.spec (λ c. search needs) (λ c κs. search needs) (λ c κs. search needs) (λ c κs. search needs) (λ c κs. search needs) returns)

@@ -7,10 +7,11 @@ use Rattle.families.proofs.loads.lift_unary.Tie as tie
 returns : tie.Need-returns
 returns c =
     rw (
-      c .writes1 .ensures,
-      c .before .reads1 .ensures,
-      c .before .before .operands2 .ensures,
+      c .plain .ensures,
+      c .before .writes1 .ensures,
+      c .before .before .reads1 .ensures,
+      c .before .before .before .operands2 .ensures,
     )
 
 pub lift-unary-spec : {M : Type 1} → statement M
-lift-unary-spec = tie.close (tie.spec (λ c κs. search needs) (λ c κs. search needs) (λ c κs. search needs) returns)
+lift-unary-spec = tie.close (tie.spec (λ c κs. search needs) (λ c κs. search needs) (λ c κs. search needs) (λ c κs. search needs) returns)

@@ -3,7 +3,7 @@
 use borrow.Author.Needs.{needs}
 use borrow.Author.Tests.{le-leb, lt-leb, ne-eqb}
 use Rattle.families.specs.Parts.{arguments}
-use Rattle.values.specs.Values.{choose}
+use Rattle.common.specs.Chain.{choose}
 use Rattle.families.proofs.parts.call_reads.Statement.{statement}
 use Rattle.families.proofs.parts.call_reads.Tie as tie
 

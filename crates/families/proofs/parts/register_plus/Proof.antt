@@ -4,7 +4,7 @@ use borrow.Author.Needs.{needs}
 use native.Mathlib.Omega.{arith}
 use borrow.Author.Tests.{le-leb, lt-leb}
 use Rattle.families.specs.Parts.{plus}
-use Rattle.values.specs.Values.{choose}
+use Rattle.common.specs.Chain.{choose}
 use Prim.Native.Nat.{_+_}
 use Rattle.families.proofs.parts.register_plus.Statement.{statement}
 use Rattle.families.proofs.parts.register_plus.Tie as tie

@@ -3,7 +3,7 @@
 use borrow.Author.Needs.{needs}
 use borrow.Author.Tests.{ne-eqb}
 use Rattle.families.specs.Parts.{rk}
-use Rattle.values.specs.Values.{choose}
+use Rattle.common.specs.Chain.{choose}
 use Rattle.families.proofs.parts.rk_operand.Statement.{statement}
 use Rattle.families.proofs.parts.rk_operand.Tie as tie
 

@@ -2,7 +2,7 @@
 -- Assumes nothing.
 use borrow.Author.Tests.{ne-eqb}
 use Rattle.families.specs.Parts.{rkTarget}
-use Rattle.values.specs.Values.{choose}
+use Rattle.common.specs.Chain.{choose}
 use Rattle.families.proofs.parts.rk_target.Statement.{statement}
 use Rattle.families.proofs.parts.rk_target.Tie as tie
 

@@ -7,12 +7,13 @@ use Rattle.families.proofs.tables.lift_getupval.Tie as tie
 returns : tie.Need-returns
 returns c =
     rw (
-      c .writes1 .ensures,
-      c .before .reads1 .ensures,
-      c .before .before .upvalue-target .ensures,
-      c .before .before .before .operands2 .ensures,
-      c .before .before .before .before .upvalue-operand .ensures,
+      c .plain .ensures,
+      c .before .writes1 .ensures,
+      c .before .before .reads1 .ensures,
+      c .before .before .before .upvalue-target .ensures,
+      c .before .before .before .before .operands2 .ensures,
+      c .before .before .before .before .before .upvalue-operand .ensures,
     )
 
 pub lift-getupval-spec : {M : Type 1} → statement M
-lift-getupval-spec = tie.close (tie.spec (λ c κs. search needs) (λ c κs. search needs) (λ c κs. search needs) (λ c κs. search needs) (λ c κs. search needs) returns)
+lift-getupval-spec = tie.close (tie.spec (λ c κs. search needs) (λ c κs. search needs) (λ c κs. search needs) (λ c κs. search needs) (λ c κs. search needs) (λ c κs. search needs) returns)

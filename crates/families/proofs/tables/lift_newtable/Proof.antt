@@ -7,10 +7,11 @@ use Rattle.families.proofs.tables.lift_newtable.Tie as tie
 returns : tie.Need-returns
 returns c =
     rw (
-      c .writes1 .ensures,
-      c .before .reads0 .ensures,
-      c .before .before .operands3 .ensures,
+      c .plain .ensures,
+      c .before .writes1 .ensures,
+      c .before .before .reads0 .ensures,
+      c .before .before .before .operands3 .ensures,
     )
 
 pub lift-newtable-spec : {M : Type 1} → statement M
-lift-newtable-spec = tie.close (tie.spec (λ c. search needs) (λ c. search needs) (λ c κs. search needs) (λ c κs. search needs) (λ c κs. search needs) returns)
+lift-newtable-spec = tie.close (tie.spec (λ c. search needs) (λ c. search needs) (λ c κs. search needs) (λ c κs. search needs) (λ c κs. search needs) (λ c κs. search needs) returns)

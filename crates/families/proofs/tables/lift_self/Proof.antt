@@ -7,13 +7,14 @@ use Rattle.families.proofs.tables.lift_self.Tie as tie
 returns : tie.Need-returns
 returns c =
     rw (
-      c .writes2 .ensures,
-      c .before .register-plus .ensures,
-      c .before .before .reads2 .ensures,
-      c .before .before .before .rk-target .ensures,
-      c .before .before .before .before .operands3 .ensures,
-      c .before .before .before .before .before .rk-operand .ensures,
+      c .plain .ensures,
+      c .before .writes2 .ensures,
+      c .before .before .register-plus .ensures,
+      c .before .before .before .reads2 .ensures,
+      c .before .before .before .before .rk-target .ensures,
+      c .before .before .before .before .before .operands3 .ensures,
+      c .before .before .before .before .before .before .rk-operand .ensures,
     )
 
 pub lift-self-spec : {M : Type 1} → statement M
-lift-self-spec = tie.close (tie.spec (λ c κs. search needs) (λ c κs. search needs) (λ c κs. search needs) (λ c κs. search needs) (λ c κs. search needs) (λ c κs. search needs) returns)
+lift-self-spec = tie.close (tie.spec (λ c κs. search needs) (λ c κs. search needs) (λ c κs. search needs) (λ c κs. search needs) (λ c κs. search needs) (λ c κs. search needs) (λ c κs. search needs) returns)

@@ -7,11 +7,12 @@ use Rattle.families.proofs.tables.lift_with_constant.Tie as tie
 returns : tie.Need-returns
 returns c =
     rw (
-      c .writes1 .ensures,
-      c .before .reads2 .ensures,
-      c .before .before .before .operands3 .ensures,
-      c .before .before .before .before .constant-operand .ensures,
+      c .plain .ensures,
+      c .before .writes1 .ensures,
+      c .before .before .reads2 .ensures,
+      c .before .before .before .before .operands3 .ensures,
+      c .before .before .before .before .before .constant-operand .ensures,
     )
 
 pub lift-with-constant-spec : {M : Type 1} → statement M
-lift-with-constant-spec = tie.close (tie.spec (λ c. search needs) (λ c κs. search needs) (λ c κs. search needs) (λ c. search needs) (λ c κs. search needs) (λ c κs. search needs) returns)
+lift-with-constant-spec = tie.close (tie.spec (λ c. search needs) (λ c κs. search needs) (λ c κs. search needs) (λ c. search needs) (λ c κs. search needs) (λ c κs. search needs) (λ c κs. search needs) returns)

@@ -7,10 +7,11 @@ use Rattle.families.proofs.tables.lift_with_immediate.Tie as tie
 returns : tie.Need-returns
 returns c =
     rw (
-      c .writes1 .ensures,
-      c .before .reads1 .ensures,
-      c .before .before .operands3 .ensures,
+      c .plain .ensures,
+      c .before .writes1 .ensures,
+      c .before .before .reads1 .ensures,
+      c .before .before .before .operands3 .ensures,
     )
 
 pub lift-with-immediate-spec : {M : Type 1} → statement M
-lift-with-immediate-spec = tie.close (tie.spec (λ c κs. search needs) (λ c κs. search needs) (λ c κs. search needs) returns)
+lift-with-immediate-spec = tie.close (tie.spec (λ c κs. search needs) (λ c κs. search needs) (λ c κs. search needs) (λ c κs. search needs) returns)

@@ -1,4 +1,4 @@
--- `fields::lookup::companion` meets its contract: the high half of a byte of both columns.
+-- `fields::lookup::companion` meets its contract: the high half of a byte of the packed table.
 -- Assumes nothing.
 use borrow.Author.Needs.{needs}
 use Rattle.fields.specs.Word.{opcodeOf}
@@ -7,7 +7,7 @@ use Rattle.fields.proofs.lookup.companion.Statement.{statement}
 use Rattle.fields.proofs.lookup.companion.Tie as tie
 
 returns : tie.Need-returns
-returns c = high-half (opcodeOf (c .before .args .word)) (c .both .ensures)
+returns c = high-half (opcodeOf (c .before .args .word)) (c .companion-and-class .ensures)
 
 pub companion-spec : {M : Type 1} → statement M
 companion-spec = tie.close (tie.spec (λ c κs. search needs) returns)

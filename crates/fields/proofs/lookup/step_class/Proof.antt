@@ -1,4 +1,4 @@
--- `fields::lookup::step_class` meets its contract: the low half of a byte of both columns.
+-- `fields::lookup::step_class` meets its contract: the low half of a byte of the packed table.
 -- Assumes nothing.
 use borrow.Author.Needs.{needs}
 use Rattle.fields.specs.Word.{opcodeOf}
@@ -7,7 +7,7 @@ use Rattle.fields.proofs.lookup.step_class.Statement.{statement}
 use Rattle.fields.proofs.lookup.step_class.Tie as tie
 
 returns : tie.Need-returns
-returns c = low-half (opcodeOf (c .before .args .word)) (c .both .ensures)
+returns c = low-half (opcodeOf (c .before .args .word)) (c .companion-and-class .ensures)
 
 pub step-class-spec : {M : Type 1} → statement M
 step-class-spec = tie.close (tie.spec (λ c κs. search needs) returns)

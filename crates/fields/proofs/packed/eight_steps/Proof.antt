@@ -3,7 +3,7 @@
 use mathlib.Core.Path.{refl}
 use mathlib.Core.List.{[], _∷_}
 use Rattle.fields.specs.Table.{classOf, companionOf}
-use Rattle.fields.specs.Packed.{bothOf, eightOf}
+use Rattle.fields.specs.Packed.{companionAndClass, eightOf}
 use Rattle.fields.proofs.Bytes.{at-block, at-others}
 use Rattle.fields.proofs.packed.eight_steps.Statement.{statement}
 use Rattle.fields.proofs.packed.eight_steps.Tie as tie
@@ -13,19 +13,19 @@ unfolding eightOf classOf companionOf
 eight-steps-spec =
     tie.close
     (tie.spec
-    (λ c. at-block bothOf (c .match .keys1) refl)
-    (λ c. at-block bothOf (c .match .keys2) refl)
-    (λ c. at-block bothOf (c .match .keys3) refl)
-    (λ c. at-block bothOf (c .match .keys4) refl)
-    (λ c. at-block bothOf (c .match .keys5) refl)
-    (λ c. at-block bothOf (c .match .keys6) refl)
-    (λ c. at-block bothOf (c .match .keys7) refl)
-    (λ c. at-block bothOf (c .match .keys8) refl)
-    (λ c. at-block bothOf (c .match .keys9) refl)
-    (λ c. at-block bothOf (c .match .keys10) refl)
-    (λ c. at-block bothOf (c .match .keys11) refl)
-    (λ c. at-block bothOf (c .match .keys12) refl)
-    (λ c. at-block bothOf (c .match .keys13) refl)
-    (λ c. at-block bothOf (c .match .keys14) refl)
-    (λ c. at-block bothOf (c .match .keys15) refl)
-    (λ c. at-others bothOf (14 ∷ 13 ∷ 12 ∷ 11 ∷ 10 ∷ 9 ∷ 8 ∷ 7 ∷ 6 ∷ 5 ∷ 4 ∷ 3 ∷ 2 ∷ 1 ∷ 0 ∷ []) _ tt (c .before .args .block) (c .before .pre) (c .match .rest)))
+    (λ c. at-block companionAndClass (c .match .keys1) refl)
+    (λ c. at-block companionAndClass (c .match .keys2) refl)
+    (λ c. at-block companionAndClass (c .match .keys3) refl)
+    (λ c. at-block companionAndClass (c .match .keys4) refl)
+    (λ c. at-block companionAndClass (c .match .keys5) refl)
+    (λ c. at-block companionAndClass (c .match .keys6) refl)
+    (λ c. at-block companionAndClass (c .match .keys7) refl)
+    (λ c. at-block companionAndClass (c .match .keys8) refl)
+    (λ c. at-block companionAndClass (c .match .keys9) refl)
+    (λ c. at-block companionAndClass (c .match .keys10) refl)
+    (λ c. at-block companionAndClass (c .match .keys11) refl)
+    (λ c. at-block companionAndClass (c .match .keys12) refl)
+    (λ c. at-block companionAndClass (c .match .keys13) refl)
+    (λ c. at-block companionAndClass (c .match .keys14) refl)
+    (λ c. at-block companionAndClass (c .match .keys15) refl)
+    (λ c. at-others companionAndClass (14 ∷ 13 ∷ 12 ∷ 11 ∷ 10 ∷ 9 ∷ 8 ∷ 7 ∷ 6 ∷ 5 ∷ 4 ∷ 3 ∷ 2 ∷ 1 ∷ 0 ∷ []) _ tt (c .before .args .block) (c .before .pre) (c .match .rest)))

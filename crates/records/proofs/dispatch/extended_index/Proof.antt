@@ -2,7 +2,7 @@
 -- Assumes nothing.
 use borrow.Author.Needs.{needs}
 use borrow.Author.Tests.{lt-ltb, le-ltb, eq-eqb, ne-eqb}
-use Rattle.values.specs.Values.{choose}
+use Rattle.common.specs.Chain.{choose}
 use Rattle.records.specs.Lift.{extendedIndex}
 use Rattle.records.proofs.dispatch.extended_index.Statement.{statement}
 use Rattle.records.proofs.dispatch.extended_index.Tie as tie

@@ -4,7 +4,7 @@ use borrow.Author.Needs.{needs}
 use borrow.Author.Tests.{le-leb, lt-leb, ne-eqb}
 use mir.Syntax.{w32}
 use mir.Facts.{toZ-ofZ}
-use Rattle.values.specs.Values.{choose}
+use Rattle.common.specs.Chain.{choose}
 use Rattle.records.specs.Lift.{arithmetic}
 use Rattle.records.proofs.dispatch.lift_arithmetic.Statement.{statement}
 use Rattle.records.proofs.dispatch.lift_arithmetic.Tie as tie

@@ -2,7 +2,7 @@
 -- Assumes nothing.
 use borrow.Author.Needs.{needs}
 use borrow.Author.Tests.{le-leb, lt-leb}
-use Rattle.values.specs.Values.{choose}
+use Rattle.common.specs.Chain.{choose}
 use Rattle.records.specs.Lift.{bodyOf}
 use Rattle.records.proofs.dispatch.lift_body.Statement.{statement}
 use Rattle.records.proofs.dispatch.lift_body.Tie as tie

@@ -2,7 +2,7 @@
 -- Assumes nothing.
 use borrow.Author.Needs.{needs}
 use borrow.Author.Tests.{ne-eqb}
-use Rattle.values.specs.Values.{choose}
+use Rattle.common.specs.Chain.{choose}
 use Rattle.records.specs.Lift.{calls}
 use Rattle.records.proofs.dispatch.lift_calls.Statement.{statement}
 use Rattle.records.proofs.dispatch.lift_calls.Tie as tie

@@ -2,7 +2,7 @@
 -- Assumes nothing.
 use borrow.Author.Needs.{needs}
 use borrow.Author.Tests.{le-leb, lt-leb, ne-eqb}
-use Rattle.values.specs.Values.{choose}
+use Rattle.common.specs.Chain.{choose}
 use Rattle.records.specs.Lift.{control}
 use Rattle.records.proofs.dispatch.lift_control.Statement.{statement}
 use Rattle.records.proofs.dispatch.lift_control.Tie as tie

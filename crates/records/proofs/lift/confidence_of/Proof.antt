@@ -1,7 +1,7 @@
 -- `records::lift::confidence_of` meets its contract.
 -- Assumes nothing.
 use borrow.Author.Tests.{le-leb, lt-leb}
-use Rattle.values.specs.Values.{choose}
+use Rattle.common.specs.Chain.{choose}
 use Rattle.records.specs.Lift.{confidenceOf}
 use Rattle.records.proofs.lift.confidence_of.Statement.{statement}
 use Rattle.records.proofs.lift.confidence_of.Tie as tie

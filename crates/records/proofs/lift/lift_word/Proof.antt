@@ -7,10 +7,10 @@ use lib.ListN.{length}
 use denote.Ref.{now}
 use borrow.Author.Needs.{needs}
 use borrow.Author.Tests.{lt-ltb, le-ltb}
-use Rattle.values.specs.Values.{choose}
+use Rattle.common.specs.Chain.{choose}
 use Rattle.records.specs.declared.refusals.Plan.{Plan}
 use Rattle.records.specs.Walk.{liftedBy}
-use Rattle.records.proofs.Plan.{within}
+use Rattle.records.proofs.Laws.{plan-laws}
 use Rattle.records.proofs.lift.lift_word.Statement.{statement}
 use Rattle.records.proofs.lift.lift_word.Tie as tie
 
@@ -19,8 +19,8 @@ inside : (c : tie.Then1) → (c .before .before .before .before .before .before 
 inside c =
     let a = c .before .before .before .before .before .before .before .before .args in
     let h = subst (λ (p : Plan). a .pc < p .count) (c .before .before .planned .ensures) (c .if1 .taken) in
-    let w = within (length (now (a .words))) (now (a .tags)) (now (a .payloads)) (now (a .names)) (length (now (a .bytes))) (length (now (a .words))) in
-    (omega (arith, w .0, h), w .1 .1 (a .pc) h)
+    let w = plan-laws (now (a .words)) (now (a .tags)) (now (a .payloads)) (now (a .names)) (length (now (a .bytes))) (length (now (a .words))) in
+    (omega (arith, w .within-words, h), w .few-words (a .pc) h)
 
 lift-at-requires : tie.Need-lift-at-requires
 lift-at-requires c κs = inside c
@@ -31,7 +31,7 @@ returns c = rw (c .lift-at .ensures, ← c .before .before .before .planned .ens
 
 returns-2 : tie.Need-returns-2
 unfolding liftedBy choose
-returns-2 c = rw (c .no-instruction .ensures, ← c .before .before .before .planned .ensures, le-ltb _ _ (c .before .if1 .left))
+returns-2 c = rw (c .blank-record .ensures, ← c .before .before .before .planned .ensures, le-ltb _ _ (c .before .if1 .left))
 
 pub lift-word-spec : {M : Type 1} → statement M
 lift-word-spec = tie.close (tie.spec (λ c κs. search needs) lift-at-requires (λ c κs. search needs) returns returns-2)

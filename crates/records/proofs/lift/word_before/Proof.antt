@@ -2,7 +2,7 @@
 -- Assumes nothing.
 use borrow.Author.Needs.{needs}
 use borrow.Author.Tests.{ne-eqb}
-use Rattle.values.specs.Values.{choose}
+use Rattle.common.specs.Chain.{choose}
 use Rattle.records.specs.Lift.{before}
 use Rattle.records.proofs.lift.word_before.Statement.{statement}
 use Rattle.records.proofs.lift.word_before.Tie as tie

@@ -1,7 +1,7 @@
 -- `records::refusals::is_string` meets its contract.
 -- Assumes nothing.
 use borrow.Author.Tests.{ne-eqb}
-use Rattle.values.specs.Values.{choose}
+use Rattle.common.specs.Chain.{choose}
 use Rattle.records.specs.Refusals.{isString}
 use Rattle.records.proofs.refusals.is_string.Statement.{statement}
 use Rattle.records.proofs.refusals.is_string.Tie as tie

@@ -2,7 +2,7 @@
 -- Assumes nothing.
 use borrow.Author.Tests.{ne-eqb}
 use Rattle.records.specs.Refusals.{unknownTag}
-use Rattle.values.specs.Values.{choose}
+use Rattle.common.specs.Chain.{choose}
 use Rattle.records.proofs.refusals.is_unknown.Statement.{statement}
 use Rattle.records.proofs.refusals.is_unknown.Tie as tie
 

@@ -2,7 +2,7 @@
 -- Assumes nothing.
 use borrow.Author.Needs.{needs}
 use borrow.Author.Tests.{eq-eqb, ne-eqb}
-use Rattle.values.specs.Values.{choose}
+use Rattle.common.specs.Chain.{choose}
 use Rattle.records.specs.Refusals.{planOf}
 use Rattle.records.proofs.refusals.planned.Statement.{statement}
 use Rattle.records.proofs.refusals.planned.Tie as tie

@@ -49,12 +49,13 @@ use denote.Exit.{yes}
 use denote.Triple.Clauses.{ensured}
 use Rattle.values.specs.declared.ir.SemanticInstruction.{SemanticInstruction}
 use Rattle.records.specs.declared.refusals.Plan.{Plan}
-use Rattle.records.specs.declared.refusals.Answer.{Answer}
+use Rattle.common.specs.declared.answer.Answer.{Answer}
 use Rattle.records.specs.Lift.{liftOf}
 use Rattle.records.specs.Refusals.{planOf}
 use Rattle.records.specs.Walk.{filled}
-use Rattle.records.proofs.Plan as plan
-use Rattle.records.proofs.Elements.{length-filled}
+use Rattle.records.specs.Laws.{PlanLaws}
+use Rattle.records.proofs.Laws.{plan-laws}
+use Rattle.records.proofs.ElementWise.{length-filled}
 use Rattle.records.proofs.Turns.{sz, holds, fails, one-more, offset-fits, next-fits, below-fits, less, moved, within}
 use Rattle.records.proofs.Lent as lent
 use Rattle.records.proofs.Lent.{One, Planned, word, slice₁, slice₂, slice₃, slice₄, slice₅, slice₆}
@@ -62,8 +63,8 @@ use Rattle.values.proofs.ir.SemanticInstruction as R
 use Rattle.values.proofs.ir.SemanticInstruction.Laws as R′
 use Rattle.records.proofs.refusals.Plan as P
 use Rattle.records.proofs.refusals.Plan.Laws as P′
-use Rattle.records.proofs.refusals.Answer as N
-use Rattle.records.proofs.refusals.Answer.Laws as N′
+use Rattle.common.proofs.answer.Answer as N
+use Rattle.common.proofs.answer.Answer.Laws as N′
 use Rattle.records.proofs.lift.lift_at as one
 use Rattle.records.proofs.lift.lift_at.Symbol as one-def
 use Rattle.records.proofs.lift.lift_at.Symbol.{name as #lift-at}
@@ -125,8 +126,8 @@ module _ {M : Type 1} (𝓤 : URA M) (H : Heap 𝓤) (A : Atoms 𝓤) (W : Given
   n = p .count
 
   -- n is within the words, and within the room
-  small : (n ≤ length ws) × ((n ≤ length ys) × ((i : ℕ) → i < n → length ws ≤ 32768))
-  small = plan.within (length ws) ts ps ns (length bs) (length ys)
+  small : PlanLaws ws ts ps ns (length bs) (length ys)
+  small = plan-laws ws ts ps ns (length bs) (length ys)
 
   -- the records once i are stored, and at exit
   abbrev done-to : ℕ → List SemanticInstruction
@@ -247,7 +248,7 @@ module _ {M : Type 1} (𝓤 : URA M) (H : Heap 𝓤) (A : Atoms 𝓤) (W : Given
         assigns ! (bin ! (load ! (from ! (stop !)) (look ! 1 refl)) (load ! (from ! (stop !)) (look ! 13 refl)) tt) (from ! (stop !)) (init ! 2 refl (tt, tt)) $
         rewrite ! 2 (λ (t : Bool). ‵ (fat fullShare tyBool l₁₁ 0 (vbool t))) (holds (ltb i n) (lt→ltb i n before)) refl $
         stays ! (load ! (from ! (stop !)) (look ! 2 refl)) $
-        move ! (20 ∷ 19 ∷ []) $ use2 W (raw (One 𝓤 H A at-mem run .pre (to-one i)) ⊛ ‵ Lent) (lent.ask-one 𝓤 H A W at-mem run κ q wr tr pr nr br (length ys) i (below-fits before (n-fits p-is)) (within before (small .0) refl, small .1 .1 i before)) $ split ! $
+        move ! (20 ∷ 19 ∷ []) $ use2 W (raw (One 𝓤 H A at-mem run .pre (to-one i)) ⊛ ‵ Lent) (lent.ask-one 𝓤 H A W at-mem run κ q wr tr pr nr br (length ys) i (below-fits before (n-fits p-is)) (within before (small .within-words) refl, small .few-words i before)) $ split ! $
         -- [what the callee asks; the slices; the row; _7; _9; _10; _11; _12; _1; _2; _3; _4; _5; _6; _8; _0; the open borrow; obs; auth; and that each local dies]
         calls-at ! (fmOf 𝓤 H (W .laws) 𝓣) (One 𝓤 H A at-mem run) known (to-one i) (and-then ! (load ! (from ! (stop !)) (look ! 8 refl)) (and-then ! (load ! (from ! (stop !)) (look ! 9 refl)) (and-then ! (load ! (from ! (stop !)) (look ! 10 refl)) (and-then ! (load ! (from ! (stop !)) (look ! 11 refl)) (and-then ! (load ! (from ! (stop !)) (look ! 3 refl)) (no-more !)))))) (λ u.
         use1 W (later (some (λ (r : SemanticInstruction). ((‵ (flft κ q) ⊛ ‵ ftrue) ⊛ ‵ (R.the-row .own r (u ∷ []))) ⊛ raw (ensured 𝓤 H A one.ended (one.clauses 𝓤 H A at-mem run) (κ, tt) (lent.y₁ 𝓤 H A W at-mem run κ q wr tr pr nr br (length ys) i) tt r)))) (id⊢ 𝓤 _) $ await ! tt $ pick ! (λ r.
@@ -270,10 +271,10 @@ module _ {M : Type 1} (𝓤 : URA M) (H : Heap 𝓤) (A : Atoms 𝓤) (W : Given
         move ! (1 ∷ []) $ split ! $ keep ! (2 ∷ 4 ∷ 5 ∷ 6 ∷ 7 ∷ 8 ∷ 9 ∷ 10 ∷ 11 ∷ 12 ∷ 13 ∷ 14 ∷ 15 ∷ 16 ∷ 17 ∷ 18 ∷ 19 ∷ 20 ∷ 21 ∷ 3 ∷ 0 ∷ 22 ∷ 23 ∷ 24 ∷ 25 ∷ 26 ∷ 27 ∷ 28 ∷ 29 ∷ 30 ∷ 31 ∷ 32 ∷ 33 ∷ 34 ∷ 35 ∷ 36 ∷ []) $ by ! k)))))
       where
         inside : i < length (done-to i)
-        inside = within before (small .1 .0) (length-filled ws ts ps ns i ys)
+        inside = within before (small .within-room) (length-filled ws ts ps ns i ys)
 
         o-fits : i * sz < 2 ^ 64
-        o-fits = offset-fits (within before (small .1 .0) refl) (room .1)
+        o-fits = offset-fits (within before (small .within-room) refl) (room .1)
 
         made : (r : SemanticInstruction) (u : Val) → r ≡ new i → Is R.the-row r (u ∷ []) → Is R.the-row (new i) (vals (new i))
         made r u e is = subst (λ (z : SemanticInstruction). Is R.the-row z (vals z)) e (subst (Is R.the-row r) (LL.tells R.the-type R′.the-laws r (u ∷ []) is) is)

@@ -49,13 +49,13 @@ use denote.Triple.Walked.{says, Stays, stay-dropped, walkOf, Goes, AllGo, goes-d
 use denote.Exit.{yes}
 use denote.Triple.Clauses.{Lasts, lasts}
 use Rattle.values.specs.declared.ir.SemanticInstruction.{SemanticInstruction}
-use Rattle.records.specs.declared.refusals.Answer.{Answer}
+use Rattle.common.specs.declared.answer.Answer.{Answer}
 use Rattle.records.specs.Refusals.{planOf}
 use Rattle.records.specs.Walk.{recordsAfter}
 use Rattle.values.proofs.ir.SemanticInstruction as R
 use Rattle.values.proofs.ir.SemanticInstruction.Laws as R′
-use Rattle.records.proofs.refusals.Answer as N
-use Rattle.records.proofs.refusals.Answer.Laws as N′
+use Rattle.common.proofs.answer.Answer as N
+use Rattle.common.proofs.answer.Answer.Laws as N′
 use Rattle.records.proofs.walk.lift_proto_lua54 as into
 use Rattle.records.proofs.walk.lift_proto_lua54.Symbol as into-def
 use Rattle.records.proofs.walk.lift_proto_lua54.Symbol.{name as #lift-proto-lua54}

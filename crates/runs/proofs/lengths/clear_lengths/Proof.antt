@@ -1,14 +1,14 @@
 use Prim.Native.Nat.{_-_}
 use native.Mathlib.Omega.{arith}
-use Rattle.runs.proofs.Clearing.{Clearing, clearing-none, clearing-more, clearing-done}
+use Rattle.common.proofs.Clearing.{Clearing, clearing-none, clearing-more, clearing-done}
 use Rattle.runs.proofs.lengths.clear_lengths.Statement.{statement}
 use Rattle.runs.proofs.lengths.clear_lengths.Tie as tie
 
 abbrev Inv-loop : tie.InvT-loop
-Inv-loop lengths₀ n i₀ lengths i = Clearing 0 n lengths₀ lengths i
+Inv-loop lengths₀ n p₀ lengths p = Clearing 0 n lengths₀ lengths p
 
 abbrev μ-loop : tie.MeasureT-loop
-μ-loop lengths₀ n i₀ lengths i = n - i
+μ-loop lengths₀ n p₀ lengths p = n - p
 
 pub clear-lengths-spec : {M : Type 1} → statement M
 clear-lengths-spec =

@@ -4,13 +4,13 @@ use Prim.Native.Nat.{ℕ, _+_, _-_, _<_, _≤_}
 use native.Mathlib.Omega.{arith}
 use lib.ListN.{length, drop, length-set}
 use lib.Seq.{drop-set-lt}
-use Rattle.runs.specs.Longest.{lowestFrom}
+use Rattle.common.specs.Lowest.{lowestFrom}
 use Rattle.runs.specs.Instance.{graphOf, unitWeight}
 use Rattle.runs.specs.Run.{reachesInvalid, lowestInvalid}
 use Rattle.runs.specs.Invariants.{Filled}
 use Rattle.runs.proofs.Lawful.{lawful}
 use Rattle.runs.proofs.Backward.{filled-more}
-use Rattle.runs.proofs.Lists.{lowest-none, lowest-down, lowest-whole}
+use Rattle.common.proofs.Lowest.{lowest-laws}
 use Rattle.runs.proofs.lengths.fill_lengths.Statement.{statement}
 use Rattle.runs.proofs.lengths.fill_lengths.Tie as tie
 
@@ -26,7 +26,7 @@ abbrev μ-loop : tie.MeasureT-loop
 μ-loop table words marks lengths₀ invalid₀ i₀ lengths invalid i = i
 
 loop-holds : tie.Need-loop-holds Inv-loop μ-loop
-loop-holds c = let s = c .before .before .before in (s .pre .1, omega arith, lowest-none (reachesInvalid (s .args .words .now)) (length (s .args .words .now)), refl, refl)
+loop-holds c = let s = c .before .before .before in (s .pre .1, omega arith, lowest-laws .end (reachesInvalid (s .args .words .now)) (length (s .args .words .now)) _ refl, refl, refl)
 
 -- a turn: the word i - 1 is the next
 module _ (c : tie.In-loop Inv-loop μ-loop) where
@@ -51,7 +51,7 @@ module _ (c : tie.In-loop Inv-loop μ-loop) where
       let ws = start .args .words .now in
       e
       ∙ ap (λ (x : ℕ). cond (reachesInvalid ws word) word x) (c .before .loop .inv .2 ∙ ap (λ (x : ℕ). lowestFrom (reachesInvalid ws) x (length ws - x)) back)
-      ∙ sym (lowest-down (reachesInvalid ws) (length ws) word inside)
+      ∙ sym (lowest-laws .turn (reachesInvalid ws) (length ws) word inside)
 
 loop-again : tie.Need-loop-again Inv-loop μ-loop
 loop-again c =
@@ -72,7 +72,7 @@ returns c =
     let ws = c .before .before .before .before .before .args .words .now in
     let e : c .before .loop .i ≡ 0 = omega (arith, c .loop-test .left) in (
       record { each = λ p h. v .0 .from p (omega (arith, e)) h; rest = v .3 },
-      v .2 ∙ ap (λ (x : ℕ). lowestFrom (reachesInvalid ws) x (length ws - x)) e ∙ lowest-whole (reachesInvalid ws) (length ws),
+      v .2 ∙ ap (λ (x : ℕ). lowestFrom (reachesInvalid ws) x (length ws - x)) e ∙ lowest-laws .whole (reachesInvalid ws) (length ws),
     )
 
 pub fill-lengths-spec : {M : Type 1} → statement M

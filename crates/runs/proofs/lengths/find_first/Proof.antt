@@ -8,7 +8,7 @@ use borrow.Author.Count.{below-more}
 use borrow.Author.Tests.{eq-eqb, ne-eqb}
 use lib.Dec.{eqb}
 use Rattle.runs.specs.Invariants.{at}
-use Rattle.runs.proofs.Lists.{lowest-is, lowest-nowhere}
+use Rattle.common.proofs.Lowest.{lowest-laws}
 use Rattle.runs.proofs.lengths.find_first.Statement.{statement}
 use Rattle.runs.proofs.lengths.find_first.Tie as tie
 
@@ -25,7 +25,7 @@ returns : tie.Need-returns Inv-loop μ-loop
 returns c =
     let l = c .before .before .before in
     let s = l .before in
-    lowest-is (test (s .args .lengths .now) (s .args .sought)) (s .args .n) (l .loop .i) (c .before .before .loop-test .taken) (eq-eqb _ _ (c .if1 .taken)) (l .loop .inv .1)
+    lowest-laws .is (test (s .args .lengths .now) (s .args .sought)) (s .args .n) (l .loop .i) (c .before .before .loop-test .taken) (eq-eqb _ _ (c .if1 .taken)) (l .loop .inv .1)
 
 loop-again : tie.Need-loop-again Inv-loop μ-loop
 loop-again c =
@@ -38,7 +38,7 @@ returns-2 c =
     let l = c .before in
     let s = l .before in
     let e : l .loop .i ≡ s .args .n = omega arith in
-    e ∙ lowest-nowhere (test (s .args .lengths .now) (s .args .sought)) (s .args .n) (λ p h. l .loop .inv .1 p (omega arith))
+    e ∙ lowest-laws .nowhere (test (s .args .lengths .now) (s .args .sought)) (s .args .n) (λ p h. l .loop .inv .1 p (omega arith))
 
 pub find-first-spec : {M : Type 1} → statement M
 find-first-spec =

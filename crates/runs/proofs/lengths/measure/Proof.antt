@@ -6,12 +6,13 @@ use Prim.Native.Nat.{ℕ, _+_, _<_, _≤_}
 use native.Mathlib.Omega.{arith}
 use lib.ListN.{length}
 use borrow.Author.Needs.{needs}
+use Rattle.common.specs.Limits.{mostWords}
 use Rattle.runs.specs.Graph.{Graph, In}
 use Rattle.runs.specs.Marks.{markOf}
 use Rattle.runs.specs.Longest.{best, lengthOf}
 use Rattle.runs.specs.Successors.{listOf, isInvalid}
 use Rattle.runs.specs.Instance.{graphOf, unitWeight}
-use Rattle.runs.specs.Run.{mostWords, reachesInvalid}
+use Rattle.runs.specs.Run.{reachesInvalid}
 use Rattle.runs.specs.Invariants.{at}
 use Rattle.runs.proofs.Lawful.{lawful}
 use Rattle.runs.proofs.Backward.{unmarked, marked, measured, in-lengths, length-unmarked, length-bound, lowest-unmarked, lowest-here, lowest-above}

@@ -7,11 +7,12 @@ use borrow.Author.Needs.{needs}
 use Rattle.runs.specs.Marks.{markOf}
 use Rattle.runs.specs.Longest.{lengthOf, longest}
 use Rattle.runs.specs.Instance.{graphOf, unitWeight}
-use Rattle.runs.specs.Run.{over, lowestInvalid}
+use Rattle.common.specs.Lists.{over}
+use Rattle.runs.specs.Run.{lowestInvalid}
 use Rattle.runs.specs.Invariants.{at}
-use Rattle.runs.proofs.Lists.{over-is}
+use Rattle.common.proofs.Over.{over-laws}
 use Rattle.runs.proofs.Meaning.{longest-found, first-found}
-use Rattle.runs.proofs.Outcome.{outcome-8, outcome-9, outcome-0}
+use Rattle.runs.proofs.Outcome.{outcome-invalid, outcome-long, outcome-accepted}
 use Rattle.runs.proofs.longest.run_of_words.Statement.{statement}
 use Rattle.runs.proofs.longest.run_of_words.Tie as tie
 
@@ -33,7 +34,7 @@ module _ (c : tie.After-mark-reachable) where
   lengths-long = omega (arith, c .mark-reachable .kept .1 .1 .1 .0, start .pre .l-long)
 
   marks-are : marks ≡ over (markOf (graphOf words)) (length words) (start .args .marks .now)
-  marks-are = let r = c .mark-reachable .ensures .0 in over-is (markOf (graphOf words)) (length words) (start .args .marks .now) marks marks-long (r .each) (r .rest)
+  marks-are = let r = c .mark-reachable .ensures .0 in over-laws .is (markOf (graphOf words)) (length words) (start .args .marks .now) marks marks-long (r .each) (r .rest)
 
 -- after the pass over the lengths
 module _ (c : tie.After-fill-lengths) where
@@ -47,7 +48,7 @@ module _ (c : tie.After-fill-lengths) where
   rest = c .fill-lengths .ensures .0 .rest ∙ sought .mark-reachable .ensures .1
 
   lengths-are : lengths ≡ over (lengthOf (graphOf (words sought)) unitWeight) (length (words sought)) (start sought .args .lengths .now)
-  lengths-are = over-is (lengthOf (graphOf (words sought)) unitWeight) (length (words sought)) (start sought .args .lengths .now) lengths (omega (arith, c .fill-lengths .kept .1 .1 .1 .0, lengths-long sought)) (c .fill-lengths .ensures .0 .each) rest
+  lengths-are = over-laws .is (lengthOf (graphOf (words sought)) unitWeight) (length (words sought)) (start sought .args .lengths .now) lengths (omega (arith, c .fill-lengths .kept .1 .1 .1 .0, lengths-long sought)) (c .fill-lengths .ensures .0 .each) rest
 
   -- lengths that are cleared
   cleared : {l : List ℕ} → l ≡ replicate (length (words sought)) 0 ++ drop (length (words sought)) lengths → l ≡ replicate (length (words sought)) 0 ++ drop (length (words sought)) (start sought .args .lengths .now)
@@ -74,21 +75,21 @@ returns c =
     let k = c .before .before in
     let f = k .before .before .before .before .before in
     let d = sought f in
-    outcome-8 _ _ _ (start d .pre) (marks-are d) (f .fill-lengths .ensures .1) (k .before .before .if1 .taken) (cleared f (k .clear-lengths .ensures))
+    outcome-invalid _ _ _ (start d .pre) (marks-are d) (f .fill-lengths .ensures .1) (k .before .before .if1 .taken) (cleared f (k .clear-lengths .ensures))
 
 returns-2 : tie.Need-returns-2
 returns-2 c =
     let k = c .before .before in
     let h = k .before .before .before in
     let d = sought (fill h) in
-    outcome-9 _ _ _ (start d .pre) (marks-are d) (valid h) (omega (arith, k .before .before .if2 .taken, found h)) (cleared (fill h) (k .clear-lengths2 .ensures))
+    outcome-long _ _ _ (start d .pre) (marks-are d) (valid h) (omega (arith, k .before .before .if2 .taken, found h)) (cleared (fill h) (k .clear-lengths2 .ensures))
 
 returns-3 : tie.Need-returns-3
 returns-3 c =
     let h = c .before .before .before in
     let d = sought (fill h) in
     let first-is = first-found (graphOf (words d)) unitWeight (at (lengths (fill h))) (fill h .fill-lengths .ensures .0 .each) (found h) (c .find-first .ensures) in
-    outcome-0 _ _ _ (start d .pre) (marks-are d) (valid h) (found h) first-is (c .before .before .if2 .left) (lengths-are (fill h))
+    outcome-accepted _ _ _ (start d .pre) (marks-are d) (valid h) (found h) first-is (c .before .before .if2 .left) (lengths-are (fill h))
 
 pub run-of-words-spec : {M : Type 1} → statement M
 run-of-words-spec =

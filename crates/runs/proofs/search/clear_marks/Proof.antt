@@ -1,6 +1,6 @@
 use Prim.Native.Nat.{_-_}
 use native.Mathlib.Omega.{arith}
-use Rattle.runs.proofs.Clearing.{Clearing, clearing-none, clearing-more, clearing-done}
+use Rattle.common.proofs.Clearing.{Clearing, clearing-none, clearing-more, clearing-done}
 use Rattle.runs.proofs.search.clear_marks.Statement.{statement}
 use Rattle.runs.proofs.search.clear_marks.Tie as tie
 

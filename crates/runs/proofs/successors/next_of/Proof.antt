@@ -3,7 +3,7 @@
 use borrow.Author.Tests.{eq-eqb, ne-eqb}
 use mathlib.Core.Path.{sym, _∙_}
 use Rattle.runs.specs.Columns.{classFrom}
-use Rattle.runs.proofs.Order.{past-all}
+use Rattle.common.proofs.Order.{past-all}
 use Rattle.runs.proofs.Columns.{class-past}
 use borrow.Author.Needs.{needs}
 use Rattle.runs.proofs.successors.next_of.Statement.{statement}

@@ -1,6 +1,6 @@
 -- `runs::successors::one_of` meets its contract by the laws of one next word.
 -- Assumes nothing.
-use Rattle.runs.proofs.Laws.{one-in, one-out}
+use Rattle.runs.proofs.Steps.{one-in, one-out}
 use Rattle.runs.proofs.successors.one_of.Statement.{statement}
 use Rattle.runs.proofs.successors.one_of.Tie as tie
 

@@ -3,7 +3,7 @@
 use borrow.Author.Tests.{eq-eqb, ne-eqb, lt-ltb, le-ltb}
 use mathlib.Core.Path.{sym, _∙_}
 use Rattle.runs.specs.Columns.{companionFrom}
-use Rattle.runs.proofs.Order.{past-all}
+use Rattle.common.proofs.Order.{past-all}
 use Rattle.runs.proofs.Columns.{companion-past}
 use borrow.Author.Needs.{needs}
 use Rattle.runs.proofs.successors.stands_at.Statement.{statement}

@@ -1,4 +1,4 @@
--- `runs::successors::successors` meets its contract: both columns from a byte.
+-- `runs::successors::successors` meets its contract: companion and class from a byte.
 -- Assumes nothing.
 use Prim.Native.Nat.{ℕ, _/_, _%_}
 use mathlib.Core.Path.{_≡_, refl, ap, sym, _∙_}
@@ -7,25 +7,25 @@ use native.Mathlib.Omega.{arith}
 use lib.ListN.{length, getD}
 use Rattle.runs.specs.Columns.{classFrom, companionFrom}
 use Rattle.runs.specs.Successors.{unless, nextOf, standsAt, successorsOf}
-use Rattle.runs.proofs.Columns.{class-of-both, companion-of-both}
-use Rattle.runs.proofs.Laws.{outside, by-columns}
+use Rattle.runs.proofs.Columns.{class-of-byte, companion-of-byte}
+use Rattle.runs.proofs.Steps.{outside, by-columns}
 use borrow.Author.Needs.{needs}
 use Rattle.runs.proofs.successors.successors.Statement.{statement}
 use Rattle.runs.proofs.successors.successors.Tie as tie
 
 -- where both columns are read
-module _ (c : tie.After-both) where
+module _ (c : tie.After-companion-and-class) where
   abbrev start : tie.Start
   start = c .before .before .before .before
 
   abbrev words : List ℕ
   words = start .args .words .now
 
-  by-numbers : (companion class : ℕ) → c .both .result / 16 ≡ companion → c .both .result % 16 ≡ class → unless (standsAt (companionFrom companion) words (start .args .p)) (nextOf (classFrom class) (length words) (getD words (start .args .p) 0) (start .args .p)) ≡ successorsOf words (start .args .p)
+  by-numbers : (companion class : ℕ) → c .companion-and-class .result / 16 ≡ companion → c .companion-and-class .result % 16 ≡ class → unless (standsAt (companionFrom companion) words (start .args .p)) (nextOf (classFrom class) (length words) (getD words (start .args .p) 0) (start .args .p)) ≡ successorsOf words (start .args .p)
   by-numbers companion class d e =
       by-columns words (start .args .p) companion class (c .before .before .if1 .left)
-      (ap companionFrom (sym d) ∙ companion-of-both _ _ _ (c .both .ensures))
-      (ap classFrom (sym e) ∙ class-of-both _ _ _ (c .both .ensures))
+      (ap companionFrom (sym d) ∙ companion-of-byte _ _ _ (c .companion-and-class .ensures))
+      (ap classFrom (sym e) ∙ class-of-byte _ _ _ (c .companion-and-class .ensures))
 
 returns-2 : tie.Need-returns-2
 unfolding unless companionFrom classFrom

@@ -7,7 +7,7 @@ use lib.ListN.{length, getD}
 use Rattle.runs.specs.Columns.{classFrom, companionFrom}
 use Rattle.runs.specs.Successors.{unless, nextOf, standsAt, successorsOf}
 use Rattle.runs.proofs.Columns.{class-in, companion-in}
-use Rattle.runs.proofs.Laws.{outside, by-columns}
+use Rattle.runs.proofs.Steps.{outside, by-columns}
 use borrow.Author.Needs.{needs}
 use Rattle.runs.proofs.successors.successors_in.Statement.{statement}
 use Rattle.runs.proofs.successors.successors_in.Tie as tie

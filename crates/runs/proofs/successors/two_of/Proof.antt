@@ -1,6 +1,6 @@
 -- `runs::successors::two_of` meets its contract by the laws of two next words.
 -- Assumes nothing.
-use Rattle.runs.proofs.Laws.{two-in, two-out}
+use Rattle.runs.proofs.Steps.{two-in, two-out}
 use Rattle.runs.proofs.successors.two_of.Statement.{statement}
 use Rattle.runs.proofs.successors.two_of.Tie as tie
 

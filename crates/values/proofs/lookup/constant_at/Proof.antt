@@ -1,6 +1,7 @@
 use borrow.Author.Needs.{needs}
 use borrow.Author.Tests.{lt-ltb, le-ltb}
-use Rattle.values.specs.Values.{constantOf, choose}
+use Rattle.common.specs.Chain.{choose}
+use Rattle.values.specs.Values.{constantOf}
 use Rattle.values.proofs.lookup.constant_at.Statement.{statement}
 use Rattle.values.proofs.lookup.constant_at.Tie as tie
 

@@ -1,5 +1,6 @@
 use borrow.Author.Needs.{needs}
-use Rattle.values.specs.Values.{floatOf, choose}
+use Rattle.common.specs.Chain.{choose}
+use Rattle.values.specs.Values.{floatOf}
 use Rattle.values.proofs.lookup.float.Statement.{statement}
 use Rattle.values.proofs.lookup.float.Tie as tie
 

@@ -2,7 +2,8 @@ use borrow.Author.Needs.{needs}
 use native.Mathlib.Omega.{arith}
 use borrow.Author.Tests.{lt-ltb, le-ltb}
 use mathlib.Core.Path.{ap}
-use Rattle.values.specs.Values.{signed64, choose}
+use Rattle.common.specs.Chain.{choose}
+use Rattle.values.specs.Values.{signed64}
 use Rattle.values.proofs.Laws.{twice}
 use lib.IntN.{negsuc}
 use Rattle.values.proofs.lookup.signed.Statement.{statement}

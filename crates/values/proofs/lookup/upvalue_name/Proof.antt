@@ -1,7 +1,8 @@
 use borrow.Author.Needs.{needs}
 use borrow.Author.Tests.{lt-ltb, le-ltb, eq-eqb, ne-eqb}
 use mathlib.Core.Path.{ap}
-use Rattle.values.specs.Values.{nameOf, choose}
+use Rattle.common.specs.Chain.{choose}
+use Rattle.values.specs.Values.{nameOf}
 use Rattle.values.specs.declared.model.Name.the-variants.{Named}
 use Rattle.values.proofs.lookup.upvalue_name.Statement.{statement}
 use Rattle.values.proofs.lookup.upvalue_name.Tie as tie

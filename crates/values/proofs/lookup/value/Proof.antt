@@ -1,7 +1,8 @@
 use borrow.Author.Needs.{needs}
 use borrow.Author.Tests.{ne-eqb}
 use mathlib.Core.Path.{ap}
-use Rattle.values.specs.Values.{valueOf, choose}
+use Rattle.common.specs.Chain.{choose}
+use Rattle.values.specs.Values.{valueOf}
 use Rattle.values.specs.declared.model.ConstantValue.the-variants.{Integer}
 use Rattle.values.proofs.Laws.{kept}
 use mir.Syntax.{w64}

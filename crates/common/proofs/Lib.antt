@@ -1,0 +1,5 @@
+pub mod Order
+pub mod Lowest
+pub mod Over
+pub mod Put
+pub mod Clearing

@@ -1,0 +1,59 @@
+-- Document 01, "Refused inputs": the number of each condition, by name, beside the document's words.
+-- Assumes nothing.
+use Prim.Native.Nat.{ℕ}
+
+-- "0 when accepted"
+abbrev pub «ACCEPTED» : ℕ
+«ACCEPTED» = 0
+
+-- "more than 32,768 words"
+abbrev pub «TOO_MANY_WORDS» : ℕ
+«TOO_MANY_WORDS» = 1
+
+-- "tag and payload counts differ, or over 65,536"
+abbrev pub «CONSTANT_COUNT» : ℕ
+«CONSTANT_COUNT» = 2
+
+-- "unknown tag"
+abbrev pub «UNKNOWN_TAG» : ℕ
+«UNKNOWN_TAG» = 3
+
+-- "string ends past the string bytes"
+abbrev pub «STRING_PAST_BYTES» : ℕ
+«STRING_PAST_BYTES» = 4
+
+-- "over 255 names, or a name past the string bytes"
+abbrev pub «NAMES» : ℕ
+«NAMES» = 5
+
+-- "a lent result slice shorter than the words"
+abbrev pub «SHORT_SLICE» : ℕ
+«SHORT_SLICE» = 6
+
+-- "no words"
+abbrev pub «NO_WORDS» : ℕ
+«NO_WORDS» = 7
+
+-- "a reachable bad word"
+abbrev pub «REACHES_INVALID» : ℕ
+«REACHES_INVALID» = 8
+
+-- "L over 32,768"
+abbrev pub «RUN_TOO_LONG» : ℕ
+«RUN_TOO_LONG» = 9
+
+-- "fed word is n or more, or no step from the last, or the first is not 0"
+abbrev pub «NO_STEP» : ℕ
+«NO_STEP» = 10
+
+-- "meter not of this function"
+abbrev pub «FOREIGN_METER» : ℕ
+«FOREIGN_METER» = 11
+
+-- "sheet line malformed or over 4,294,967,295"
+abbrev pub «MALFORMED_LINE» : ℕ
+«MALFORMED_LINE» = 12
+
+-- "line 4,097 exists"
+abbrev pub «TOO_MANY_LINES» : ℕ
+«TOO_MANY_LINES» = 13

@@ -1,0 +1,42 @@
+// Document 01, "Refused inputs": each condition's number, by name. specs/Numbers.antt has the same for definitions.
+
+pub const ACCEPTED: u8 = 0;
+
+// More than 32,768 words.
+pub const TOO_MANY_WORDS: u8 = 1;
+
+// Tag and payload counts differ, or over 65,536.
+pub const CONSTANT_COUNT: u8 = 2;
+
+// Unknown tag.
+pub const UNKNOWN_TAG: u8 = 3;
+
+// A string ends past the string bytes.
+pub const STRING_PAST_BYTES: u8 = 4;
+
+// Over 255 names, or a name past the string bytes.
+pub const NAMES: u8 = 5;
+
+// A lent result slice shorter than the words.
+pub const SHORT_SLICE: u8 = 6;
+
+// No words.
+pub const NO_WORDS: u8 = 7;
+
+// A reachable bad word.
+pub const REACHES_INVALID: u8 = 8;
+
+// L over 32,768.
+pub const RUN_TOO_LONG: u8 = 9;
+
+// The fed word is n or more, or no step from the last, or the first is not 0.
+pub const NO_STEP: u8 = 10;
+
+// The meter is not of this function.
+pub const FOREIGN_METER: u8 = 11;
+
+// A sheet's line is malformed or over 4,294,967,295.
+pub const MALFORMED_LINE: u8 = 12;
+
+// Line 4,097 exists.
+pub const TOO_MANY_LINES: u8 = 13;

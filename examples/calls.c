@@ -1,0 +1,384 @@
+/* Every function of include/lawendeb.h, called with cases of document 01; a line and status 1 if an
+   answer, or anything lent, is not what the document says. It compiles as C and as C++. */
+#include <stdio.h>
+#include <string.h>
+
+#include "lawendeb.h"
+
+enum { N = LAWENDEB_RECORD_NUMBERS, MANY = LAWENDEB_MOST_WORDS + 1 };
+
+static int checks, wrong;
+
+static void check(int holds, int line, const char *text) {
+    checks++;
+    if (!holds) {
+        wrong++;
+        printf("calls.c:%d: %s\n", line, text);
+    }
+}
+#define CHECK(holds) check(holds, __LINE__, #holds)
+
+/* Words by their fields. */
+static uint32_t word_abc(uint32_t op, uint32_t a, uint32_t b, uint32_t c) {
+    return op + 128 * a + 65536 * b + 16777216 * c;
+}
+static uint32_t word_abx(uint32_t op, uint32_t a, uint32_t bx) {
+    return op + 128 * a + 32768 * bx;
+}
+static uint32_t word_jump(int offset) {
+    return 56 + 128 * (uint32_t)(16777215 + offset);
+}
+
+enum { LOADK = 3, GETUPVAL = 9, RETURN0 = 71, TAILCALL = 69, FORLOOP = 73 };
+
+/* Document 01's sheet: LOADI, ADDI, MMBINI, a JMP back to the ADDI. */
+static const uint32_t sheet[4] = {2147483649u, 2147483669u, 109051951u, 2147483192u};
+
+/* The P cases' words. */
+static const uint32_t jump_back[1] = {2147483192u};
+static const uint32_t call[2] = {16940996u, RETURN0};
+static const uint32_t unknown[1] = {83};
+
+/* MOVE after MOVE. */
+static uint32_t many[MANY];
+
+/* ---- steps */
+
+static int has(struct lawendeb_successors s, uint64_t kind, uint64_t first, uint64_t second) {
+    return s.kind == kind && s.first == first && s.second == second;
+}
+
+static void steps(void) {
+    const uint32_t tail[1] = {TAILCALL};
+    const uint32_t back[2] = {RETURN0, 163913};
+    const uint32_t prepare[3] = {74, RETURN0, RETURN0};
+    const uint32_t loop0[2] = {word_abx(FORLOOP, 0, 0), RETURN0};
+    const uint32_t loop1[2] = {word_abx(FORLOOP, 0, 1), RETURN0};
+    CHECK(has(lawendeb_successors(sheet, 4, 0), LAWENDEB_KIND_ONE, 1, 0));
+    CHECK(has(lawendeb_successors(sheet, 4, 1), LAWENDEB_KIND_TWO, 2, 3));
+    CHECK(has(lawendeb_successors(sheet, 4, 2), LAWENDEB_KIND_ONE, 3, 0));
+    CHECK(has(lawendeb_successors(sheet, 4, 3), LAWENDEB_KIND_ONE, 1, 0));
+    CHECK(has(lawendeb_successors(sheet, 4, 4), LAWENDEB_KIND_INVALID, 0, 0));
+    CHECK(has(lawendeb_successors(sheet, 4, SIZE_MAX), LAWENDEB_KIND_INVALID, 0, 0));
+    CHECK(has(lawendeb_successors(sheet, 0, 0), LAWENDEB_KIND_INVALID, 0, 0));
+    /* the ADDI's metamethod word is past the end */
+    CHECK(has(lawendeb_successors(sheet, 2, 1), LAWENDEB_KIND_INVALID, 0, 0));
+    CHECK(has(lawendeb_successors(jump_back, 1, 0), LAWENDEB_KIND_INVALID, 0, 0));
+    CHECK(has(lawendeb_successors(unknown, 1, 0), LAWENDEB_KIND_INVALID, 0, 0));
+    CHECK(has(lawendeb_successors(tail, 1, 0), LAWENDEB_KIND_STOP, 0, 0));
+    CHECK(has(lawendeb_successors(back, 2, 1), LAWENDEB_KIND_INVALID, 0, 0));
+    CHECK(has(lawendeb_successors(prepare, 3, 0), LAWENDEB_KIND_TWO, 1, 2));
+    CHECK(has(lawendeb_successors(loop0, 2, 0), LAWENDEB_KIND_ONE, 1, 0));
+    CHECK(has(lawendeb_successors(loop1, 2, 0), LAWENDEB_KIND_TWO, 0, 1));
+    CHECK(lawendeb_serves(loop1, 2, 0, 0));
+    CHECK(!lawendeb_serves(loop1, 2, 0, 1));
+    CHECK(lawendeb_serves(sheet, 4, 3, 1));
+    CHECK(!lawendeb_serves(sheet, 4, 0, 1));
+    CHECK(!lawendeb_serves(sheet, 4, 2, 3));
+    CHECK(lawendeb_serves(call, 2, 0, 1));
+}
+
+/* ---- the longest run */
+
+static uint8_t marks[MANY];
+static uint32_t lengths[MANY];
+
+static void lend(void) {
+    memset(marks, 165, sizeof marks);
+    memset(lengths, 165, sizeof lengths);
+}
+
+/* Whether the slices are as lent from an index on. */
+static int lent_from(size_t i) {
+    for (; i < MANY; i++)
+        if (marks[i] != 165 || lengths[i] != 2779096485u)
+            return 0;
+    return 1;
+}
+
+static int ran(struct lawendeb_run r, uint64_t number, uint64_t place, uint64_t longest,
+               uint64_t first) {
+    return r.number == number && r.place == place && r.longest == longest && r.first == first;
+}
+
+static void runs(void) {
+    const uint32_t skips[3] = {word_jump(1), 0, RETURN0};
+    const uint32_t two_bad[4] = {57, word_jump(1), 83, 83};
+    size_t i;
+    lend();
+    CHECK(ran(lawendeb_longest_run(sheet, 4, marks, 6, lengths, 5), LAWENDEB_ACCEPTED, 0, 4, 0));
+    for (i = 0; i < 4; i++)
+        CHECK(marks[i] == 1 && lengths[i] == 4 - i);
+    CHECK(lent_from(4));
+
+    lend();
+    CHECK(ran(lawendeb_longest_run(skips, 3, marks, 3, lengths, 3), LAWENDEB_ACCEPTED, 0, 2, 0));
+    CHECK(marks[0] == 1 && marks[1] == 0 && marks[2] == 1);
+    CHECK(lengths[0] == 2 && lengths[1] == 0 && lengths[2] == 1);
+    CHECK(lent_from(3));
+
+    lend();
+    many[LAWENDEB_MOST_WORDS - 1] = word_jump(-LAWENDEB_MOST_WORDS);
+    CHECK(ran(lawendeb_longest_run(many, LAWENDEB_MOST_WORDS, marks, MANY, lengths, MANY),
+              LAWENDEB_ACCEPTED, 0, LAWENDEB_MOST_WORDS, 0));
+    CHECK(lengths[0] == LAWENDEB_MOST_WORDS && lengths[LAWENDEB_MOST_WORDS - 1] == 1);
+    CHECK(lent_from(LAWENDEB_MOST_WORDS));
+    many[LAWENDEB_MOST_WORDS - 1] = 0;
+
+    lend();
+    CHECK(ran(lawendeb_longest_run(many, MANY, marks, 0, lengths, 0), LAWENDEB_TOO_MANY_WORDS, 0,
+              0, 0));
+    CHECK(ran(lawendeb_longest_run(sheet, 4, marks, 3, lengths, 4), LAWENDEB_SHORT_SLICE, 0, 0, 0));
+    CHECK(ran(lawendeb_longest_run(sheet, 4, marks, 4, lengths, 3), LAWENDEB_SHORT_SLICE, 0, 0, 0));
+    CHECK(ran(lawendeb_longest_run(sheet, 0, marks, 4, lengths, 4), LAWENDEB_NO_WORDS, 0, 0, 0));
+    CHECK(lent_from(0));
+
+    CHECK(ran(lawendeb_longest_run(unknown, 1, marks, 2, lengths, 2), LAWENDEB_REACHES_INVALID, 0,
+              0, 0));
+    CHECK(marks[0] == 1 && lengths[0] == 0 && lent_from(1));
+    CHECK(ran(lawendeb_longest_run(two_bad, 4, marks, 4, lengths, 4), LAWENDEB_REACHES_INVALID, 2,
+              0, 0));
+    for (i = 0; i < 4; i++)
+        CHECK(marks[i] == 1 && lengths[i] == 0);
+    CHECK(lent_from(4));
+}
+
+/* ---- the meter */
+
+static int shows(struct lawendeb_meter m, uint32_t begun, uint32_t last, uint32_t count,
+                 uint32_t services) {
+    return m.begun == begun && m.last == last && m.count == count && m.services == services;
+}
+
+/* A feed of any meter: the answer, and the meter as it was. */
+static int refuses(struct lawendeb_meter m, const uint32_t *words, size_t n, size_t q,
+                   uint32_t number) {
+    struct lawendeb_meter before = m;
+    return lawendeb_feed(words, n, &m, q) == number && memcmp(&m, &before, sizeof m) == 0;
+}
+
+static struct lawendeb_meter meter(uint32_t begun, uint32_t last, uint32_t count,
+                                   uint32_t services) {
+    struct lawendeb_meter m = {begun, last, count, services};
+    return m;
+}
+
+static void meters(void) {
+    struct lawendeb_meter m = meter(7, 7, 7, 40);
+    lawendeb_begin(&m);
+    CHECK(shows(m, 0, 0, 0, 40));
+    CHECK(refuses(m, sheet, 4, 1, LAWENDEB_NO_STEP));
+    CHECK(lawendeb_feed(sheet, 4, &m, 0) == LAWENDEB_ACCEPTED && shows(m, 1, 0, 1, 40));
+    CHECK(lawendeb_feed(sheet, 4, &m, 1) == LAWENDEB_ACCEPTED && shows(m, 1, 1, 2, 40));
+    CHECK(refuses(m, sheet, 4, 1, LAWENDEB_NO_STEP));
+    CHECK(refuses(m, sheet, 4, 4, LAWENDEB_NO_STEP));
+    CHECK(refuses(m, sheet, 4, SIZE_MAX, LAWENDEB_NO_STEP));
+    CHECK(lawendeb_feed(sheet, 4, &m, 3) == LAWENDEB_ACCEPTED && shows(m, 1, 3, 3, 40));
+    CHECK(lawendeb_feed(sheet, 4, &m, 1) == LAWENDEB_ACCEPTED && shows(m, 1, 1, 1, 41));
+    lawendeb_begin(&m);
+    CHECK(shows(m, 0, 0, 0, 41));
+    /* the first word, bad or not; nothing follows a bad one */
+    CHECK(lawendeb_feed(unknown, 1, &m, 0) == LAWENDEB_ACCEPTED && shows(m, 1, 0, 1, 41));
+    CHECK(refuses(m, unknown, 1, 0, LAWENDEB_NO_STEP));
+    /* a call serves; services stay at their ceiling; any begun but 0 is begun */
+    m = meter(1, 0, 1, 4294967294u);
+    CHECK(lawendeb_feed(call, 2, &m, 1) == LAWENDEB_ACCEPTED && shows(m, 1, 1, 1, 4294967295u));
+    m = meter(2, 3, 1, 4294967295u);
+    CHECK(lawendeb_feed(sheet, 4, &m, 1) == LAWENDEB_ACCEPTED && shows(m, 1, 1, 1, 4294967295u));
+
+    CHECK(refuses(meter(0, 0, 0, 5), sheet, 0, 0, LAWENDEB_NO_STEP));
+    CHECK(refuses(meter(1, 4, 1, 5), sheet, 4, 1, LAWENDEB_FOREIGN_METER));
+    CHECK(refuses(meter(1, 3, 0, 5), sheet, 4, 1, LAWENDEB_FOREIGN_METER));
+    CHECK(refuses(meter(1, 3, 5, 5), sheet, 4, 1, LAWENDEB_FOREIGN_METER));
+    CHECK(refuses(meter(0, 1, 0, 5), sheet, 4, 0, LAWENDEB_FOREIGN_METER));
+    CHECK(refuses(meter(0, 0, 1, 5), sheet, 4, 0, LAWENDEB_FOREIGN_METER));
+    /* 11 before 10, 1 before both */
+    CHECK(refuses(meter(1, 3, 5, 5), sheet, 4, 9, LAWENDEB_FOREIGN_METER));
+    CHECK(refuses(meter(1, 3, 0, 5), many, MANY, 9, LAWENDEB_TOO_MANY_WORDS));
+    m = meter(1, LAWENDEB_MOST_WORDS - 2, LAWENDEB_MOST_WORDS - 1, 5);
+    CHECK(lawendeb_feed(many, LAWENDEB_MOST_WORDS, &m, LAWENDEB_MOST_WORDS - 2) ==
+          LAWENDEB_NO_STEP);
+    CHECK(lawendeb_feed(many, LAWENDEB_MOST_WORDS, &m, LAWENDEB_MOST_WORDS - 1) ==
+              LAWENDEB_ACCEPTED &&
+          shows(m, 1, LAWENDEB_MOST_WORDS - 1, LAWENDEB_MOST_WORDS, 5));
+}
+
+/* ---- records */
+
+enum { ROOM = 12 };
+static uint64_t numbers[ROOM * N];
+
+static uint64_t lent_number(size_t i) {
+    return 12345678901234567890u + i;
+}
+
+static int numbers_from(size_t i) {
+    for (; i < ROOM * N; i++)
+        if (numbers[i] != lent_number(i))
+            return 0;
+    return 1;
+}
+
+struct tables {
+    const uint8_t *tags;
+    size_t tags_n;
+    const uint64_t *payloads;
+    size_t payloads_n;
+    const uint64_t *names;
+    size_t names_n;
+    const uint8_t *bytes;
+    size_t bytes_n;
+};
+
+/* Lifts into so many numbers, which are lent anew; the answer. */
+static struct lawendeb_answer lift(const uint32_t *words, size_t n, const struct tables *t,
+                                   size_t room) {
+    size_t i;
+    for (i = 0; i < ROOM * N; i++)
+        numbers[i] = lent_number(i);
+    return lawendeb_lift(words, n, t->tags, t->tags_n, t->payloads, t->payloads_n, t->names,
+                         t->names_n, t->bytes, t->bytes_n, numbers, room);
+}
+
+static int answered(struct lawendeb_answer a, uint64_t number, uint64_t place) {
+    return a.number == number && a.place == place;
+}
+
+/* Refused, with every number as it was lent. */
+static int lift_refuses(const uint32_t *words, size_t n, const struct tables *t, size_t room,
+                        uint64_t number, uint64_t place) {
+    return answered(lift(words, n, t, room), number, place) && numbers_from(0);
+}
+
+/* A kind and its three numbers, from an index of record i on. */
+static int part(size_t i, size_t at, uint64_t kind, uint64_t x, uint64_t y, uint64_t z) {
+    const uint64_t *p = numbers + i * N + at;
+    return p[0] == kind && p[1] == x && p[2] == y && p[3] == z;
+}
+
+static uint64_t number(size_t i, size_t at) {
+    return numbers[i * N + at];
+}
+
+/* Where a record's parts start: include/RECORD.md. */
+enum { TARGET = 4, COMPANION = 6, FALLBACK = 8, EFFECT = 10 };
+enum { OPERANDS = 14, READS = 31, WRITES = 44 };
+
+static const uint8_t no_tags[1] = {0}, no_bytes[1] = {0};
+static const uint64_t no_payloads[1] = {0}, no_names[1] = {0};
+static const struct tables empty = {no_tags, 0, no_payloads, 0, no_names, 0, no_bytes, 0};
+
+/* The P cases on records. */
+static void records(void) {
+    const uint64_t loadi[N] = {0, 2147483649u, 1, 1, 0, 0, 0, 0, 0, 0, 0, 0, 0, 0,
+                               2, 0, 0, 0, 0, 4, 1, 0, 0, 0, 0, 0, 0, 0, 0, 0, 0,
+                               0, 0, 0, 0, 0, 0, 0, 0, 0, 0, 0, 0, 0,
+                               1, 0, 0, 0, 0, 0, 0, 0, 0};
+    const uint64_t blank[N] = {0, 83, 83};
+    const uint32_t two[2] = {82, 163913};
+    const uint32_t loadkx[1] = {4}, mmbin[1] = {46};
+    const uint32_t prepare[3] = {74, 0, 0};
+    CHECK(answered(lift(sheet, 4, &empty, 4 * N + 52), LAWENDEB_ACCEPTED, 0));
+    CHECK(memcmp(numbers, loadi, sizeof loadi) == 0);
+    CHECK(number(3, 0) == 3 && number(3, TARGET) == 1 && number(3, TARGET + 1) == 1);
+    CHECK(numbers_from(4 * N));
+    CHECK(answered(lift(jump_back, 1, &empty, N), LAWENDEB_ACCEPTED, 0));
+    CHECK(number(0, TARGET) == 1 && number(0, TARGET + 1) == 18446744073709551614u);
+    CHECK(answered(lift(call, 2, &empty, 2 * N), LAWENDEB_ACCEPTED, 0));
+    CHECK(number(0, READS) == 2 && number(0, WRITES) == 0);
+    CHECK(part(0, READS + 1, 0, 255, 0, 0) && part(0, READS + 5, 1, 255, 254, 0));
+    CHECK(answered(lift(loadkx, 1, &empty, N), LAWENDEB_ACCEPTED, 0));
+    CHECK(number(0, COMPANION) == 1 && number(0, COMPANION + 1) == 1);
+    CHECK(part(0, OPERANDS + 5, 1, 0, 0, 0));
+    CHECK(answered(lift(mmbin, 1, &empty, N), LAWENDEB_ACCEPTED, 0));
+    CHECK(part(0, EFFECT, 7, 0, 1, 6) && number(0, FALLBACK) == 1 && number(0, FALLBACK + 1) == 6);
+    CHECK(number(0, COMPANION) == 0);
+    CHECK(answered(lift(unknown, 1, &empty, N), LAWENDEB_ACCEPTED, 0));
+    CHECK(memcmp(numbers, blank, sizeof blank) == 0 && numbers_from(N));
+    CHECK(answered(lift(two, 2, &empty, 2 * N), LAWENDEB_ACCEPTED, 0));
+    CHECK(number(0, 3) == 1 && number(1, TARGET) == 1 && number(1, TARGET + 1) == 0);
+    CHECK(answered(lift(prepare, 3, &empty, 3 * N), LAWENDEB_ACCEPTED, 0));
+    CHECK(number(0, TARGET) == 1 && number(0, TARGET + 1) == 1);
+    CHECK(answered(lift(sheet, 0, &empty, 0), LAWENDEB_ACCEPTED, 0) && numbers_from(0));
+}
+
+static uint64_t place_of(uint64_t start, uint64_t length) {
+    return start + (length << 32);
+}
+
+/* Constants of every tag, an index past them, names: as they were lent. */
+static void values(void) {
+    const uint8_t tags[8] = {LAWENDEB_TAG_NIL,   LAWENDEB_TAG_FALSE,        LAWENDEB_TAG_TRUE,
+                             LAWENDEB_TAG_INTEGER, LAWENDEB_TAG_FLOAT,      LAWENDEB_TAG_FLOAT,
+                             LAWENDEB_TAG_SHORT_STRING, LAWENDEB_TAG_LONG_STRING};
+    const uint64_t nan_bits = 9221120237041090561u, minus_zero = 9223372036854775808u;
+    const uint64_t payloads[8] = {7, 7, 7, UINT64_MAX, minus_zero, nan_bits, place_of(0, 4),
+                                  place_of(4, 5)};
+    const uint64_t kinds[9] = {0, 1, 1, 2, 3, 3, 4, 5, 0};
+    const uint64_t shown[9] = {0, 0, 1, UINT64_MAX, minus_zero, nan_bits, place_of(0, 4),
+                               place_of(4, 5), 0};
+    const uint64_t names[2] = {place_of(9, 0), LAWENDEB_UNNAMED};
+    const struct tables t = {tags, 8, payloads, 8, names, 2, (const uint8_t *)"_ENVprint", 9};
+    uint32_t words[ROOM];
+    uint32_t i;
+    for (i = 0; i < 9; i++)
+        words[i] = word_abx(LOADK, 1, i);
+    for (i = 0; i < 3; i++)
+        words[9 + i] = word_abc(GETUPVAL, 1, i, 0);
+    CHECK(answered(lift(words, ROOM, &t, ROOM * N), LAWENDEB_ACCEPTED, 0));
+    for (i = 0; i < 9; i++)
+        CHECK(part(i, OPERANDS + 5, 1, i, kinds[i], shown[i]));
+    CHECK(part(9, OPERANDS + 5, 2, 0, 1, place_of(9, 0)));
+    CHECK(part(10, OPERANDS + 5, 2, 1, 0, 0));
+    CHECK(part(11, OPERANDS + 5, 2, 2, 0, 0));
+}
+
+static uint8_t many_tags[LAWENDEB_MOST_CONSTANTS + 1];
+static uint64_t many_payloads[LAWENDEB_MOST_CONSTANTS + 1];
+static uint64_t many_names[LAWENDEB_MOST_NAMES + 1];
+
+/* Document 01's table of refusals, 1 to 6. */
+static void refusals(void) {
+    const uint8_t tags[3] = {3, 2, 2}, strings[3] = {0, 4, 20};
+    const uint64_t payloads[3] = {place_of(9, 9), place_of(3, 2), place_of(3, 2)};
+    const uint8_t bytes[4] = {'a', 'b', 'c', 'd'};
+    const uint64_t names[3] = {place_of(4, 0), LAWENDEB_UNNAMED, place_of(4, 1)};
+    struct tables t = empty;
+    size_t i;
+    CHECK(lift_refuses(many, MANY, &empty, 0, LAWENDEB_TOO_MANY_WORDS, 0));
+    CHECK(lift_refuses(many, LAWENDEB_MOST_WORDS, &empty, 0, LAWENDEB_SHORT_SLICE, 0));
+    t.tags = tags, t.tags_n = 3, t.payloads = payloads, t.payloads_n = 2;
+    CHECK(lift_refuses(sheet, 4, &t, 4 * N, LAWENDEB_CONSTANT_COUNT, 0));
+    t.payloads_n = 3;
+    CHECK(lift_refuses(sheet, 4, &t, 4 * N, LAWENDEB_UNKNOWN_TAG, 1));
+    t.tags = strings, t.bytes = bytes, t.bytes_n = 4;
+    CHECK(lift_refuses(sheet, 4, &t, 4 * N, LAWENDEB_STRING_PAST_BYTES, 1));
+    t = empty;
+    t.tags = many_tags, t.tags_n = LAWENDEB_MOST_CONSTANTS + 1;
+    t.payloads = many_payloads, t.payloads_n = LAWENDEB_MOST_CONSTANTS + 1;
+    CHECK(lift_refuses(sheet, 4, &t, 4 * N, LAWENDEB_CONSTANT_COUNT, 0));
+    t.tags_n = t.payloads_n = LAWENDEB_MOST_CONSTANTS;
+    CHECK(answered(lift(sheet, 4, &t, 4 * N), LAWENDEB_ACCEPTED, 0));
+    t = empty;
+    t.names = names, t.names_n = 3, t.bytes = bytes, t.bytes_n = 4;
+    CHECK(lift_refuses(sheet, 4, &t, 4 * N, LAWENDEB_NAMES, 2));
+    for (i = 0; i < LAWENDEB_MOST_NAMES + 1; i++)
+        many_names[i] = LAWENDEB_UNNAMED;
+    t.names = many_names, t.names_n = LAWENDEB_MOST_NAMES + 1;
+    CHECK(lift_refuses(sheet, 4, &t, 4 * N, LAWENDEB_NAMES, 0));
+    t.names_n = LAWENDEB_MOST_NAMES;
+    CHECK(answered(lift(sheet, 4, &t, 4 * N), LAWENDEB_ACCEPTED, 0));
+    CHECK(lift_refuses(sheet, 4, &t, 4 * N - 1, LAWENDEB_SHORT_SLICE, 0));
+    CHECK(lift_refuses(sheet, 4, &t, 3 * N, LAWENDEB_SHORT_SLICE, 0));
+}
+
+int main(void) {
+    steps();
+    runs();
+    meters();
+    records();
+    values();
+    refusals();
+    printf("calls: %d checks, %d wrong\n", checks, wrong);
+    return wrong != 0;
+}
