@@ -1,4 +1,6 @@
-"""The cases of crates/touches_cases by the second reading: prints what the program is to write, which is how its stored output was made."""
+"""The cases of crates/touches_cases by the second reading: prints what the program is to write,
+which is how its stored output was made.
+"""
 from reading import CODE, Touched, of_kind, ranges
 
 OFFSET_SJ = 16777215

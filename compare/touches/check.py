@@ -1,7 +1,9 @@
-"""check.py LISTS REAL [SEED] [FUNCTIONS]: holds the proved lists (the program LISTS, from lists.c) against the second reading, word by word.
+"""check.py LISTS REAL [SEED] [FUNCTIONS]: holds the proved lists (the program LISTS, from lists.c)
+against the second reading, word by word.
 
-Functions tried: every opcode at the boundaries of its fields, with its companions; every pair of opcode values; the real functions of REAL
-(words/real.txt), whole and with bits flipped, words exchanged or cut off; random functions. Ends with status 1 at the first difference.
+Functions tried: every opcode at the boundaries of its fields, with its companions; every pair of
+opcode values; the real functions of REAL (words/real.txt), whole and with bits flipped, words
+exchanged or cut off; random functions. Ends with status 1 at the first difference.
 """
 import itertools, random, struct, subprocess, sys
 from collections import Counter

@@ -1,10 +1,13 @@
-"""differences.py LISTS DIFFERENCES.md: holds the rows of "Reads and writes" in docs/DIFFERENCES.md against the proved lists.
+"""differences.py LISTS DIFFERENCES.md: holds the rows of "Reads and writes" in docs/DIFFERENCES.md
+against the proved lists.
 
-A row's Lua column names places: `R[A+1]`, `R[A] to R[A+2]`, `R[A] up to the stack top`, `from R[256]`, `K[B]`, the upvalue, the A of the word
-before. They are taken as read or as written by the verb before them, or by the Rust column's where the row has none, and must be
-exactly what the lists have of that kind, at the row's own word and, where the row speaks of A, B and C, at a word with other fields. `with B,`
-and `with C,` speak of a word where that field is not 0. A row of several opcodes names what they touch together. Rows on what document 02
-leaves out, or settles by a formula, are counted apart, each with its reason.
+A row's Lua column names places: `R[A+1]`, `R[A] to R[A+2]`, `R[A] up to the stack top`, `from
+R[256]`, `K[B]`, the upvalue, the A of the word before. They are taken as read or as written by the
+verb before them, or by the Rust column's where the row has none, and must be exactly what the lists
+have of that kind, at the row's own word and, where the row speaks of A, B and C, at a word with
+other fields. `with B,` and `with C,` speak of a word where that field is not 0. A row of several
+opcodes names what they touch together. Rows on what document 02 leaves out, or settles by a
+formula, are counted apart, each with its reason.
 """
 import re, struct, subprocess, sys
 from check import companions
@@ -63,7 +66,8 @@ def in_context(word):
 TOKEN = re.compile(
     r"(?P<with>with (?P<field>[BC]),)|(?P<verb>\b(?:reads?|writes?|written)\b)|(?P<upvalue>the upvalue\b)"
     r"|(?P<previous>the A of the word before|the register that the word before has as A)"
-    r"|(?P<dots>(?:(?P<from>from )|(?P<only_to>to ))?(?P<kind>[RK])\[(?P<first>[^\]]+)\](?: to R\[(?P<last>[^\]]+)\]|(?P<top> up to the stack top))?)"
+    r"|(?:(?P<from>from )|(?P<only_to>to ))?(?P<kind>[RK])\[(?P<first>[^\]]+)\]"
+    r"(?: to R\[(?P<last>[^\]]+)\]|(?P<top> up to the stack top))?"
 )
 
 
@@ -111,9 +115,11 @@ def claims(lua, rust, word):
 
 
 def other_fields(word, lua):
-    """A word of the same opcode with fields that differ, for a row that speaks of A, B and C; 0 stays where the row says so."""
+    """A word of the same opcode with other fields, for a row that speaks of A, B and C; 0 stays where
+    the row says so."""
     code = word & 127
-    if not re.search(r"\[[ABC]", lua) or code in (CODE["FORLOOP"], CODE["FORPREP"], CODE["TFORPREP"], CODE["TFORLOOP"]):
+    with_bx = code in (CODE["FORLOOP"], CODE["FORPREP"], CODE["TFORPREP"], CODE["TFORLOOP"])
+    if not re.search(r"\[[ABC]", lua) or with_bx:
         return word & ~0x7F80 | 10 << 7 if re.search(r"\[A", lua) else word
     b = 0 if re.search(r"B (is )?0", lua) else 20
     c = 0 if re.search(r"C (is )?0", lua) else 5
@@ -152,11 +158,11 @@ def main():
     program, path = sys.argv[1:3]
     text = open(path, encoding="utf-8").read()
     table = text.split("### Reads and writes")[1].split("\n### ")[0]
-    rows = [[cell.strip() for cell in line.strip("|").split("|")] for line in table.split("\n") if line.startswith("| ")][1:]
+    lines = [line for line in table.split("\n") if line.startswith("| ")][1:]
+    rows = [[cell.strip() for cell in line.strip("|").split("|")] for line in lines]
     held = apart = bad = 0
     for column, words, rust, lua in rows:
-        reason = next((why for name, what, why in LEFT_OUT if re.search(name, column) and re.search(what, lua)), None)
-        if reason:
+        if any(re.search(name, column) and re.search(what, lua) for name, what, _ in LEFT_OUT):
             apart += 1
             continue
         word = int(re.match(r"\d+", words)[0])
@@ -168,7 +174,10 @@ def main():
         held += not wrong
         for what in wrong:
             print(f"{column} | {words} | {lua}\n  {what}")
-    print(f"rows on reads and writes: {held} agree with the lists, {bad} do not; {apart} are on what C-14 leaves out or settles by a formula")
+    print(
+        f"rows on reads and writes: {held} agree with the lists, {bad} do not;"
+        f" {apart} are on what C-14 leaves out or settles by a formula"
+    )
     sys.exit(bool(bad))
 
 

@@ -1,4 +1,5 @@
-/* What a word touches, for C (document 02, C-14): link libtouches.a, which `rt staticlib touches` makes. */
+/* What a word touches, for C (document 02, C-14): link libtouches.a, which `rt staticlib touches`
+   makes. */
 #ifndef LAWENDEB_TOUCHES_H
 #define LAWENDEB_TOUCHES_H
 
@@ -16,7 +17,8 @@ struct lawendeb_ranges {
     uint16_t count;
 };
 
-/* A range up to the stack top, by its first register past those touched at every top. count: 0 none, 1 one. */
+/* A range up to the stack top, by its first register past those touched at every top. The count is 0
+   or 1. */
 struct lawendeb_top {
     uint16_t first, count;
 };
@@ -34,14 +36,17 @@ struct lawendeb_touches {
     struct lawendeb_ranges writes; /* on every way on */
     struct lawendeb_top writes_to_top;
     struct lawendeb_indices upvalue_writes;
-    struct lawendeb_ranges edge_writes; /* only on the way to word `edge`, one of the word's steps; edge is 0 if there are none */
-    size_t edge;
+    struct lawendeb_ranges edge_writes; /* only on the way to word `edge`, one of its steps */
+    size_t edge;                        /* 0 if nothing is written so */
 };
 
 _Static_assert(sizeof(struct lawendeb_ranges) == 14 && sizeof(struct lawendeb_indices) == 16 &&
-                   offsetof(struct lawendeb_touches, reads_to_top) == 14 && offsetof(struct lawendeb_touches, constants) == 20 &&
-                   offsetof(struct lawendeb_touches, writes) == 52 && offsetof(struct lawendeb_touches, upvalue_writes) == 72 &&
-                   offsetof(struct lawendeb_touches, edge_writes) == 88 && offsetof(struct lawendeb_touches, edge) == 104 &&
+                   offsetof(struct lawendeb_touches, reads_to_top) == 14 &&
+                   offsetof(struct lawendeb_touches, constants) == 20 &&
+                   offsetof(struct lawendeb_touches, writes) == 52 &&
+                   offsetof(struct lawendeb_touches, upvalue_writes) == 72 &&
+                   offsetof(struct lawendeb_touches, edge_writes) == 88 &&
+                   offsetof(struct lawendeb_touches, edge) == 104 &&
                    sizeof(struct lawendeb_touches) == 112,
                "the layout that crates/touches has");
 

@@ -1,15 +1,21 @@
-"""What a word touches: document 02, C-14, read a second time in plain Python, from its words, lopcodes.h and lvm.c of Lua 5.4.8.
+"""What a word touches: document 02, C-14, read a second time in plain Python, from its words,
+lopcodes.h and lvm.c of Lua 5.4.8.
 
-Nothing here is taken from the Rattle crates. A place is a pair: ("R", register), ("K", constant), ("U", upvalue) or ("T", register),
-the last for all registers from there up to the stack top. A word's case gives the places read and, for each way on, where it leads and
-the places written on it; what is written on every way is listed plainly, else with the way's word. `touches` answers the numbers of
-include/lawendeb.h's struct in their order.
+Nothing here is taken from the Rattle crates. A place is a pair: ("R", register), ("K", constant),
+("U", upvalue) or ("T", register), the last for all registers from there up to the stack top. A
+word's case gives the places read and, for each way on, where it leads and the places written on it;
+what is written on every way is listed plainly, else with the way's word. `touches` answers the
+numbers of include/lawendeb.h's struct in their order.
 """
 
-NAMES = """MOVE LOADI LOADF LOADK LOADKX LOADFALSE LFALSESKIP LOADTRUE LOADNIL GETUPVAL SETUPVAL GETTABUP GETTABLE GETI GETFIELD SETTABUP
-SETTABLE SETI SETFIELD NEWTABLE SELF ADDI ADDK SUBK MULK MODK POWK DIVK IDIVK BANDK BORK BXORK SHRI SHLI ADD SUB MUL MOD POW DIV IDIV BAND
-BOR BXOR SHL SHR MMBIN MMBINI MMBINK UNM BNOT NOT LEN CONCAT CLOSE TBC JMP EQ LT LE EQK EQI LTI LEI GTI GEI TEST TESTSET CALL TAILCALL RETURN
-RETURN0 RETURN1 FORLOOP FORPREP TFORPREP TFORCALL TFORLOOP SETLIST CLOSURE VARARG VARARGPREP EXTRAARG""".split()
+NAMES = """
+MOVE LOADI LOADF LOADK LOADKX LOADFALSE LFALSESKIP LOADTRUE LOADNIL GETUPVAL SETUPVAL GETTABUP
+GETTABLE GETI GETFIELD SETTABUP SETTABLE SETI SETFIELD NEWTABLE SELF ADDI ADDK SUBK MULK MODK POWK
+DIVK IDIVK BANDK BORK BXORK SHRI SHLI ADD SUB MUL MOD POW DIV IDIV BAND BOR BXOR SHL SHR MMBIN
+MMBINI MMBINK UNM BNOT NOT LEN CONCAT CLOSE TBC JMP EQ LT LE EQK EQI LTI LEI GTI GEI TEST TESTSET
+CALL TAILCALL RETURN RETURN0 RETURN1 FORLOOP FORPREP TFORPREP TFORCALL TFORLOOP SETLIST CLOSURE
+VARARG VARARGPREP EXTRAARG
+""".split()
 assert len(NAMES) == 83
 CODE = {name: number for number, name in enumerate(NAMES)}
 
@@ -157,6 +163,12 @@ def reads(words, p):
     return set()
 
 
+TO_A = """
+MOVE LOADI LOADF LOADK LOADKX LOADFALSE LFALSESKIP LOADTRUE GETUPVAL GETTABUP GETTABLE GETI GETFIELD
+NEWTABLE UNM BNOT NOT LEN CONCAT CLOSURE
+""".split()
+
+
 def written(words, p, leading):
     """For each way on, the places written in some execution that takes it."""
     word, name = words[p], name_at(words, p)
@@ -184,10 +196,7 @@ def written(words, p, leading):
         return [between(a, a + c - 2) if c else {("T", a)}]
     if name == "TFORCALL":
         return [between(a + 4, a + 3 + c)]
-    if name in (
-        "MOVE LOADI LOADF LOADK LOADKX LOADFALSE LFALSESKIP LOADTRUE GETUPVAL GETTABUP GETTABLE GETI GETFIELD NEWTABLE UNM BNOT NOT LEN "
-        "CONCAT CLOSURE"
-    ).split():
+    if name in TO_A:
         return [R(a)]
     return none
 

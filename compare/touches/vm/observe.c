@@ -1,6 +1,6 @@
-/* Holds each access of a real Lua VM to a register, a constant or an upvalue of the function that runs against the lists of the proved library.
-   Each word's accesses are closed where the activation takes up its next word, which is the step taken. At the end: what was listed for
-   the words that ran, and what of it was seen. */
+/* Holds each access of a real Lua VM to a register, a constant or an upvalue of the function that runs against the lists
+   of the proved library. Each word's accesses are closed where the activation takes up its next word, which is the step
+   taken. At the end: what was listed for the words that ran, and what of it was seen. */
 #define LUA_CORE
 #include "lprefix.h"
 #include "lua.h"
@@ -33,7 +33,8 @@ static unsigned long words_run, accesses, extra_accesses;
 
 static unsigned opcode_of(const struct observed_function *f, size_t p) { return f->words[p] & 127; }
 
-/* "CALL, TAILCALL, TFORCALL and CONCAT go by their formulas", so copies and temporaries of theirs are not listed; VARARGPREP is left out. */
+/* "CALL, TAILCALL, TFORCALL and CONCAT go by their formulas", so copies and temporaries of theirs are not listed;
+   VARARGPREP is left out. */
 static bool by_formula(unsigned o) {
     return o == OP_CALL || o == OP_TAILCALL || o == OP_TFORCALL || o == OP_CONCAT || o == OP_VARARGPREP;
 }
@@ -52,7 +53,8 @@ static int in_indices(const struct lawendeb_indices *r, uint32_t i) {
     return -1;
 }
 static void fail(const struct observed_function *f, size_t p, const char *what, size_t which) {
-    fprintf(stderr, "observe: word %zu of %zu (opcode %u, %u) %s %zu, which is not listed\n", p, f->n, opcode_of(f, p), f->words[p], what, which);
+    fprintf(stderr, "observe: word %zu of %zu (opcode %u, %u) %s %zu, which is not listed\n", p, f->n, opcode_of(f, p),
+            f->words[p], what, which);
     exit(3);
 }
 static struct observed_function *function_of(const uint32_t *code, size_t n) {
@@ -113,8 +115,8 @@ static void close_word(struct observed *o, size_t step) {
     for (unsigned j = 0; j < o->upvalues_n; j++) {
         int at = in_indices(&t->upvalues, o->upvalues[j]);
         accesses++;
-        if (at >= 0) s->upvalues[at] = true;
-        else if (opcode_of(f, p) != OP_SETUPVAL) fail(f, p, "read upvalue", o->upvalues[j]);
+        if (at < 0) fail(f, p, "read upvalue", o->upvalues[j]);
+        s->upvalues[at] = true;
     }
     for (unsigned j = 0; j < o->upvalue_writes_n; j++) {
         int at = in_indices(&t->upvalue_writes, o->upvalue_writes[j]);
@@ -186,9 +188,10 @@ static void mark(CallInfo *ci, const TValue *value, bool write) {
         return;
     }
     /* two upvalues may be one variable: one that is listed is meant */
+    const struct lawendeb_indices *meant = write ? &t->upvalue_writes : &t->upvalues;
     int found = -1;
     for (int j = 0; j < cl->nupvalues; j++)
-        if (cl->upvals[j] && cl->upvals[j]->v.p == value && (found < 0 || in_indices(write ? &t->upvalue_writes : &t->upvalues, (uint32_t)j) >= 0)) found = j;
+        if (cl->upvals[j] && cl->upvals[j]->v.p == value && (found < 0 || in_indices(meant, (uint32_t)j) >= 0)) found = j;
     if (found >= 0) {
         if (write) add(o->upvalue_writes, &o->upvalue_writes_n, (uint32_t)found);
         else add(o->upvalues, &o->upvalues_n, (uint32_t)found);
@@ -202,8 +205,8 @@ void observe_write(const void *value) {
     if (thread) mark(results_for ? results_for : thread->ci, value, true);
 }
 
-/* For each opcode: words that ran, places listed for them, and places seen; a place listed with an edge counts only where that edge was taken, a
-   plain write counts always. */
+/* For each opcode: words that ran, places listed for them, and places seen; a place listed with an edge counts only where
+   that edge was taken, a plain write counts always. */
 static void report(void) {
     static unsigned long words[128], times[128], listed[128], found[128], whole[128], edges[128];
     unsigned long places = 0, met = 0, all = 0, static_words = 0;
@@ -235,8 +238,11 @@ static void report(void) {
             }
     const char *name = getenv("OBSERVED");
     FILE *out = name ? fopen(name, "a") : stdout;
-    fprintf(out, "words %lu run %lu accesses %lu extra %lu places %lu seen %lu whole %lu\n", static_words, words_run, accesses, extra_accesses, places, met, all);
+    fprintf(out, "words %lu run %lu accesses %lu extra %lu places %lu seen %lu whole %lu\n", static_words, words_run,
+            accesses, extra_accesses, places, met, all);
     for (unsigned o = 0; o < 128; o++)
-        if (words[o]) fprintf(out, "opcode %u words %lu times %lu edges %lu places %lu seen %lu whole %lu\n", o, words[o], times[o], edges[o], listed[o], found[o], whole[o]);
+        if (words[o])
+            fprintf(out, "opcode %u words %lu times %lu edges %lu places %lu seen %lu whole %lu\n", o, words[o], times[o],
+                    edges[o], listed[o], found[o], whole[o]);
     if (name) fclose(out);
 }

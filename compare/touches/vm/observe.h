@@ -10,10 +10,11 @@ struct observed_function;
 struct observed {
     struct observed_function *function;
     bool open;
-    bool closing;   /* what closing touches is left out */
+    bool closing; /* what closing touches is left out */
     size_t word;
     const void *closure;
-    ptrdiff_t func; /* where the function stands in the stack: RETURN of a vararg function moves ci->func before it is done */
+    /* where the function stands in the stack: RETURN of a vararg function moves ci->func before it is done */
+    ptrdiff_t func;
     uint64_t reads[OBSERVED_REGISTERS / 64], writes[OBSERVED_REGISTERS / 64];
     unsigned constants_n, upvalues_n, upvalue_writes_n;
     uint32_t constants[OBSERVED_INDICES], upvalues[OBSERVED_INDICES], upvalue_writes[OBSERVED_INDICES];

@@ -22,6 +22,10 @@ print(
 for opcode in sorted(rows):
     r = rows[opcode]
     if r["seen"] < r["places"]:
-        print(f"  {NAMES[opcode]:10} {r['words']} words, {r['places']} places, {r['seen']} seen; {r['whole']} words with all")
+        print(
+            f"  {NAMES[opcode]:10} {r['words']} words, {r['places']} places, {r['seen']} seen;"
+            f" {r['whole']} words with all"
+        )
 full = [NAMES[o] for o in sorted(rows) if rows[o]["whole"]]
-print(f"opcodes with a word of which every listed place was seen: {len(full)}; without:", " ".join(NAMES[o] for o in range(83) if NAMES[o] not in full))
+without = " ".join(name for name in NAMES if name not in full)
+print(f"opcodes with a word of which every listed place was seen: {len(full)}; without: {without}")

@@ -8,7 +8,8 @@ use mathlib.Core.List.{List, [], _∷_}
 use native.Mathlib.Omega.{arith}
 use lib.Dec.{T, eqb, eqb→eq}
 use Rattle.fields.specs.declared.word.RawInstruction54.{RawInstruction54}
-use Rattle.fields.proofs.Below.{all, all-at}
+use Rattle.fields.specs.Laws.{all}
+use Rattle.fields.proofs.Laws.{laws}
 use Rattle.touches.specs.Operands.{Operand, «R[A]», «R[A+1]», «R[A+2]», «R[A+3]», locationOf}
 use Rattle.touches.specs.Cases.{Accesses, accessesOf}
 use Rattle.touches.specs.Table.{numberOf, operandFrom}
@@ -152,7 +153,7 @@ agrees-below = tt
 
 pub agree : (o : ℕ) → o < 128 → Agrees (accessesOf o) (waysOf o)
 unfolding agrees-at
-agree o h = agrees-by (accessesOf o) (waysOf o) (all-at agrees-at 128 agrees-below o h)
+agree o h = agrees-by (accessesOf o) (waysOf o) (laws .each-below agrees-at 128 agrees-below o h)
 
 -- What the tests say of a cell c in a word i, between pi and ni
 

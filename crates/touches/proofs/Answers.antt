@@ -1,4 +1,5 @@
--- From the code's intervals to the ranges of an answer: arrays with counts hold the whole lists, in the form that the document asks for.
+-- From the code's intervals to the ranges of an answer: arrays with counts hold the whole lists, in the form that the
+-- document asks for.
 -- Assumes nothing.
 use Prim.Native.Nat.{ℕ, suc, _+_, _-_, _≤_, _<_}
 use mathlib.Core.Path.{_≡_, refl, ap, sym, _∙_}
@@ -10,7 +11,7 @@ use Rattle.touches.specs.declared.answer.Range.{Range}
 use Rattle.touches.specs.declared.intervals.Interval.{Interval}
 use Rattle.touches.specs.Lists.{rangeOf, rangesOf, indicesOf}
 use Rattle.touches.specs.Meaning.{rangesIn, numbersIn, Within, GapAfter, Longest, OnlyOne}
-use Rattle.touches.proofs.Ranges.{In, After, Canonical}
+use Rattle.touches.proofs.Ranges.{Inside, After, Canonical}
 use Rattle.touches.proofs.Unique as unique
 
 abbrev pub closed : List Interval → List Range
@@ -42,12 +43,12 @@ longest (x ∷ xs) k = (omega (arith, k .0), (gap xs (k .1 .0), longest xs (k .1
     gap [] a = tt
     gap (y ∷ ys) a = omega (arith, k .0)
 
-pub within-from : (q : ℕ) (xs : List Interval) → Canonical xs → Within q (closed xs) → In q xs
+pub within-from : (q : ℕ) (xs : List Interval) → Canonical xs → Within q (closed xs) → Inside q xs
 within-from q [] k w = w
 within-from q (x ∷ xs) k w =
     ⊎-elim (λ (b : (x .first ≤ q) × (q ≤ x .end - 1)). inl (b .0, omega (arith, b .1, k .0))) (λ b. inr (within-from q xs (k .1 .1) b)) w
 
-pub within-into : (q : ℕ) (xs : List Interval) → In q xs → Within q (closed xs)
+pub within-into : (q : ℕ) (xs : List Interval) → Inside q xs → Within q (closed xs)
 within-into q [] i = i
 within-into q (x ∷ xs) i =
     ⊎-elim (λ (b : (x .first ≤ q) × (q < x .end)). inl (b .0, omega (arith, b .1))) (λ b. inr (within-into q xs b)) i
@@ -66,12 +67,12 @@ canonical-opened (x ∷ xs) k = (omega (arith, k .0), (gap xs (k .1 .0), canonic
     gap [] a = tt
     gap (y ∷ ys) a = a
 
-in-from : (q : ℕ) (xs : List Range) → In q (opened xs) → Within q xs
+in-from : (q : ℕ) (xs : List Range) → Inside q (opened xs) → Within q xs
 in-from q [] i = i
 in-from q (x ∷ xs) i =
     ⊎-elim (λ (b : (x .first ≤ q) × (q < x .last + 1)). inl (b .0, omega (arith, b .1))) (λ b. inr (in-from q xs b)) i
 
-in-into : (q : ℕ) (xs : List Range) → Within q xs → In q (opened xs)
+in-into : (q : ℕ) (xs : List Range) → Within q xs → Inside q (opened xs)
 in-into q [] w = w
 in-into q (x ∷ xs) w =
     ⊎-elim (λ (b : (x .first ≤ q) × (q ≤ x .last)). inl (b .0, omega (arith, b .1))) (λ b. inr (in-into q xs b)) w

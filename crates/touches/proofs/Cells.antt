@@ -9,76 +9,76 @@ use native.Mathlib.Omega.{arith}
 use lib.Dec.{eqb}
 use borrow.Author.Tests.{eqb-true, eqb-false}
 use Rattle.fields.specs.declared.word.RawInstruction54.{RawInstruction54}
+use Rattle.runs.specs.Graph.{In}
 use Rattle.touches.specs.declared.intervals.Interval.{Interval}
 use Rattle.touches.specs.declared.locations.Location.{Location}
 use Rattle.touches.specs.declared.locations.Location.the-variants.{Nothing, Registers, ToTop, Constant, Upvalue}
 use Rattle.touches.specs.Operands.{Operand, «R[A]», «R[A+1]», «R[A+2]», «R[A+3]», «R[A+4]», «R[B]», «R[C]», «RK[C]», «R[A]-before», «K[B]», «K[C]», «K[Bx]», «K[Ax]-after», «UpValue[A]», «UpValue[B]», «R[A…A+B]», «R[A…A+B-1]», «R[A+1…A+B-1]», «R[A…A+B-2]», «R[A+1…A+B]», «R[A…A+C-2]», «R[A+4…A+3+C]», locationOf}
 use Rattle.touches.specs.Lists.{intervalsOf, topsOf, constantsOf, upvaluesOf, gather}
-use Rattle.touches.specs.Meaning.{Among}
 use Rattle.touches.specs.Executions.{Cell, register, constant, upvalue, upToTop, Access, «ra», «ra+1», «ra+2», «ra+3», «ra+4», vRB, vRC, RKC, KB, KC, «k+Bx», «k+Ax», «RA-pi», «upvals[A]», «upvals[B]», nils, pieces, arguments, results, iterated, returned, elements, names, Any}
 use Rattle.touches.proofs.Order.{split}
-use Rattle.touches.proofs.Ranges.{In}
+use Rattle.touches.proofs.Ranges.{Inside}
 
 -- a cell of a location
 abbrev pub At : Cell → Location → Type 0
-At (register q) t = In q (intervalsOf t)
-At (constant q) t = Among q (constantsOf t)
-At (upvalue q) t = Among q (upvaluesOf t)
-At (upToTop q) t = Among q (topsOf t)
+At (register q) t = Inside q (intervalsOf t)
+At (constant q) t = In q (constantsOf t)
+At (upvalue q) t = In q (upvaluesOf t)
+At (upToTop q) t = In q (topsOf t)
 
 -- of several locations
 abbrev pub Gathered : Cell → List Location → Type 0
-Gathered (register q) ts = In q (gather intervalsOf ts)
-Gathered (constant q) ts = Among q (gather constantsOf ts)
-Gathered (upvalue q) ts = Among q (gather upvaluesOf ts)
-Gathered (upToTop q) ts = Among q (gather topsOf ts)
+Gathered (register q) ts = Inside q (gather intervalsOf ts)
+Gathered (constant q) ts = In q (gather constantsOf ts)
+Gathered (upvalue q) ts = In q (gather upvaluesOf ts)
+Gathered (upToTop q) ts = In q (gather topsOf ts)
 
 module _ (q : ℕ) where
-  in-left : (xs ys : List Interval) → In q xs → In q (xs ++ ys)
+  in-left : (xs ys : List Interval) → Inside q xs → Inside q (xs ++ ys)
   in-left [] ys a = absurd a
   in-left (x ∷ xs) ys a = ⊎-elim (λ h. inl h) (λ h. inr (in-left xs ys h)) a
 
-  in-right : (xs ys : List Interval) → In q ys → In q (xs ++ ys)
+  in-right : (xs ys : List Interval) → Inside q ys → Inside q (xs ++ ys)
   in-right [] ys a = a
   in-right (x ∷ xs) ys a = inr (in-right xs ys a)
 
-  in-append : (xs ys : List Interval) → In q (xs ++ ys) → In q xs ⊎ In q ys
+  in-append : (xs ys : List Interval) → Inside q (xs ++ ys) → Inside q xs ⊎ Inside q ys
   in-append [] ys a = inr a
   in-append (x ∷ xs) ys a = ⊎-elim (λ h. inl (inl h)) (λ h. ⊎-elim (λ l. inl (inr l)) (λ r. inr r) (in-append xs ys h)) a
 
-  among-left : (xs ys : List ℕ) → Among q xs → Among q (xs ++ ys)
+  among-left : (xs ys : List ℕ) → In q xs → In q (xs ++ ys)
   among-left [] ys a = absurd a
   among-left (x ∷ xs) ys a = ⊎-elim (λ h. inl h) (λ h. inr (among-left xs ys h)) a
 
-  among-right : (xs ys : List ℕ) → Among q ys → Among q (xs ++ ys)
+  among-right : (xs ys : List ℕ) → In q ys → In q (xs ++ ys)
   among-right [] ys a = a
   among-right (x ∷ xs) ys a = inr (among-right xs ys a)
 
-  among-append : (xs ys : List ℕ) → Among q (xs ++ ys) → Among q xs ⊎ Among q ys
+  among-append : (xs ys : List ℕ) → In q (xs ++ ys) → In q xs ⊎ In q ys
   among-append [] ys a = inr a
   among-append (x ∷ xs) ys a =
       ⊎-elim (λ h. inl (inl h)) (λ h. ⊎-elim (λ l. inl (inr l)) (λ r. inr r) (among-append xs ys h)) a
 
-  intervals-into : (ts : List Location) → Any (At (register q)) ts → In q (gather intervalsOf ts)
+  intervals-into : (ts : List Location) → Any (At (register q)) ts → Inside q (gather intervalsOf ts)
   unfolding gather
   intervals-into [] a = a
   intervals-into (t ∷ ts) a =
       ⊎-elim (λ h. in-left (intervalsOf t) (gather intervalsOf ts) h) (λ h. in-right (intervalsOf t) (gather intervalsOf ts) (intervals-into ts h)) a
 
-  intervals-from : (ts : List Location) → In q (gather intervalsOf ts) → Any (At (register q)) ts
+  intervals-from : (ts : List Location) → Inside q (gather intervalsOf ts) → Any (At (register q)) ts
   unfolding gather
   intervals-from [] a = a
   intervals-from (t ∷ ts) a =
       ⊎-elim (λ h. inl h) (λ h. inr (intervals-from ts h)) (in-append (intervalsOf t) (gather intervalsOf ts) a)
 
   module _ (kind : Location → List ℕ) where
-    numbers-into : (ts : List Location) → Any (λ (t : Location). Among q (kind t)) ts → Among q (gather kind ts)
+    numbers-into : (ts : List Location) → Any (λ (t : Location). In q (kind t)) ts → In q (gather kind ts)
     unfolding gather
     numbers-into [] a = a
     numbers-into (t ∷ ts) a =
         ⊎-elim (λ h. among-left (kind t) (gather kind ts) h) (λ h. among-right (kind t) (gather kind ts) (numbers-into ts h)) a
 
-    numbers-from : (ts : List Location) → Among q (gather kind ts) → Any (λ (t : Location). Among q (kind t)) ts
+    numbers-from : (ts : List Location) → In q (gather kind ts) → Any (λ (t : Location). In q (kind t)) ts
     unfolding gather
     numbers-from [] a = a
     numbers-from (t ∷ ts) a =

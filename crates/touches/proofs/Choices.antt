@@ -1,10 +1,12 @@
--- Tests of every and of some element of a list, and what they say of a list of which something holds somewhere or everywhere.
+-- Tests of every and of some element of a list, and what they say of a list of which something holds somewhere or
+-- everywhere.
 -- Assumes nothing.
+use Prim.Native.Nat.{ℕ}
 use mathlib.Core.Path.{_≡_, refl}
 use mathlib.Core.Logic.{_⊎_, inl, inr, ⊎-elim}
 use mathlib.Core.Bool.{Bool, true, false, cond}
 use mathlib.Core.List.{List, [], _∷_, _++_}
-use lib.Dec.{T}
+use lib.Dec.{T, eqb, eqb→eq}
 use Rattle.touches.specs.Executions.{Any, All}
 
 abbrev pub every : {X : Type 0} → (X → Bool) → List X → Bool
@@ -14,6 +16,13 @@ every test (x ∷ xs) = cond (test x) (every test xs) false
 abbrev pub some : {X : Type 0} → (X → Bool) → List X → Bool
 some test [] = false
 some test (x ∷ xs) = cond (test x) true (some test xs)
+
+-- two lists of numbers are the same: a test that antt computes
+abbrev pub same : List ℕ → List ℕ → Bool
+same [] [] = true
+same [] (y ∷ ys) = false
+same (x ∷ xs) [] = false
+same (x ∷ xs) (y ∷ ys) = cond (eqb x y) (same xs ys) false
 
 -- two tests in one
 
@@ -28,6 +37,12 @@ right-of false b t = absurd t
 pub one-of : (a b : Bool) → T (cond a true b) → T a ⊎ T b
 one-of true b t = inl tt
 one-of false b t = inr t
+
+pub by-test : (xs ys : List ℕ) → T (same xs ys) → xs ≡ ys
+by-test [] [] t = refl
+by-test [] (y ∷ ys) t = absurd t
+by-test (x ∷ xs) [] t = absurd t
+by-test (x ∷ xs) (y ∷ ys) t = rw (eqb→eq x y (left-of (eqb x y) (same xs ys) t), by-test xs ys (right-of (eqb x y) (same xs ys) t))
 
 module _ {X : Type 0} (P : X → Type 0) where
   -- what holds somewhere

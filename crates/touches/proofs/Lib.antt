@@ -11,3 +11,4 @@ pub mod Sorts
 pub mod Agree
 pub mod Whole
 pub mod Meaning
+pub mod Laws

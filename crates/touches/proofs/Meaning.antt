@@ -11,7 +11,8 @@ use lib.ListN.{length, getD}
 use Rattle.fields.specs.declared.word.RawInstruction54.{RawInstruction54}
 use Rattle.fields.specs.Word.{fieldsOf, opcodeOf, aOf, axOf}
 use Rattle.fields.specs.Lopcodes.{«GET_OPCODE», «GETARG_Bx», instruction}
-use Rattle.fields.proofs.Lopcodes.{agreement}
+use Rattle.fields.proofs.Laws.{laws}
+use Rattle.runs.specs.Graph.{In}
 use Rattle.runs.specs.Successors.{successorsOf, isInvalid, isSuccessor}
 use Rattle.touches.specs.declared.answer.Range.{Range}
 use Rattle.touches.specs.declared.answer.Touches.{Touches}
@@ -29,7 +30,7 @@ use Rattle.touches.proofs.Rows.{Fits, accesses-fit}
 use Rattle.touches.proofs.Choices.{every}
 use Rattle.touches.proofs.Cells.{At, kind}
 use Rattle.touches.proofs.Ranges as ranges
-use Rattle.touches.proofs.Ways.{Among, opcode-is, opcode-fits, goOf, leads, landing, next-landing, landing-is, same-ways, to-successor, any-reached}
+use Rattle.touches.proofs.Ways.{opcode-is, opcode-fits, goOf, leads, landing, next-landing, landing-is, same-ways, to-successor, any-reached}
 use Rattle.touches.proofs.Sorts.{bars, at-most-one-top}
 use Rattle.touches.proofs.Agree as agree
 use Rattle.touches.proofs.Whole as whole
@@ -71,9 +72,9 @@ module _ (ws : List ℕ) (p : ℕ) where
   unfolding touchesIn
   answer-is =
       ap (λ (o : ℕ). touchesAt (accessesOf o) (fieldsOf (getD ws p 0)) (aOf (getD ws (p - 1) 0)) (axOf (getD ws (p + 1) 0)) p) (sym (opcode-is (getD ws p 0)))
-      ∙ (ap (λ (j : RawInstruction54). touchesAt a j (aOf (getD ws (p - 1) 0)) (axOf (getD ws (p + 1) 0)) p) (sym (agreement (getD ws p 0)))
-      ∙ (ap (λ (j : RawInstruction54). touchesAt a i (j .a) (axOf (getD ws (p + 1) 0)) p) (sym (agreement (getD ws (p - 1) 0)))
-      ∙ ap (λ (j : RawInstruction54). touchesAt a i (pi .a) (j .ax) p) (sym (agreement (getD ws (p + 1) 0)))))
+      ∙ (ap (λ (j : RawInstruction54). touchesAt a j (aOf (getD ws (p - 1) 0)) (axOf (getD ws (p + 1) 0)) p) (sym (laws .lopcodes (getD ws p 0)))
+      ∙ (ap (λ (j : RawInstruction54). touchesAt a i (j .a) (axOf (getD ws (p + 1) 0)) p) (sym (laws .lopcodes (getD ws (p - 1) 0)))
+      ∙ ap (λ (j : RawInstruction54). touchesAt a i (pi .a) (j .ax) p) (sym (laws .lopcodes (getD ws (p + 1) 0)))))
 
   few : (xs : List Operand) → length xs ≤ 3 → length (locations xs) ≤ 3
   few xs h = omega (arith, whole.locations-length xs i (pi .a) (ni .ax))
@@ -123,12 +124,12 @@ module _ (ws : List ℕ) (p : ℕ) where
   -- a way over the edge lands on it
   lands : (w : Way) → T (leads (a .edge) (goOf w)) → (z : ℤ) → LeadsTo ws p z w ↔ (z ≡ landing (a .edge) p (getD ws p 0))
   lands (way go runs) t z =
-      subst (λ (xs : List ℤ). Any (λ (x : ℤ). z ≡ x) xs ↔ (z ≡ landing (a .edge) p (getD ws p 0)))
+      subst (λ (xs : List ℤ). In z xs ↔ (z ≡ landing (a .edge) p (getD ws p 0)))
       (sym (next-landing (a .edge) go p (getD ws p 0) t)) (⊎-elim (λ e. e) (λ b. absurd b), λ e. inl e)
 
   module _ (valid : isInvalid (successorsOf ws p) ≡ false) where
     abbrev Reached : ℤ → Type 0
-    Reached x = Among x (nexts (waysAt ws p) (pos (p + 1)) (getD ws p 0))
+    Reached x = In x (nexts (waysAt ws p) (pos (p + 1)) (getD ws p 0))
 
     abbrev over : ℤ
     over = landing (a .edge) p (getD ws p 0)

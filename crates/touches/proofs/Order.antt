@@ -1,14 +1,7 @@
--- Two indices are in one order or the other; a number that is none of the lower ones is above them. Assumes nothing.
-use mathlib.Core.Path.{_≡_, refl}
-use mathlib.Core.Logic.{_⊎_, inl, inr}
-use mathlib.Core.Bool.{Bool, true, false}
+-- Two numbers are in one order or the other: common's law, the lower first. Assumes nothing.
+use mathlib.Core.Logic.{_⊎_, inl, inr, ⊎-elim}
 use Prim.Native.Nat.{ℕ, _≤_, _<_}
-use lib.Dec.{ltb}
-use borrow.Author.Tests.{ltb-true, ltb-false}
+use Rattle.common.proofs.Order as order
 
 pub split : (a b : ℕ) → (a < b) ⊎ (b ≤ a)
-split a b = go (ltb a b) refl
-  where
-    go : (t : Bool) → ltb a b ≡ t → (a < b) ⊎ (b ≤ a)
-    go true e = inl (ltb-true a b e)
-    go false e = inr (ltb-false a b e)
+split a b = ⊎-elim (λ h. inr h) (λ h. inl h) (order.split b a)

@@ -1,29 +1,30 @@
 -- The code's table: a row's digits lead back to the operands of its opcode's case.
 -- Assumes nothing.
-use Prim.Native.Nat.{ℕ, zero, suc, _+_, _*_, _/_, _%_, _^_, _≤_, _<_}
+use Prim.Native.Nat.{ℕ, zero, suc, _+_, _-_, _*_, _/_, _%_, _^_, _≤_, _<_}
 use mathlib.Core.Path.{_≡_, refl, ap, sym, _∙_}
 use mathlib.Core.Bool.{Bool, true, false, cond, true≢false}
 use mathlib.Core.List.{List, [], _∷_}
 use mathlib.Core.Logic.{⊎-elim}
-use Rattle.runs.specs.Successors.{successorsOf, isInvalid}
-use Rattle.runs.proofs.Laws.{outside}
+use Rattle.runs.specs.declared.edges.Successors.the-variants.{Invalid}
+use Rattle.runs.specs.Successors.{unless, successorsOf, isInvalid}
 use Rattle.touches.proofs.Order.{split}
 use native.Mathlib.Nat.{div-div-eq-div-mul, pow-succ'}
 use native.Mathlib.Omega.{arith}
 use lib.Dec.{T, leb, eqb}
 use lib.ListN.{length, getD, List·getD-eq-default}
-use borrow.Author.Tests.{leb-true}
+use borrow.Author.Tests.{leb-true, le-ltb}
 use Rattle.fields.specs.declared.word.RawInstruction54.{RawInstruction54}
+use Rattle.fields.specs.Word.{fieldsOf, opcodeOf, aOf, axOf}
 use Rattle.touches.specs.declared.locations.Location.{Location}
 use Rattle.touches.specs.declared.locations.Location.the-variants.{Nothing}
 use Rattle.touches.specs.declared.answer.Touches.{Touches}
 use Rattle.touches.specs.Operands.{Operand, nothing, «R[A]», «R[A+1]», «R[A+2]», «R[A+3]», «R[A+4]», «R[B]», «R[C]», «RK[C]», «R[A]-before», «K[B]», «K[C]», «K[Bx]», «K[Ax]-after», «UpValue[A]», «UpValue[B]», «R[A…A+B]», «R[A…A+B-1]», «R[A+1…A+B-1]», «R[A…A+B-2]», «R[A+1…A+B]», «R[A…A+C-2]», «R[A+4…A+3+C]», locationOf}
 use Rattle.touches.specs.Cases.{Edge, noEdge, «p+1», «p+2», «p+1-Bx», edgeOf, Accesses, Case, vmcase, switch, vmdispatch, accessesOf}
 use Rattle.touches.specs.Lists.{gather}
-use Rattle.touches.specs.Table.{operands, operandFrom, edgeFrom, edgeNumber, numberOf, operandAt, digitsOf, packed, rowsOf, accessTable, touchesFrom}
-use Rattle.touches.specs.Touches.{locationsOf, touchesBy, touchesAt}
+use Rattle.touches.specs.Table.{operands, operandFrom, edgeFrom, edgeNumber, numberOf, operandAt, digitsOf, packed, rowsOf, accessTable, touchesFrom, touchesWith}
+use Rattle.touches.specs.Touches.{locationsOf, touchesBy, touchesAt, touchesIn, touchesOf}
 
--- IndexList lead back
+-- Numbers lead back
 
 pub operand-back : (x : Operand) → operandFrom (numberOf x) ≡ x
 unfolding operandFrom
@@ -51,7 +52,19 @@ operand-back «R[A+1…A+B]» = refl
 operand-back «R[A…A+C-2]» = refl
 operand-back «R[A+4…A+3+C]» = refl
 
--- past the named indices
+-- for the last arm of a `match` on the numbers from the first on: a number that is none of m of them is past them
+abbrev pub NoneFrom : ℕ → ℕ → ℕ → Type 0
+NoneFrom first zero k = Unit {0}
+NoneFrom first (suc m) k = NoneFrom first m k × (k ≡ first + m → ⊥)
+
+pub past-from : (first m k : ℕ) → first ≤ k → NoneFrom first m k → first + m ≤ k
+past-from first zero k h r = omega arith
+past-from first (suc m) k h r = go (past-from first m k h (r .0)) (r .1)
+  where
+    go : first + m ≤ k → (k ≡ first + m → ⊥) → first + suc m ≤ k
+    go g differs = omega arith
+
+-- past the named numbers
 pub operand-past : (number : ℕ) → 22 ≤ number → operandFrom number ≡ «R[A+4…A+3+C]»
 unfolding operandFrom
 operand-past number h = List·getD-eq-default operands «R[A+4…A+3+C]» h
@@ -260,5 +273,18 @@ module _ (i : RawInstruction54) (before after : ℕ) where
           ap edgeFrom (ap (λ (m : ℕ). m / 33554432 % 32) e ∙ digit-at 5 (digitsOf a) (omega arith) (small-digits a)) ∙ edge-back (a .edge)
 
 -- a word that is not bad is one of the words
+outside : (ws : List ℕ) (p : ℕ) → length ws ≤ p → successorsOf ws p ≡ Invalid
+unfolding successorsOf unless
+outside ws p h = rw (le-ltb p (length ws) h)
+
 pub valid-inside : (ws : List ℕ) (p : ℕ) → isInvalid (successorsOf ws p) ≡ false → p < length ws
 valid-inside ws p e = ⊎-elim (λ h. h) (λ h. absurd (true≢false (rw (outside ws p h) at e))) (split p (length ws))
+
+-- the code's table says what the definition says
+pub by-table : (ws : List ℕ) (p : ℕ) → touchesWith accessTable ws p ≡ touchesOf ws p
+unfolding touchesWith touchesOf touchesIn
+by-table ws p =
+    let o = opcodeOf (getD ws p 0) in
+    ap (λ (t : Touches). cond (isInvalid (successorsOf ws p)) (touchesBy [] [] 0 []) t)
+    (by-row (fieldsOf (getD ws p 0)) (aOf (getD ws (p - 1) 0)) (axOf (getD ws (p + 1) 0)) (accessesOf o) (accesses-fit o) _ p
+    (row-of o (omega arith)))

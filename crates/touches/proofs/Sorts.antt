@@ -1,4 +1,5 @@
--- The two definitions agree: which kinds of cells an operand can stand for, and tests of the 83 cases, which antt computes.
+-- The two definitions agree: which kinds of cells an operand can stand for, and tests of the 83 cases, which antt
+-- computes.
 -- Assumes nothing.
 use Prim.Native.Nat.{ℕ, suc, _+_, _≤_, _<_}
 use mathlib.Core.Path.{_≡_, refl, ap, sym, subst, _∙_}
@@ -9,7 +10,7 @@ use native.Mathlib.Omega.{arith}
 use lib.Dec.{T, eqb, eqb→eq}
 use lib.ListN.{length, length-append}
 use Rattle.fields.specs.declared.word.RawInstruction54.{RawInstruction54}
-use Rattle.fields.proofs.Below.{all, all-at}
+use Rattle.runs.specs.Graph.{In}
 use Rattle.touches.specs.declared.locations.Location.{Location}
 use Rattle.touches.specs.declared.locations.Location.the-variants.{Nothing, Registers, ToTop, Constant, Upvalue}
 use Rattle.touches.specs.Operands.{Operand, nothing, «R[A]», «R[A+1]», «R[A+2]», «R[A+3]», «R[A+4]», «R[B]», «R[C]», «RK[C]», «R[A]-before», «K[B]», «K[C]», «K[Bx]», «K[Ax]-after», «UpValue[A]», «UpValue[B]», «R[A…A+B]», «R[A…A+B-1]», «R[A+1…A+B-1]», «R[A…A+B-2]», «R[A+1…A+B]», «R[A…A+C-2]», «R[A+4…A+3+C]», locationOf}
@@ -17,7 +18,6 @@ use Rattle.touches.specs.Cases.{Accesses, accessesOf}
 use Rattle.touches.specs.Table.{numberOf, operandFrom}
 use Rattle.touches.specs.Lists.{topsOf, gather}
 use Rattle.touches.specs.Touches.{locationsOf}
-use Rattle.touches.specs.Meaning.{Among}
 use Rattle.touches.specs.Executions.{Cell, register, constant, upvalue, upToTop, Access, names, Way, waysOf, wayReads, wayStores, Any, All}
 use Rattle.touches.proofs.Rows.{operand-back}
 use Rattle.touches.proofs.Choices.{every, some, left-of, right-of, one-of, any-to, any-map, all-map, every-any, every-all, some-any, some-all}
@@ -151,7 +151,7 @@ module _ (i : RawInstruction54) (before after : ℕ) where
     where
       go : (ks : List ℕ) → tops x ≡ ks → length ks ≤ 0
       go [] e = omega arith
-      go (k ∷ ks) e = absurd (barred i before after (upToTop k) x t (subst (Among k) (sym e) (inl refl)))
+      go (k ∷ ks) e = absurd (barred i before after (upToTop k) x t (subst (In k) (sym e) (inl refl)))
 
   pub at-most-one-top : (xs : List Operand) → T (topsLast xs) → length (gather topsOf (locationsOf xs i before after)) ≤ 1
   unfolding gather

@@ -6,10 +6,10 @@ use mathlib.Core.List.{List, [], _∷_}
 use native.Mathlib.Omega.{arith}
 use Rattle.touches.specs.declared.intervals.Interval.{Interval}
 use Rattle.touches.proofs.Order.{split}
-use Rattle.touches.proofs.Ranges.{In, After, Canonical}
+use Rattle.touches.proofs.Ranges.{Inside, After, Canonical}
 
 -- the registers of a canonical list that starts past e are past e
-past : (e q : ℕ) (xs : List Interval) → After e xs → Canonical xs → In q xs → e < q
+past : (e q : ℕ) (xs : List Interval) → After e xs → Canonical xs → Inside q xs → e < q
 past e q [] a k i = absurd i
 past e q (x ∷ xs) a k i =
     ⊎-elim (λ (b : (x .first ≤ q) × (q < x .end)). omega (arith, b .0)) (λ b. past e q xs (later xs (k .1 .0)) (k .1 .1) b) i
@@ -19,28 +19,28 @@ past e q (x ∷ xs) a k i =
     later (y ∷ ys) b = omega (arith, k .0)
 
 module _ (x : Interval) (xs : List Interval) (k : Canonical (x ∷ xs)) where
-  least : (q : ℕ) → In q (x ∷ xs) → x .first ≤ q
+  least : (q : ℕ) → Inside q (x ∷ xs) → x .first ≤ q
   least q i = ⊎-elim (λ (b : (x .first ≤ q) × (q < x .end)). b .0) (λ b. omega (arith, past (x .end) q xs (k .1 .0) (k .1 .1) b, k .0)) i
 
-  here : In (x .first) (x ∷ xs)
+  here : Inside (x .first) (x ∷ xs)
   here = inl (omega arith, k .0)
 
   -- the register after the first range is in none
-  gap : In (x .end) (x ∷ xs) → ⊥
+  gap : Inside (x .end) (x ∷ xs) → ⊥
   gap i =
       ⊎-elim (λ (b : (x .first ≤ x .end) × (x .end < x .end)). absurd (omega (arith, b .1)))
       (λ b. absurd (omega (arith, past (x .end) (x .end) xs (k .1 .0) (k .1 .1) b))) i
 
   -- one past the first range is in the others
-  other : (q : ℕ) → x .end ≤ q → In q (x ∷ xs) → In q xs
+  other : (q : ℕ) → x .end ≤ q → Inside q (x ∷ xs) → Inside q xs
   other q h i = ⊎-elim (λ (b : (x .first ≤ q) × (q < x .end)). absurd (omega (arith, b .1))) (λ b. b) i
 
-  beyond : (q : ℕ) → In q xs → x .end ≤ q
+  beyond : (q : ℕ) → Inside q xs → x .end ≤ q
   beyond q i = omega (arith, past (x .end) q xs (k .1 .0) (k .1 .1) i)
 
 -- one list's registers are among another's
 abbrev Sub : List Interval → List Interval → Type 0
-Sub xs ys = (q : ℕ) → In q xs → In q ys
+Sub xs ys = (q : ℕ) → Inside q xs → Inside q ys
 
 module _ (x y : Interval) (xs ys : List Interval) (k : Canonical (x ∷ xs)) (l : Canonical (y ∷ ys)) (f : Sub (x ∷ xs) (y ∷ ys)) where
   first-from : y .first ≤ x .first
@@ -73,5 +73,5 @@ go (x ∷ xs) (y ∷ ys) k l f g =
     let back : y .end ≡ x .end = omega arith in
     rw (same-interval x y first end, go xs ys (k .1 .1) (l .1 .1) (rest x y xs ys k l f end) (rest y x ys xs l k g back))
 
-pub only : (xs ys : List Interval) → Canonical xs → Canonical ys → ((q : ℕ) → In q xs ↔ In q ys) → xs ≡ ys
+pub only : (xs ys : List Interval) → Canonical xs → Canonical ys → ((q : ℕ) → Inside q xs ↔ Inside q ys) → xs ≡ ys
 only xs ys k l h = go xs ys k l (λ q. h q .0) (λ q. h q .1)

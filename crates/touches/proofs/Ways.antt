@@ -1,33 +1,29 @@
--- The ways on of specs/Executions.antt are those of runs' Lvm.antt, and over them a word's successors. All that is used of Lvm.antt is here.
+-- The ways on of specs/Executions.antt are those of runs' Lvm.antt, and over them a word's successors. All that is
+-- used of Lvm.antt is here.
 -- Assumes nothing.
 use Prim.Native.Nat.{ℕ, zero, suc, _+_, _-_, _≤_, _<_}
 use mathlib.Core.Path.{_≡_, refl, ap, sym, subst, _∙_}
 use mathlib.Core.Logic.{_⊎_, inl, inr, ⊎-elim}
-use mathlib.Core.Bool.{Bool, true, false, cond, _||_}
+use mathlib.Core.Bool.{Bool, true, false, cond}
 use mathlib.Core.List.{List, [], _∷_, _++_}
 use native.Mathlib.Omega.{arith}
 use lib.Dec.{T, ltb, eqb, eqb→eq}
 use lib.IntN.{ℤ, pos, negsuc, _+ℤ_, _-ℤ_}
 use lib.ListN.{length, getD}
-use borrow.Author.Tests.{lt-ltb, le-ltb, eq-eqb}
+use borrow.Author.Tests.{lt-ltb, le-ltb}
 use Rattle.fields.specs.declared.word.RawInstruction54.{RawInstruction54}
 use Rattle.fields.specs.Word.{opcodeOf}
 use Rattle.fields.specs.Lopcodes.{«GET_OPCODE», «GETARG_Bx», «TESTARG_k»}
-use Rattle.fields.proofs.Below.{all, all-at}
-use Rattle.fields.proofs.Entries.{same, by-test}
-use Rattle.fields.proofs.Lopcodes.{agreement}
-use Rattle.runs.specs.declared.edges.Successors.{Successors}
-use Rattle.runs.specs.declared.edges.Successors.the-variants.{Invalid, Stop, One, Two}
-use Rattle.runs.specs.Successors.{successorsOf, isInvalid, listOf, hasSuccessor, isSuccessor}
+use Rattle.fields.specs.Laws.{all}
+use Rattle.fields.proofs.Laws.{laws}
+use Rattle.runs.specs.Graph.{In}
+use Rattle.runs.specs.Successors.{successorsOf, isInvalid, listOf, isSuccessor}
 use Rattle.runs.specs.Lvm as lvm
-use Rattle.runs.proofs.Lvm.{agreement-holds}
+use Rattle.runs.proofs.Laws as runs
 use Rattle.touches.specs.Executions.{Go, vmbreak, «pc++», «pc++-if-k», dojump, donextjump, «pc-=Bx», «pc+=Bx+1», l_tforcall, l_tforloop, leave, next, Way, way, waysOf, waysAt, nexts, Any, LeadsTo}
 use Rattle.touches.specs.Cases.{Edge, noEdge, «p+1», «p+2», «p+1-Bx», edgeOf}
 use Rattle.touches.proofs.Order.{split}
-use Rattle.touches.proofs.Choices.{one-of}
-
-abbrev pub Among : ℤ → List ℤ → Type 0
-Among = lvm.Among
+use Rattle.touches.proofs.Choices.{one-of, same, by-test}
 
 -- How a case goes on, as a number
 
@@ -82,10 +78,11 @@ gosBy lvm.condjump = «pc++» ∷ donextjump ∷ []
 gosBy lvm.testset = «pc++» ∷ donextjump ∷ []
 gosBy lvm.call = vmbreak ∷ []
 gosBy lvm.leave = leave ∷ []
-gosBy lvm.loop = «pc-=Bx» ∷ vmbreak ∷ []
+gosBy lvm.forloop = «pc-=Bx» ∷ vmbreak ∷ []
 gosBy lvm.forprep = «pc+=Bx+1» ∷ vmbreak ∷ []
 gosBy lvm.tforprep = l_tforcall ∷ []
 gosBy lvm.tforcall = l_tforloop ∷ []
+gosBy lvm.tforloop = «pc-=Bx» ∷ vmbreak ∷ []
 gosBy lvm.setlist = «pc++-if-k» ∷ []
 gosBy lvm.assert0 = vmbreak ∷ []
 gosBy lvm.absent = vmbreak ∷ []
@@ -99,10 +96,11 @@ body-nexts ws lvm.condjump pc i = refl
 body-nexts ws lvm.testset pc i = refl
 body-nexts ws lvm.call pc i = refl
 body-nexts ws lvm.leave pc i = refl
-body-nexts ws lvm.loop pc i = refl
+body-nexts ws lvm.forloop pc i = refl
 body-nexts ws lvm.forprep pc i = refl
 body-nexts ws lvm.tforprep pc i = refl
 body-nexts ws lvm.tforcall pc i = refl
+body-nexts ws lvm.tforloop pc i = refl
 body-nexts ws lvm.setlist pc i = go (eqb («TESTARG_k» i) 0)
   where
     go : (t : Bool) → cond t pc (pc +ℤ pos 1) ∷ [] ≡ lvm.targetsOf (cond t (lvm.fetch pc ∷ []) (lvm.fetch (pc +ℤ pos 1) ∷ []))
@@ -137,18 +135,18 @@ unfolding alike-at
 gos-alike o h =
     sym (gos-back (gosOf (waysOf o)))
     ∙ (ap gosFrom
-    (by-test (goNumbers (gosOf (waysOf o))) (goNumbers (gosBy (lvm.vmdispatch lvm.switch o))) (all-at alike-at 128 alike-below o h))
+    (by-test (goNumbers (gosOf (waysOf o))) (goNumbers (gosBy (lvm.vmdispatch lvm.switch o))) (laws .each-below alike-at 128 alike-below o h))
     ∙ gos-back (gosBy (lvm.vmdispatch lvm.switch o)))
 
 module _ (w : ℕ) where
   pub opcode-is : «GET_OPCODE» w ≡ opcodeOf w
-  opcode-is = ap (λ (i : RawInstruction54). i .«opcode_num») (agreement w)
+  opcode-is = ap (λ (i : RawInstruction54). i .«opcode_num») (laws .lopcodes w)
 
   pub opcode-fits : «GET_OPCODE» w < 128
   opcode-fits = rw opcode-is (omega arith)
 
 pub same-ways : (ws : List ℕ) (p : ℕ) → nexts (waysAt ws p) (pos (p + 1)) (getD ws p 0) ≡ lvm.goesOn ws p
-unfolding lvm.waysAt
+unfolding lvm.waysAt lvm.bodyAt
 same-ways ws p =
     let w = getD ws p 0 in
     nexts-by (waysAt ws p) (pos (p + 1)) w
@@ -157,13 +155,6 @@ same-ways ws p =
 
 -- A way of a word that is not bad leads to a successor
 
-has-second : (t : Bool) (q : ℕ) → t || eqb q q ≡ true
-has-second true q = refl
-has-second false q = eq-eqb q q refl
-
-has-first : (t : Bool) (q : ℕ) → eqb q q || t ≡ true
-has-first t q = rw (eq-eqb q q refl)
-
 same-number : (q r : ℕ) → pos q ≡ pos r → q ≡ r
 same-number q r e = ap magnitude e
   where
@@ -171,18 +162,13 @@ same-number q r e = ap magnitude e
     magnitude (pos n) = n
     magnitude (negsuc n) = n
 
-among-has : (q : ℕ) (s : Successors) → Among (pos q) (lvm.integers (listOf s)) → hasSuccessor s q ≡ true
-among-has q Invalid a = absurd a
-among-has q Stop a = absurd a
-among-has q (One x) a = ⊎-elim (λ e. subst (λ (y : ℕ). eqb y q ≡ true) (same-number q x e) (eq-eqb q q refl)) (λ b. absurd b) a
-among-has q (Two x y) a =
-    ⊎-elim (λ e. subst (λ (z : ℕ). eqb z q || eqb y q ≡ true) (same-number q x e) (has-first (eqb y q) q))
-    (⊎-elim (λ e. subst (λ (z : ℕ). eqb x q || eqb z q ≡ true) (same-number q y e) (has-second (eqb x q) q)) (λ b. absurd b)) a
+in-numbers : (q : ℕ) (xs : List ℕ) → In (pos q) (lvm.integers xs) → In q xs
+in-numbers q [] a = a
+in-numbers q (x ∷ xs) a = ⊎-elim (λ e. inl (same-number q x e)) (λ b. inr (in-numbers q xs b)) a
 
-none-below : (n : ℕ) (s : Successors) → Among (negsuc n) (lvm.integers (listOf s)) → ⊥
-none-below n Invalid a = absurd a
-none-below n Stop a = absurd a
-none-below n (One x) a = ⊎-elim (λ e. signs e) (λ b. absurd b) a
+none-below : (n : ℕ) (xs : List ℕ) → In (negsuc n) (lvm.integers xs) → ⊥
+none-below n [] a = absurd a
+none-below n (x ∷ xs) a = ⊎-elim (λ e. signs e) (λ b. none-below n xs b) a
   where
     sign : ℤ → ℕ
     sign (pos m) = 0
@@ -190,34 +176,27 @@ none-below n (One x) a = ⊎-elim (λ e. signs e) (λ b. absurd b) a
 
     signs : negsuc n ≡ pos x → ⊥
     signs e = omega (arith, ap sign e)
-none-below n (Two x y) a = ⊎-elim (λ e. signs x e) (⊎-elim (λ e. signs y e) (λ b. absurd b)) a
-  where
-    sign : ℤ → ℕ
-    sign (pos m) = 0
-    sign (negsuc m) = 1
-
-    signs : (z : ℕ) → negsuc n ≡ pos z → ⊥
-    signs z e = omega (arith, ap sign e)
 
 module _ (ws : List ℕ) (p : ℕ) (valid : isInvalid (successorsOf ws p) ≡ false) where
   abbrev word : ℕ
   word = getD ws p 0
 
   abbrev Reached : ℤ → Type 0
-  Reached z = Among z (nexts (waysAt ws p) (pos (p + 1)) word)
+  Reached z = In z (nexts (waysAt ws p) (pos (p + 1)) word)
 
-  reached : (z : ℤ) → Reached z → Among z (lvm.integers (listOf (successorsOf ws p)))
-  reached z a = agreement-holds .same ws p valid z .0 (rw (same-ways ws p) at a)
+  reached : (z : ℤ) → Reached z → In z (lvm.integers (listOf (successorsOf ws p)))
+  reached z a = runs.laws .agreement .same ws p valid z .0 (rw (same-ways ws p) at a)
 
   pub to-successor : (q : ℕ) → Reached (pos q) → isSuccessor ws p q ≡ true
   unfolding isSuccessor
-  to-successor q a = among-has q (successorsOf ws p) (reached (pos q) a)
+  to-successor q a =
+      runs.laws .member-in q (listOf (successorsOf ws p)) .1 (in-numbers q (listOf (successorsOf ws p)) (reached (pos q) a))
 
   -- a way back does not go below 0
   under : (b : ℕ) → p + 1 < b → Reached (pos (p + 1) -ℤ pos b) → ⊥
   under zero h r = absurd (omega arith)
   under (suc b) h r =
-      none-below (suc b - suc (p + 1)) (successorsOf ws p) (reached (negsuc (suc b - suc (p + 1))) (subst Reached below r))
+      none-below (suc b - suc (p + 1)) (listOf (successorsOf ws p)) (reached (negsuc (suc b - suc (p + 1))) (subst Reached below r))
     where
       below : pos (p + 1) -ℤ pos (suc b) ≡ negsuc (suc b - suc (p + 1))
       below = rw (lt-ltb (p + 1) (suc b) h)
@@ -260,7 +239,7 @@ next-landing «p+1-Bx» go p w t = ap (λ (g : Go). next g (pos (p + 1)) w) (go-
 
 pub landing-is :
     (ws : List ℕ) (p : ℕ) → isInvalid (successorsOf ws p) ≡ false → (edge : Edge) →
-    Among (landing edge p (getD ws p 0)) (nexts (waysAt ws p) (pos (p + 1)) (getD ws p 0)) →
+    In (landing edge p (getD ws p 0)) (nexts (waysAt ws p) (pos (p + 1)) (getD ws p 0)) →
     landing edge p (getD ws p 0) ≡ pos (edgeOf edge p («GETARG_Bx» (getD ws p 0)))
 landing-is ws p valid noEdge a = refl
 landing-is ws p valid «p+1» a = refl
@@ -271,16 +250,16 @@ landing-is ws p valid «p+1-Bx» a =
 -- a word that some way leads to
 pub any-reached :
     (ws : List ℕ) (p : ℕ) (z : ℤ) (P : Way → Type 0) (ways : List Way) → Any (λ (w : Way). LeadsTo ws p z w × P w) ways →
-    Among z (nexts ways (pos (p + 1)) (getD ws p 0))
+    In z (nexts ways (pos (p + 1)) (getD ws p 0))
 any-reached ws p z P [] a = a
 any-reached ws p z P (way go runs ∷ ways) a =
-    ⊎-elim (λ (h : LeadsTo ws p z (way go runs) × P (way go runs)). among-left z (next go (pos (p + 1)) (getD ws p 0)) (nexts ways (pos (p + 1)) (getD ws p 0)) (h .0))
-    (λ h. among-right z (next go (pos (p + 1)) (getD ws p 0)) (nexts ways (pos (p + 1)) (getD ws p 0)) (any-reached ws p z P ways h)) a
+    ⊎-elim (λ (h : LeadsTo ws p z (way go runs) × P (way go runs)). in-left z (next go (pos (p + 1)) (getD ws p 0)) (nexts ways (pos (p + 1)) (getD ws p 0)) (h .0))
+    (λ h. in-right z (next go (pos (p + 1)) (getD ws p 0)) (nexts ways (pos (p + 1)) (getD ws p 0)) (any-reached ws p z P ways h)) a
   where
-    among-left : (z : ℤ) (xs ys : List ℤ) → Any (λ (x : ℤ). z ≡ x) xs → Among z (xs ++ ys)
-    among-left z [] ys b = absurd b
-    among-left z (x ∷ xs) ys b = ⊎-elim (λ h. inl h) (λ h. inr (among-left z xs ys h)) b
+    in-left : (z : ℤ) (xs ys : List ℤ) → In z xs → In z (xs ++ ys)
+    in-left z [] ys b = absurd b
+    in-left z (x ∷ xs) ys b = ⊎-elim (λ h. inl h) (λ h. inr (in-left z xs ys h)) b
 
-    among-right : (z : ℤ) (xs ys : List ℤ) → Among z ys → Among z (xs ++ ys)
-    among-right z [] ys b = b
-    among-right z (x ∷ xs) ys b = inr (among-right z xs ys b)
+    in-right : (z : ℤ) (xs ys : List ℤ) → In z ys → In z (xs ++ ys)
+    in-right z [] ys b = b
+    in-right z (x ∷ xs) ys b = inr (in-right z xs ys b)

@@ -1,4 +1,5 @@
--- The lists of an answer: none is longer than its array, each has its form, and each names the cells of the locations that it was made of.
+-- The lists of an answer: none is longer than its array, each has its form, and each names the cells of the locations
+-- that it was made of.
 -- Assumes nothing.
 use Prim.Native.Nat.{ℕ, suc, _+_, _-_, _≤_}
 use mathlib.Core.Path.{_≡_, refl, ap, sym, subst, _∙_}
@@ -7,6 +8,7 @@ use mathlib.Core.List.{List, [], _∷_, _++_}
 use native.Mathlib.Omega.{arith}
 use lib.ListN.{length, length-append}
 use Rattle.fields.specs.declared.word.RawInstruction54.{RawInstruction54}
+use Rattle.runs.specs.Graph.{In}
 use Rattle.touches.specs.declared.intervals.Interval.{Interval}
 use Rattle.touches.specs.declared.locations.Location.{Location}
 use Rattle.touches.specs.declared.locations.Location.the-variants.{Nothing, Registers, ToTop, Constant, Upvalue}
@@ -14,7 +16,7 @@ use Rattle.touches.specs.Operands.{Operand, locationOf}
 use Rattle.touches.specs.Canonical.{canonical, rising}
 use Rattle.touches.specs.Lists.{intervalsOf, topsOf, constantsOf, upvaluesOf, gather, rangesOf, indicesOf, firstTop, topOf}
 use Rattle.touches.specs.Touches.{locationsOf, touchesBy}
-use Rattle.touches.specs.Meaning.{rangesIn, numbersIn, Within, Among, Longest, Rising, Form, UpFrom, NamedRead, NamedWritten, NamedOnEdge}
+use Rattle.touches.specs.Meaning.{rangesIn, numbersIn, Within, Longest, Rising, Form, UpFrom, NamedRead, NamedWritten, NamedOnEdge}
 use Rattle.touches.specs.Executions.{Cell, register, constant, upvalue, upToTop, Any}
 use Rattle.touches.proofs.Ranges as ranges
 use Rattle.touches.proofs.Rising as rises
@@ -80,14 +82,14 @@ module _ (ts : List Location) (few : length ts ≤ 3) where
     numbers-form : Rising (numbersIn (indicesOf numbersAt))
     numbers-form = subst Rising (sym (answers.indices-whole numbersAt numbers-fit)) (rises.rises (gather kind ts))
 
-    numbers-named : (q : ℕ) → Among q (numbersIn (indicesOf numbersAt)) ↔ Among q (gather kind ts)
+    numbers-named : (q : ℕ) → In q (numbersIn (indicesOf numbersAt)) ↔ In q (gather kind ts)
     numbers-named q =
-        (λ w. rises.from-rising q (gather kind ts) (subst (Among q) (answers.indices-whole numbersAt numbers-fit) w),
-        λ a. subst (Among q) (sym (answers.indices-whole numbersAt numbers-fit)) (rises.into-rising q (gather kind ts) a))
+        (λ w. rises.from-rising q (gather kind ts) (subst (In q) (answers.indices-whole numbersAt numbers-fit) w),
+        λ a. subst (In q) (sym (answers.indices-whole numbersAt numbers-fit)) (rises.into-rising q (gather kind ts) a))
 
 -- A range up to the top
 
-top-named : (xs : List ℕ) → length xs ≤ 1 → (q : ℕ) → UpFrom (topOf xs) q ↔ Among q xs
+top-named : (xs : List ℕ) → length xs ≤ 1 → (q : ℕ) → UpFrom (topOf xs) q ↔ In q xs
 unfolding firstTop
 top-named [] h q = (λ u. absurd (omega (arith, u .0)), λ a. absurd a)
 top-named (x ∷ []) h q = (λ u. inl (sym (u .1)), ⊎-elim (λ e. (refl, sym e)) (λ a. absurd a))

@@ -1,7 +1,8 @@
--- Document 02, C-14, "the registers, constants and upvalues that lvm.c reads and writes in some execution, for all 83 opcodes": a case for
--- each opcode in the order of lopcodes.h, the C's own operation above it in lopcodes.h's notation. Each lists operands as the C names
--- them; order, repeats and neighbours are specs/Canonical.antt's matter. lvm.c goes before the header where the two differ (FORLOOP,
--- FORPREP, TFORLOOP), but "CALL, TAILCALL, TFORCALL and CONCAT go by their formulas in lopcodes.h".
+-- Document 02, C-14, "the registers, constants and upvalues that lvm.c reads and writes in some execution, for all 83
+-- opcodes": a case for each opcode in the order of lopcodes.h, the C's own operation above it in lopcodes.h's
+-- notation. Each lists operands as the C names them; order, repeats and neighbours are specs/Canonical.antt's matter.
+-- lvm.c goes before the header where the two differ (FORLOOP, FORPREP, TFORLOOP), but "CALL, TAILCALL, TFORCALL and
+-- CONCAT go by their formulas in lopcodes.h".
 -- Assumes nothing.
 use Prim.Native.Nat.{ℕ, _+_, _-_}
 use mathlib.Core.Bool.{cond}
@@ -191,7 +192,8 @@ switch =
     ∷ vmcase «OP_RETURN1» (always («R[A]» ∷ []) [])
     -- if the loop goes on: count, index and control variable are set, R[A+1], R[A], R[A+3]; pc -= Bx
     ∷ vmcase «OP_FORLOOP» (onEdge («R[A]» ∷ «R[A+1]» ∷ «R[A+2]» ∷ []) [] «p+1-Bx» («R[A]» ∷ «R[A+1]» ∷ «R[A+3]» ∷ []))
-    -- the integer loop sets R[A+3] before it looks whether to run; if not to run then pc += Bx + 1, else R[A] to R[A+3] are prepared
+    -- the integer loop sets R[A+3] before it looks whether to run; if not to run then pc += Bx + 1, else R[A] to
+    -- R[A+3] are prepared
     ∷ vmcase «OP_FORPREP» (onEdge («R[A]» ∷ «R[A+1]» ∷ «R[A+2]» ∷ []) («R[A+3]» ∷ []) «p+1» («R[A]» ∷ «R[A+1]» ∷ «R[A+2]» ∷ []))
     -- create upvalue for R[A + 3]; pc += Bx: "TBC and TFORPREP read the register they mark"
     ∷ vmcase «OP_TFORPREP» (always («R[A+3]» ∷ []) [])

@@ -1,7 +1,8 @@
--- lvm.c of Lua 5.4.8 once more, for what a word touches, in the C's own shape and order: for each case of luaV_execute's switch the ways
--- on, and on each way the executions that take it, with what they read and what they store. specs/Meaning.antt says that the lists
--- of specs/Touches.antt are those that follow from here: "the registers, constants and upvalues that lvm.c reads and writes in some
--- execution". An execution that ends in an error goes on nowhere and is left out.
+-- lvm.c of Lua 5.4.8 once more, for what a word touches, in the C's own shape and order: for each case of
+-- luaV_execute's switch the ways on, and on each way the executions that take it, with what they read and what they
+-- store. specs/Meaning.antt says that the lists of specs/Touches.antt are those that follow from here: "the
+-- registers, constants and upvalues that lvm.c reads and writes in some execution". An execution that ends in an
+-- error goes on nowhere and is left out.
 -- Assumes nothing.
 use Prim.Native.Nat.{ℕ, suc, _+_, _-_, _≤_, _<_}
 use mathlib.Core.Path.{_≡_}
@@ -13,6 +14,7 @@ use lib.IntN.{ℤ, pos, _+ℤ_, _-ℤ_}
 use lib.ListN.{getD}
 use Rattle.fields.specs.declared.word.RawInstruction54.{RawInstruction54}
 use Rattle.fields.specs.Opcodes.{«OP_MOVE», «OP_LOADI», «OP_LOADF», «OP_LOADK», «OP_LOADKX», «OP_LOADFALSE», «OP_LFALSESKIP», «OP_LOADTRUE», «OP_LOADNIL», «OP_GETUPVAL», «OP_SETUPVAL», «OP_GETTABUP», «OP_GETTABLE», «OP_GETI», «OP_GETFIELD», «OP_SETTABUP», «OP_SETTABLE», «OP_SETI», «OP_SETFIELD», «OP_NEWTABLE», «OP_SELF», «OP_ADDI», «OP_ADDK», «OP_SUBK», «OP_MULK», «OP_MODK», «OP_POWK», «OP_DIVK», «OP_IDIVK», «OP_BANDK», «OP_BORK», «OP_BXORK», «OP_SHRI», «OP_SHLI», «OP_ADD», «OP_SUB», «OP_MUL», «OP_MOD», «OP_POW», «OP_DIV», «OP_IDIV», «OP_BAND», «OP_BOR», «OP_BXOR», «OP_SHR», «OP_SHL», «OP_MMBIN», «OP_MMBINI», «OP_MMBINK», «OP_UNM», «OP_BNOT», «OP_NOT», «OP_LEN», «OP_CONCAT», «OP_CLOSE», «OP_TBC», «OP_JMP», «OP_EQ», «OP_LT», «OP_LE», «OP_EQK», «OP_EQI», «OP_LTI», «OP_LEI», «OP_GTI», «OP_GEI», «OP_TEST», «OP_TESTSET», «OP_CALL», «OP_TAILCALL», «OP_RETURN», «OP_RETURN0», «OP_RETURN1», «OP_FORLOOP», «OP_FORPREP», «OP_TFORPREP», «OP_TFORCALL», «OP_TFORLOOP», «OP_SETLIST», «OP_CLOSURE», «OP_VARARG», «OP_VARARGPREP», «OP_EXTRAARG»}
+use Rattle.runs.specs.Graph.{In}
 use Rattle.fields.specs.Lopcodes.{«GET_OPCODE», «GETARG_Bx», «GETARG_sJ», «TESTARG_k», instruction}
 
 -- What can be touched.
@@ -51,7 +53,8 @@ pub data Access : Type 0 where
   pieces : Access
   -- R[A+1], ... ,R[A+B-1], "if (B == 0) then B = top - A"
   arguments : Access
-  -- R[A], ... ,R[A+C-2], "if (C == 0), then 'top' is set to last_result+1"; of VARARG the values that luaT_getvarargs copies, C - 1 or all
+  -- R[A], ... ,R[A+C-2], "if (C == 0), then 'top' is set to last_result+1"; of VARARG the values that luaT_getvarargs
+  -- copies, C - 1 or all
   results : Access
   -- R[A+4], ... ,R[A+3+C]
   iterated : Access
@@ -266,7 +269,8 @@ switch =
     ∷ run («ra+2» ∷ «ra+1» ∷ «ra» ∷ []) []
     ∷ [])
     ∷ [])
-    -- forprep: an integer loop, which sets its control variable first of all, a float loop; first where the loop is skipped
+    -- forprep: an integer loop, which sets its control variable first of all, a float loop; first where the loop is
+    -- skipped
     ∷ vmcase «OP_FORPREP»
     (way «pc+=Bx+1»
     (run («ra» ∷ «ra+2» ∷ «ra+1» ∷ []) («ra+3» ∷ [])
@@ -349,9 +353,10 @@ WrittenOnAll ws p c =
 
 -- the way leads to word z
 abbrev pub LeadsTo : List ℕ → ℕ → ℤ → Way → Type 0
-LeadsTo ws p z (way go runs) = Any (λ (x : ℤ). z ≡ x) (next go (pos (p + 1)) (getD ws p 0))
+LeadsTo ws p z (way go runs) = In z (next go (pos (p + 1)) (getD ws p 0))
 
--- "A write that happens on one step only .. is listed with that step": written on a way that leads to word z, and not on every way
+-- "A write that happens on one step only .. is listed with that step": written on a way that leads to word z, and not
+-- on every way
 abbrev pub WrittenOnlyTo : List ℕ → ℕ → Cell → ℤ → Type 0
 WrittenOnlyTo ws p c z =
     Any (λ (w : Way). LeadsTo ws p z w × Touched ws p c (wayStores w)) (waysAt ws p)

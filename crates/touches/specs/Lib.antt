@@ -7,3 +7,4 @@ pub mod Touches
 pub mod Executions
 pub mod Meaning
 pub mod Table
+pub mod Laws

@@ -1,5 +1,5 @@
--- What the answer says, in document 02's words: that it has the form asked for, and that it lists exactly what lvm.c touches
--- (specs/Executions.antt). proofs/Meaning.antt proves it for every word.
+-- What the answer says, in document 02's words: that it has the form asked for, and that it lists exactly what lvm.c
+-- touches (specs/Executions.antt). proofs/Meaning.antt proves it for every word.
 -- Assumes nothing.
 use Prim.Native.Nat.{ℕ, _+_, _≤_, _<_}
 use mathlib.Core.Path.{_≡_}
@@ -8,6 +8,7 @@ use mathlib.Core.Bool.{true, false}
 use mathlib.Core.List.{List, [], _∷_}
 use lib.IntN.{ℤ, pos}
 use lib.ListN.{length, getD, take}
+use Rattle.runs.specs.Graph.{In}
 use Rattle.runs.specs.Successors.{successorsOf, isInvalid, isSuccessor}
 use Rattle.runs.specs.Lvm.{goesOn}
 use Rattle.touches.specs.declared.answer.Range.{Range}
@@ -30,11 +31,8 @@ abbrev pub Within : ℕ → List Range → Type 0
 Within q [] = ⊥
 Within q (x ∷ xs) = ((x .first ≤ q) × (q ≤ x .last)) ⊎ Within q xs
 
-abbrev pub Among : ℕ → List ℕ → Type 0
-Among q [] = ⊥
-Among q (x ∷ xs) = (q ≡ x) ⊎ Among q xs
-
--- "Each list rises without repeats; registers stand in longest ranges": between two ranges there is a register that is in neither
+-- "Each list rises without repeats; registers stand in longest ranges": between two ranges there is a register that
+-- is in neither
 abbrev pub GapAfter : ℕ → List Range → Type 0
 GapAfter last [] = Unit {0}
 GapAfter last (x ∷ xs) = last + 1 < x .first
@@ -71,15 +69,15 @@ UpFrom t first = (t .count ≡ 1) × (t .first ≡ first)
 
 abbrev pub NamedRead : Touches → Cell → Type 0
 NamedRead t (register q) = Within q (rangesIn (t .reads))
-NamedRead t (constant q) = Among q (numbersIn (t .constants))
-NamedRead t (upvalue q) = Among q (numbersIn (t .upvalues))
+NamedRead t (constant q) = In q (numbersIn (t .constants))
+NamedRead t (upvalue q) = In q (numbersIn (t .upvalues))
 NamedRead t (upToTop first) = UpFrom (t .«reads_to_top») first
 
 abbrev pub NamedWritten : Touches → Cell → Type 0
 NamedWritten t (register q) = Within q (rangesIn (t .writes))
 -- an answer has no list of these: nothing of the kind occurs
 NamedWritten t (constant q) = ⊥
-NamedWritten t (upvalue q) = Among q (numbersIn (t .«upvalue_writes»))
+NamedWritten t (upvalue q) = In q (numbersIn (t .«upvalue_writes»))
 NamedWritten t (upToTop first) = UpFrom (t .«writes_to_top») first
 
 abbrev pub NamedOnEdge : Touches → Cell → Type 0

@@ -1,4 +1,5 @@
--- The operands that lopcodes.h's comments name, and the registers, constants and upvalues that they stand for in a word.
+-- The operands that lopcodes.h's comments name, and the registers, constants and upvalues that they stand for in a
+-- word.
 -- Assumes nothing.
 use Prim.Native.Nat.{ℕ, _+_, _-_}
 use mathlib.Core.Bool.{cond}
@@ -46,9 +47,10 @@ pub data Operand : Type 0 where
 abbrev register : ℕ → Location
 register r = Registers r (r + 1)
 
--- What an operand stands for in a word with these fields, between a word with that A before it and one with that Ax after it. Registers
--- are given by the first and the one past the last: "ranges, which use 16 bits and never saturate", so a sum is a sum. "A range up to the
--- stack top is given apart, by its first register past those touched at every top": a case that touches R[A] at every top names it apart.
+-- What an operand stands for in a word with these fields, between a word with that A before it and one with that Ax
+-- after it. Registers are given by the first and the one past the last: "ranges, which use 16 bits and never
+-- saturate", so a sum is a sum. "A range up to the stack top is given apart, by its first register past those touched
+-- at every top": a case that touches R[A] at every top names it apart.
 abbrev pub locationOf : Operand → RawInstruction54 → ℕ → ℕ → Location
 locationOf nothing i before after = Nothing
 locationOf «R[A]» i before after = register (i .a)

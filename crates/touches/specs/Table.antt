@@ -1,10 +1,13 @@
--- The cases as numbers, for the code's table: nine digits of 32 for each opcode, three operands read, two written, the edge, and three written on
--- that edge only.
+-- The cases as numbers, for the code's table: nine digits of 32 for each opcode, three operands read, two written,
+-- the edge, and three written on that edge only.
 -- Assumes nothing.
-use Prim.Native.Nat.{ℕ, zero, suc, _+_, _*_, _/_, _%_}
+use Prim.Native.Nat.{ℕ, zero, suc, _+_, _-_, _*_, _/_, _%_}
+use mathlib.Core.Bool.{cond}
 use mathlib.Core.List.{List, [], _∷_}
 use lib.ListN.{getD}
 use Rattle.fields.specs.declared.word.RawInstruction54.{RawInstruction54}
+use Rattle.fields.specs.Word.{fieldsOf, opcodeOf, aOf, axOf}
+use Rattle.runs.specs.Successors.{successorsOf, isInvalid}
 use Rattle.touches.specs.declared.answer.Touches.{Touches}
 use Rattle.touches.specs.declared.locations.Location.the-variants.{Nothing}
 use Rattle.touches.specs.Operands.{Operand, nothing, «R[A]», «R[A+1]», «R[A+2]», «R[A+3]», «R[A+4]», «R[B]», «R[C]», «RK[C]», «R[A]-before», «K[B]», «K[C]», «K[Bx]», «K[Ax]-after», «UpValue[A]», «UpValue[B]», «R[A…A+B]», «R[A…A+B-1]», «R[A+1…A+B-1]», «R[A…A+B-2]», «R[A+1…A+B]», «R[A…A+C-2]», «R[A+4…A+3+C]», locationOf}
@@ -120,3 +123,10 @@ touchesFrom row i before after p =
     ∷ locationOf (operandFrom (row / 34359738368 % 32)) i before after
     ∷ locationOf (operandFrom (row / 1099511627776 % 32)) i before after
     ∷ [])
+
+-- what word p touches by the rows of a table that a caller lends; specs/Laws.antt has that with `accessTable` it is
+-- `touchesOf`
+unfoldable pub touchesWith : List ℕ → List ℕ → ℕ → Touches
+touchesWith rows ws p =
+    cond (isInvalid (successorsOf ws p)) (touchesBy [] [] 0 [])
+    (touchesFrom (getD rows (opcodeOf (getD ws p 0)) 0) (fieldsOf (getD ws p 0)) (aOf (getD ws (p - 1) 0)) (axOf (getD ws (p + 1) 0)) p)

@@ -18,8 +18,8 @@ abbrev pub locationsOf : List Operand → RawInstruction54 → ℕ → ℕ → L
 locationsOf [] i before after = []
 locationsOf (x ∷ xs) i before after = locationOf x i before after ∷ locationsOf xs i before after
 
--- what is read, written on every way on, and written on one way on only: "each list rises without repeats; registers stand in longest
--- ranges .., and a range up to the stack top is given apart"
+-- what is read, written on every way on, and written on one way on only: "each list rises without repeats; registers
+-- stand in longest ranges .., and a range up to the stack top is given apart"
 unfoldable pub touchesBy : List Location → List Location → ℕ → List Location → Touches
 touchesBy reads writes edge more =
     record {

@@ -1,4 +1,4 @@
-// The operands that lopcodes.h's comments name, numbered as specs/Operands.antt has them.
+// The operands that lopcodes.h's comments name, numbered as specs/Table.antt has them.
 
 pub const NOTHING: u64 = 0;
 

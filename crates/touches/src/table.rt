@@ -148,7 +148,7 @@ pub const TABLE: [u64; 128] = [
     0,
     // OP_RETURN1: return R[A]
     READ * R_A,
-    // OP_FORLOOP: idx += edge; count--; if it goes on, R[A], R[A+1] and R[A+3] are set and pc -= Bx
+    // OP_FORLOOP: if the loop goes on, R[A+1], R[A] and R[A+3] are set; pc -= Bx
     READ * R_A
         + READ_2 * R_A_1
         + READ_3 * R_A_2
@@ -156,7 +156,7 @@ pub const TABLE: [u64; 128] = [
         + ON_EDGE * R_A
         + ON_EDGE_2 * R_A_1
         + ON_EDGE_3 * R_A_3,
-    // OP_FORPREP: R[A+3] := init; if not to run then pc += Bx + 1, else the counters are set
+    // OP_FORPREP: the integer loop sets R[A+3] first; if not to run then pc += Bx + 1, else R[A] to R[A+3] are prepared
     READ * R_A
         + READ_2 * R_A_1
         + READ_3 * R_A_2

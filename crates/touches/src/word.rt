@@ -3,10 +3,10 @@ ghost use mathlib.Core.Path.{_≡_};
 ghost use mathlib.Core.List.{[], _∷_};
 ghost use Prim.Native.Nat.{_+_, _-_, _/_, _%_, _^_, _*_, _<_};
 ghost use lib.ListN.{length, getD};
-ghost use Rattle.fields.specs.Word.{opcodeOf, aOf};
+ghost use Rattle.fields.specs.Word.{fieldsOf, opcodeOf, aOf, axOf};
 ghost use Rattle.touches.specs.Cases.{edgeOf};
-ghost use Rattle.touches.specs.Table.{accessTable, edgeFrom, touchesFrom};
-ghost use Rattle.touches.specs.Touches.{touchesBy, touchesIn, touchesOf};
+ghost use Rattle.touches.specs.Table.{accessTable, edgeFrom, touchesFrom, touchesWith};
+ghost use Rattle.touches.specs.Touches.{touchesBy, touchesOf};
 use crate::answer::Touches;
 use crate::indices::constants_in;
 use crate::indices::upvalues_in;
@@ -136,8 +136,8 @@ fn previous(p: usize) -> usize
 
 // The answer for a word that is not bad.
 fn touches_at(rows: &[u64; 128], words: &[u32], p: usize) -> Touches
-    requires { ⌜ (p < length (now words)) × (now rows ≡ accessTable) ⌝ }
-    ensures { λ r. ⌜ r ≡ touchesIn (now (words .entry)) p ⌝ }
+    requires { ⌜ p < length (now words) ⌝ }
+    ensures { λ r. ⌜ r ≡ touchesFrom (getD (now (rows .entry)) (opcodeOf (getD (now (words .entry)) p 0)) 0) (fieldsOf (getD (now (words .entry)) p 0)) (aOf (getD (now (words .entry)) (p - 1) 0)) (axOf (getD (now (words .entry)) (p + 1) 0)) p ⌝ }
 {
     let word = words[p];
     let before = a_of(word_at(words, previous(p)));
@@ -151,10 +151,9 @@ fn touches_at(rows: &[u64; 128], words: &[u32], p: usize) -> Touches
     )
 }
 
-// By a lent copy of the table: what loops call.
+// By a table that the caller lends: what loops call, with the one that `table` gives.
 pub fn touches_in(rows: &[u64; 128], words: &[u32], p: usize) -> Touches
-    requires { ⌜ now rows ≡ accessTable ⌝ }
-    ensures { λ r. ⌜ r ≡ touchesOf (now (words .entry)) p ⌝ }
+    ensures { λ r. ⌜ r ≡ touchesWith (now (rows .entry)) (now (words .entry)) p ⌝ }
 {
     let successors = runs::successors::successors(words, p);
     match successors {

@@ -1,4 +1,5 @@
-// Each of the 83 opcodes, with k 0 and with k 1, as the second of four words whose first and third are the companions that it wants.
+// Each of the 83 opcodes, with k 0 and with k 1, as the second of four words whose first and third are the companions
+// that it wants.
 use crate::print;
 use crate::words::*;
 use fields::opcodes::*;

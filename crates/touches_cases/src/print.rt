@@ -1,23 +1,13 @@
 // What the cases print: only lists that hold something.
-use libc::STDOUT_FILENO;
+use print_cases::end;
+use print_cases::number;
+use print_cases::number_u32;
+use print_cases::text;
 use touches::answer::Indices;
 use touches::answer::Range;
 use touches::answer::Ranges;
 use touches::answer::Top;
 use touches::answer::Touches;
-
-fn text(label: &[u8]) {
-    io::write_all(STDOUT_FILENO, label);
-}
-
-fn number(n: u64) {
-    text(b" ");
-    io::print_decimal(STDOUT_FILENO, n);
-}
-
-fn of_word(x: u32) -> u64 {
-    x as u64
-}
 
 fn range(r: Range) {
     number(r.first as u64);
@@ -51,13 +41,13 @@ fn indices(label: &[u8], r: Indices) {
     let items = r.items;
     if r.count > 0 {
         text(label);
-        number(of_word(items[0]));
+        number_u32(items[0]);
     }
     if r.count > 1 {
-        number(of_word(items[1]));
+        number_u32(items[1]);
     }
     if r.count > 2 {
-        number(of_word(items[2]));
+        number_u32(items[2]);
     }
 }
 
@@ -86,5 +76,5 @@ pub fn touches(t: Touches) {
         text(b" on the way to");
         number(t.edge as u64);
     }
-    text(b"\n");
+    end();
 }

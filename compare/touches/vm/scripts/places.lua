@@ -1,5 +1,5 @@
--- Words whose listed places the other scripts do not all show: numbers and metamethods for each arithmetic word, loops that run and loops
--- that are skipped, over integers and floats.
+-- Words whose listed places the other scripts do not all show: numbers and metamethods for each arithmetic word,
+-- loops that run and loops that are skipped, over integers and floats.
 local object = setmetatable({}, {
   __add = function() return 1 end, __sub = function() return 2 end, __mul = function() return 3 end, __mod = function() return 4 end,
   __pow = function() return 5 end, __div = function() return 6 end, __idiv = function() return 7 end, __band = function() return 8 end,

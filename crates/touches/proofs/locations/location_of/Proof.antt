@@ -1,12 +1,14 @@
--- `touches::locations::location_of` meets its contract: each arm by its operand, the last by the law of the indices.
+-- `touches::locations::location_of` meets its contract: each arm by its operand, the last by its callee.
 -- Assumes nothing.
 use borrow.Author.Tests.{ne-eqb}
-use Rattle.runs.proofs.Order.{past-all}
+use Rattle.common.proofs.Order.{past-all}
 use Rattle.touches.specs.Table.{operandFrom}
-use Rattle.touches.proofs.Rows.{operand-past}
 use borrow.Author.Needs.{needs}
 use Rattle.touches.proofs.locations.location_of.Statement.{statement}
 use Rattle.touches.proofs.locations.location_of.Tie as tie
+
+stretch-of-requires : tie.Need-stretch-of-requires
+stretch-of-requires c κs = past-all 16 _ (c .match .rest)
 
 returns : tie.Need-returns
 unfolding operandFrom
@@ -77,48 +79,7 @@ unfolding operandFrom
 returns-17 c = rw (c .match .keys16)
 
 returns-18 : tie.Need-returns-18
-unfolding operandFrom
-returns-18 c = rw (c .match .keys17)
-
-returns-19 : tie.Need-returns-19
-unfolding operandFrom
-returns-19 c = rw (c .match .keys18)
-
-returns-20 : tie.Need-returns-20
-unfolding operandFrom
-returns-20 c = rw (c .before .match .keys19, c .if2 .taken)
-
-returns-21 : tie.Need-returns-21
-unfolding operandFrom
-returns-21 c = rw (c .before .match .keys19, ne-eqb _ _ (c .if2 .left))
-
-returns-22 : tie.Need-returns-22
-unfolding operandFrom
-returns-22 c = rw (c .before .match .keys20, c .if3 .taken)
-
-returns-23 : tie.Need-returns-23
-unfolding operandFrom
-returns-23 c = rw (c .before .match .keys20, ne-eqb _ _ (c .if3 .left))
-
-returns-24 : tie.Need-returns-24
-unfolding operandFrom
-returns-24 c = rw (c .before .match .keys21, c .if4 .taken)
-
-returns-25 : tie.Need-returns-25
-unfolding operandFrom
-returns-25 c = rw (c .before .match .keys21, ne-eqb _ _ (c .if4 .left))
-
-returns-26 : tie.Need-returns-26
-unfolding operandFrom
-returns-26 c = rw (c .before .match .keys22, c .if5 .taken)
-
-returns-27 : tie.Need-returns-27
-unfolding operandFrom
-returns-27 c = rw (c .before .match .keys22, ne-eqb _ _ (c .if5 .left))
-
-returns-28 : tie.Need-returns-28
-unfolding operandFrom
-returns-28 c = rw (operand-past (c .before .before .before .before .args .operand) (past-all 22 _ (c .match .rest)))
+returns-18 c = c .stretch-of .ensures _ _
 
 pub location-of-spec : {M : Type 1} → statement M
-location-of-spec = tie.close (tie.spec (λ c. search needs) (λ c. search needs) (λ c. search needs) (λ c. search needs) (λ c. search needs) (λ c. search needs) (λ c. search needs) (λ c. search needs) (λ c. search needs) (λ c. search needs) (λ c. search needs) (λ c. search needs) (λ c. search needs) (λ c. search needs) (λ c. search needs) (λ c. search needs) (λ c. search needs) (λ c. search needs) (λ c. search needs) (λ c. search needs) (λ c. search needs) (λ c. search needs) (λ c. search needs) (λ c. search needs) (λ c. search needs) (λ c. search needs) (λ c. search needs) (λ c. search needs) (λ c. search needs) (λ c. search needs) (λ c. search needs) (λ c. search needs) (λ c. search needs) (λ c. search needs) (λ c. search needs) (λ c. search needs) (λ c. search needs) (λ c. search needs) returns returns-2 returns-3 returns-4 returns-5 returns-6 returns-7 returns-8 returns-9 returns-10 returns-11 returns-12 returns-13 returns-14 returns-15 returns-16 returns-17 returns-18 returns-19 returns-20 returns-21 returns-22 returns-23 returns-24 returns-25 returns-26 returns-27 returns-28)
+location-of-spec = tie.close (tie.spec (λ c. search needs) (λ c. search needs) (λ c. search needs) (λ c. search needs) (λ c. search needs) (λ c. search needs) (λ c. search needs) (λ c. search needs) (λ c. search needs) (λ c. search needs) (λ c. search needs) (λ c. search needs) (λ c. search needs) (λ c. search needs) (λ c. search needs) (λ c. search needs) (λ c. search needs) (λ c. search needs) (λ c. search needs) (λ c. search needs) (λ c. search needs) stretch-of-requires returns returns-2 returns-3 returns-4 returns-5 returns-6 returns-7 returns-8 returns-9 returns-10 returns-11 returns-12 returns-13 returns-14 returns-15 returns-16 returns-17 returns-18)

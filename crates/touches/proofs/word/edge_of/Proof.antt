@@ -1,7 +1,7 @@
 -- `touches::word::edge_of` meets its contract.
 -- Assumes nothing.
 use native.Mathlib.Omega.{arith}
-use Rattle.runs.proofs.Order.{past-all}
+use Rattle.common.proofs.Order.{past-all}
 use Rattle.touches.specs.Table.{edgeFrom}
 use Rattle.touches.proofs.Rows.{edge-past}
 use borrow.Author.Needs.{needs}

@@ -1,6 +1,7 @@
--- `touches::word::table` meets its contract: antt computes the 128 indices from the cases and holds the table against them.
+-- `touches::word::table` meets its contract: antt computes the 128 numbers from the cases and holds the table against
+-- them.
 -- Assumes nothing.
-use Rattle.fields.proofs.Entries.{by-test}
+use Rattle.touches.proofs.Choices.{by-test}
 use Rattle.touches.specs.Cases.{accessesOf}
 use Rattle.touches.specs.Table.{accessTable}
 use Rattle.touches.proofs.word.table.Statement.{statement}
