@@ -264,14 +264,16 @@ module _ (i pi ni : RawInstruction54) (c : Cell) where
       pub edge-into :
           ((w : Way) → T (leads (a .edge) (goOf w)) → Leads w) → Any Is (a .«edge-writes») →
           Any (λ (w : Way). Leads w × StoredOn w) ways × (All StoredOn ways → ⊥)
-      edge-into over r =
-          (every-any Is (λ (x : Operand). some (λ (w : Way). cond (leads (a .edge) (goOf w)) (has (stores w) x) false) ways) (a .«edge-writes») (agrees .written-over-edge) r
-          (λ x t h.
-          some-any (λ (w : Way). Leads w × StoredOn w) (λ (w : Way). cond (leads (a .edge) (goOf w)) (has (stores w) x) false) ways t
-          (λ w s.
-          (over w (left-of (leads (a .edge) (goOf w)) _ s),
-          into-accesses (wayStores w) (found x (stores w) (right-of (leads (a .edge) (goOf w)) _ s) h)))),
-          not-every-way r)
+      edge-into over r = (
+        every-any Is (λ (x : Operand). some (λ (w : Way). cond (leads (a .edge) (goOf w)) (has (stores w) x) false) ways) (a .«edge-writes») (agrees .written-over-edge) r
+            (λ x t h.
+            some-any (λ (w : Way). Leads w × StoredOn w) (λ (w : Way). cond (leads (a .edge) (goOf w)) (has (stores w) x) false) ways t
+            (λ w s. (
+              over w (left-of (leads (a .edge) (goOf w)) _ s),
+              into-accesses (wayStores w) (found x (stores w) (right-of (leads (a .edge) (goOf w)) _ s) h),
+            ))),
+        not-every-way r,
+      )
 
     -- kinds that an answer has no list for
     pub never : (k : ℕ) (xs : List Operand) → T (every (bars k) xs) → kind c ≡ k → Any Is xs → ⊥

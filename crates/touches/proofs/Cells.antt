@@ -131,24 +131,28 @@ one-top r (upToTop q) = (λ e. inl (ap index e), ⊎-elim (λ h. ap upToTop h) (
 -- registers by how far they are from a base
 module _ (base first end : ℕ) (P : ℕ → Type 0) (low : base ≤ first) (to : (j : ℕ) → P j → (first ≤ base + j) × (base + j < end)) (fro : (q : ℕ) → first ≤ q → q < end → P (q - base)) where
   stretch : (c : Cell) → ((j : ℕ) × (P j × (c ≡ register (base + j)))) ↔ At c (Registers first end)
-  stretch (register q) =
-      (λ (s : (j : ℕ) × (P j × (register q ≡ register (base + j)))). inl (put (s .0) (to (s .0) (s .1 .0)) (ap index (s .1 .1))),
-      ⊎-elim (λ (h : (first ≤ q) × (q < end)). (q - base, (fro q (h .0) (h .1), ap register (back q (h .0))))) (λ a. absurd a))
+  stretch (register q) = (
+    λ (s : (j : ℕ) × (P j × (register q ≡ register (base + j)))). inl (put (s .0) (to (s .0) (s .1 .0)) (ap index (s .1 .1))),
+    ⊎-elim (λ (h : (first ≤ q) × (q < end)). (q - base, (fro q (h .0) (h .1), ap register (back q (h .0))))) (λ a. absurd a),
+  )
     where
       put : (j : ℕ) → (first ≤ base + j) × (base + j < end) → q ≡ base + j → (first ≤ q) × (q < end)
       put j h e = (omega (arith, h .0), omega (arith, h .1))
 
       back : (q : ℕ) → first ≤ q → q ≡ base + (q - base)
       back q h = omega arith
-  stretch (constant q) =
-      (λ (s : (j : ℕ) × (P j × (constant q ≡ register (base + j)))). apart (constant q) (register (base + s .0)) (λ h. omega arith) (s .1 .1),
-      λ a. absurd a)
-  stretch (upvalue q) =
-      (λ (s : (j : ℕ) × (P j × (upvalue q ≡ register (base + j)))). apart (upvalue q) (register (base + s .0)) (λ h. omega arith) (s .1 .1),
-      λ a. absurd a)
-  stretch (upToTop q) =
-      (λ (s : (j : ℕ) × (P j × (upToTop q ≡ register (base + j)))). apart (upToTop q) (register (base + s .0)) (λ h. omega arith) (s .1 .1),
-      λ a. absurd a)
+  stretch (constant q) = (
+    λ (s : (j : ℕ) × (P j × (constant q ≡ register (base + j)))). apart (constant q) (register (base + s .0)) (λ h. omega arith) (s .1 .1),
+    λ a. absurd a,
+  )
+  stretch (upvalue q) = (
+    λ (s : (j : ℕ) × (P j × (upvalue q ≡ register (base + j)))). apart (upvalue q) (register (base + s .0)) (λ h. omega arith) (s .1 .1),
+    λ a. absurd a,
+  )
+  stretch (upToTop q) = (
+    λ (s : (j : ℕ) × (P j × (upToTop q ≡ register (base + j)))). apart (upToTop q) (register (base + s .0)) (λ h. omega arith) (s .1 .1),
+    λ a. absurd a,
+  )
 
 -- one register
 pub one-register : (r end : ℕ) → end ≡ suc r → (c : Cell) → (c ≡ register r) ↔ At c (Registers r end)
@@ -165,9 +169,10 @@ or-top :
 or-top n first t c R none both = go (eqb n 0) refl
   where
     go : (b : Bool) → eqb n 0 ≡ b → (((n ≡ 0) × (c ≡ upToTop first)) ⊎ R) ↔ At c (cond b (ToTop first) t)
-    go true e =
-        (⊎-elim (λ (h : (n ≡ 0) × (c ≡ upToTop first)). one-top first c .0 (h .1)) (λ r. absurd (none (eqb-true n 0 e) r)),
-        λ a. inl (eqb-true n 0 e, one-top first c .1 a))
+    go true e = (
+      ⊎-elim (λ (h : (n ≡ 0) × (c ≡ upToTop first)). one-top first c .0 (h .1)) (λ r. absurd (none (eqb-true n 0 e) r)),
+      λ a. inl (eqb-true n 0 e, one-top first c .1 a),
+    )
     go false e =
         (⊎-elim (λ (h : (n ≡ 0) × (c ≡ upToTop first)). absurd (eqb-false n 0 e (h .0))) (λ r. both .0 r), λ a. inr (both .1 a))
 
@@ -178,14 +183,16 @@ or-constant k n c = go (eqb k 0) refl
   where
     go : (b : Bool) → eqb k 0 ≡ b →
         (((k ≡ 0) × (c ≡ register n)) ⊎ ((k ≡ 0 → ⊥) × (c ≡ constant n))) ↔ At c (cond b (Registers n (n + 1)) (Constant n))
-    go true e =
-        (⊎-elim (λ (h : (k ≡ 0) × (c ≡ register n)). one-register n (n + 1) (omega arith) c .0 (h .1))
-        (λ (h : (k ≡ 0 → ⊥) × (c ≡ constant n)). absurd (h .0 (eqb-true k 0 e))),
-        λ a. inl (eqb-true k 0 e, one-register n (n + 1) (omega arith) c .1 a))
-    go false e =
-        (⊎-elim (λ (h : (k ≡ 0) × (c ≡ register n)). absurd (eqb-false k 0 e (h .0)))
-        (λ (h : (k ≡ 0 → ⊥) × (c ≡ constant n)). one-constant n c .0 (h .1)),
-        λ a. inr (eqb-false k 0 e, one-constant n c .1 a))
+    go true e = (
+      ⊎-elim (λ (h : (k ≡ 0) × (c ≡ register n)). one-register n (n + 1) (omega arith) c .0 (h .1))
+          (λ (h : (k ≡ 0 → ⊥) × (c ≡ constant n)). absurd (h .0 (eqb-true k 0 e))),
+      λ a. inl (eqb-true k 0 e, one-register n (n + 1) (omega arith) c .1 a),
+    )
+    go false e = (
+      ⊎-elim (λ (h : (k ≡ 0) × (c ≡ register n)). absurd (eqb-false k 0 e (h .0)))
+          (λ (h : (k ≡ 0 → ⊥) × (c ≡ constant n)). one-constant n c .0 (h .1)),
+      λ a. inr (eqb-false k 0 e, one-constant n c .1 a),
+    )
 
 -- The operand that an access of the C is
 

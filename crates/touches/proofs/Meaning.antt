@@ -182,10 +182,10 @@ exact-of ws p valid t e d =
       reads = λ c. subst (λ (x : Touches). NamedRead x c ↔ Reads ws p c) (sym whole-is) (read-exact ws p c);
       writes = λ c. subst (λ (x : Touches). NamedWritten x c ↔ WrittenOnAll ws p c) (sym whole-is) (write-exact ws p c);
       «edge-writes» =
-        λ c z.
-        subst (λ (x : Touches). (NamedOnEdge x c × (z ≡ pos (x .edge))) ↔ WrittenOnlyTo ws p c z) (sym whole-is) (edge-exact ws p valid c z);
+          λ c z.
+          subst (λ (x : Touches). (NamedOnEdge x c × (z ≡ pos (x .edge))) ↔ WrittenOnlyTo ws p c z) (sym whole-is) (edge-exact ws p valid c z);
       edge =
-        subst (λ (x : Touches). 0 < x .«edge_writes» .count → isSuccessor ws p (x .edge) ≡ true) (sym whole-is) (successor ws p valid);
+          subst (λ (x : Touches). 0 < x .«edge_writes» .count → isSuccessor ws p (x .edge) ≡ true) (sym whole-is) (successor ws p valid);
     }
 
 touches-valid : (ws : List ℕ) (p : ℕ) → isInvalid (successorsOf ws p) ≡ false → touchesOf ws p ≡ touchesIn ws p

@@ -62,14 +62,15 @@ module _ (ts : List Location) (few : length ts ≤ 3) where
       subst Longest (sym (answers.ranges-whole rangesAt ranges-fit)) (answers.longest rangesAt (ranges.rises (gather intervalsOf ts)))
 
   ranges-named : (q : ℕ) → Within q (rangesIn (rangesOf rangesAt)) ↔ Any (At (register q)) ts
-  ranges-named q =
-      (λ w.
-      gathered (register q) ts .0
-      (ranges.from-canonical q (gather intervalsOf ts)
-      (answers.within-from q rangesAt (ranges.rises (gather intervalsOf ts)) (subst (Within q) (answers.ranges-whole rangesAt ranges-fit) w))),
-      λ a.
-      subst (Within q) (sym (answers.ranges-whole rangesAt ranges-fit))
-      (answers.within-into q rangesAt (ranges.into-canonical q (gather intervalsOf ts) (gathered (register q) ts .1 a))))
+  ranges-named q = (
+    λ w.
+        gathered (register q) ts .0
+        (ranges.from-canonical q (gather intervalsOf ts)
+        (answers.within-from q rangesAt (ranges.rises (gather intervalsOf ts)) (subst (Within q) (answers.ranges-whole rangesAt ranges-fit) w))),
+    λ a.
+        subst (Within q) (sym (answers.ranges-whole rangesAt ranges-fit))
+        (answers.within-into q rangesAt (ranges.into-canonical q (gather intervalsOf ts) (gathered (register q) ts .1 a))),
+  )
 
   -- indices of a kind
   module _ (kind : Location → List ℕ) (one : (t : Location) → length (kind t) ≤ 1) where
@@ -83,9 +84,10 @@ module _ (ts : List Location) (few : length ts ≤ 3) where
     numbers-form = subst Rising (sym (answers.indices-whole numbersAt numbers-fit)) (rises.rises (gather kind ts))
 
     numbers-named : (q : ℕ) → In q (numbersIn (indicesOf numbersAt)) ↔ In q (gather kind ts)
-    numbers-named q =
-        (λ w. rises.from-rising q (gather kind ts) (subst (In q) (answers.indices-whole numbersAt numbers-fit) w),
-        λ a. subst (In q) (sym (answers.indices-whole numbersAt numbers-fit)) (rises.into-rising q (gather kind ts) a))
+    numbers-named q = (
+      λ w. rises.from-rising q (gather kind ts) (subst (In q) (answers.indices-whole numbersAt numbers-fit) w),
+      λ a. subst (In q) (sym (answers.indices-whole numbersAt numbers-fit)) (rises.into-rising q (gather kind ts) a),
+    )
 
 -- A range up to the top
 

@@ -119,10 +119,7 @@ pub fn bad_words() {
     show(b"EXTRAARG", ax(OP_EXTRAARG, 1));
     show(b"unknown 83", 83);
     show(b"unknown 127", 127);
-    let words = [
-        abc(OP_MOVE, 1, 0, 2, 0),
-        abc(OP_MOVE, 1, 0, 2, 0),
-    ];
+    let words = [abc(OP_MOVE, 1, 0, 2, 0), abc(OP_MOVE, 1, 0, 2, 0)];
     show_at(b"MOVE, a word after it", &words, 0);
     show_at(b"MOVE as the last word", &words, 1);
     show_at(b"word 2 of 2", &words, 2);

@@ -6,11 +6,19 @@ use fields::opcodes::*;
 use fields::word::OFFSET_SJ;
 
 fn is_arithmetic(opcode: u8) -> bool {
-    if OP_ADDI <= opcode { opcode <= OP_SHR } else { false }
+    if OP_ADDI <= opcode {
+        opcode <= OP_SHR
+    } else {
+        false
+    }
 }
 
 fn is_test(opcode: u8) -> bool {
-    if OP_EQ <= opcode { opcode <= OP_TESTSET } else { false }
+    if OP_EQ <= opcode {
+        opcode <= OP_TESTSET
+    } else {
+        false
+    }
 }
 
 fn has_bx(opcode: u8) -> bool {
