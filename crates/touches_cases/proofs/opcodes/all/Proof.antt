@@ -11,31 +11,24 @@ Inv-loop opcode₀ opcode = opcode ≤ 83
 abbrev μ-loop : tie.MeasureT-loop
 μ-loop opcode₀ opcode = 83 - opcode
 
--- src/opcodes.rt:68:5
 loop-holds : tie.Need-loop-holds Inv-loop μ-loop
 loop-holds c = search needs
 
--- src/opcodes.rt:69:9
 show-requires : tie.Need-show-requires Inv-loop μ-loop
 show-requires c κs = search needs
 
--- src/opcodes.rt:70:9
 show-requires-2 : tie.Need-show-requires-2 Inv-loop μ-loop
 show-requires-2 c κs = search needs
 
--- src/opcodes.rt:68:9
 add-opcode : tie.Need-add-opcode Inv-loop μ-loop
 add-opcode c = search needs
 
--- src/opcodes.rt:68:5
 loop-less : tie.Need-loop-less Inv-loop μ-loop
 loop-less c = search needs
 
--- src/opcodes.rt:68:5
 loop-again : tie.Need-loop-again Inv-loop μ-loop
 loop-again c = search needs
 
--- src/opcodes.rt:67:1
 returns : tie.Need-returns Inv-loop μ-loop
 returns c = search needs
 
