@@ -9,7 +9,7 @@ use Rattle.touches.proofs.word.touches.Tie as tie
 
 returns : tie.Need-returns
 returns c =
-    let start = c .before .before .before in
+    let start = c .before .before .before .before in
     c .touches-in .ensures ∙ rw (c .before .before .table .ensures) (by-table (now (start .args .words)) (start .args .p))
 
 pub touches-spec : {M : Type 1} → statement M
