@@ -1,0 +1,33 @@
+// Compiled files: a Lua 5.4 binary chunk, read as lundump.c of 5.4.8 does, and any chosen function's words, tags, payloads and names.
+mod bytes;
+mod constants;
+mod counts;
+mod filling;
+mod functions;
+mod items;
+mod limits;
+mod locating;
+mod names;
+mod numbers;
+mod parts;
+mod reading;
+mod strings;
+
+pub use constants::ConstantRead;
+pub use constants::Packed;
+pub use counts::Counts;
+pub use counts::lawendeb_chunk_count;
+pub use filling::lawendeb_chunk_fill;
+pub use functions::Layout;
+pub use functions::Search;
+pub use functions::Walk;
+pub use items::Kind;
+pub use locating::Located;
+pub use names::Place;
+pub use names::Shown;
+pub use names::lawendeb_upvalue_name;
+pub use names::upvalue_name;
+pub use reading::Cursor;
+pub use reading::Refusal;
+pub use strings::Placed;
+pub use strings::StringRead;
