@@ -56,7 +56,6 @@ unfolding wordsFrom
 words-count zero bytes at = refl
 words-count (suc n) bytes at = ap suc (words-count n bytes (at + 4))
 
-
 -- "names, one per upvalue"
 replicate-length : (n : ℕ) → length (replicate {A = Text} n absent) ≡ n
 replicate-length zero = refl

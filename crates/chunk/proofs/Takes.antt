@@ -166,11 +166,11 @@ module _ (bytes : List ℕ) (start size next : ℕ) where
   -- of the arms of the switch only the last two but one give a string
   inside-arms : (i t at : ℕ) (n f u l j s g : Bool)
       → cond n (done (plain «TAG_NIL» 0) at)
-        (cond f (done (plain «TAG_FALSE» 0) at)
-        (cond u (done (plain «TAG_TRUE» 0) at)
-        (cond l (bind (loadNumber bytes at) (λ x at₁. done (plain «TAG_FLOAT» x) at₁))
-        (cond j (bind (loadInteger bytes at) (λ x at₁. done (plain «TAG_INTEGER» x) at₁))
-        (cond s (loadString bytes at) (cond g (loadString bytes at) (refused (UnknownTag i)))))))) ≡ done (string start size) next
+      (cond f (done (plain «TAG_FALSE» 0) at)
+      (cond u (done (plain «TAG_TRUE» 0) at)
+      (cond l (bind (loadNumber bytes at) (λ x at₁. done (plain «TAG_FLOAT» x) at₁))
+      (cond j (bind (loadInteger bytes at) (λ x at₁. done (plain «TAG_INTEGER» x) at₁))
+      (cond s (loadString bytes at) (cond g (loadString bytes at) (refused (UnknownTag i)))))))) ≡ done (string start size) next
       → start + size ≤ length bytes
   inside-arms i t at true f u l j s g h = absurd (let z : _≡_ {A = ℕ} 0 1 = cc in omega arith)
   inside-arms i t at false true u l j s g h = absurd (let z : _≡_ {A = ℕ} 0 1 = cc in omega arith)

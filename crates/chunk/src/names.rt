@@ -139,9 +139,11 @@ pub fn upvalue_name<'a>(
 {
     let shown = lawendeb_upvalue_name(chunk, own, list, other, index);
     let start = shown.start as usize;
-    let end = start + shown.size as usize;
+    let size = shown.size as usize;
     if shown.in_chunk == 1 {
+        let end = start + size;
         return &chunk[start..end];
     }
+    let end = start + size;
     &list[start..end]
 }

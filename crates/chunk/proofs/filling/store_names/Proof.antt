@@ -50,7 +50,7 @@ loop-less : tie.Need-loop-less Inv-loop μ-loop
 loop-less c = omega arith
 
 loop-again : tie.Need-loop-again Inv-loop μ-loop
-loop-again c = 
+loop-again c =
     let l = c .before .before .before .before .before .loop in
     let e = l .inv .0 in
     let v = is-named _ _ _ _ _ (c .before .before .before .name-at .ensures) (c .before .s .given .1) in
