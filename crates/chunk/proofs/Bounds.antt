@@ -1,18 +1,21 @@
 -- What a part of a function comes to, once its count is read.
--- Assumes none.
+-- Assumes nothing.
 use mathlib.Core.Path.{_≡_, refl, sym, _∙_, ap}
+use mathlib.Core.Bool.{Bool, true, false}
 use mathlib.Core.List.{List, [], _∷_}
 use Prim.Native.Nat.{ℕ, zero, suc, _+_, _*_, _-_, _≤_, _<_}
 use native.Mathlib.Omega.{arith}
+use lib.Dec.{leb}
 use lib.ListN.{length, replicate}
-use borrow.Author.Tests.{le-leb, lt-leb}
+use borrow.Author.Tests.{leb-true, le-leb, lt-leb}
 use Rattle.chunk.specs.declared.reading.Refusal.{Refusal}
 use Rattle.chunk.specs.declared.reading.Refusal.the-variants.{Malformed}
 use Rattle.chunk.specs.declared.reading.Cursor.{Cursor}
 use Rattle.chunk.specs.declared.reading.Cursor.the-variants.{At, Refused}
+use Rattle.chunk.specs.Limits.{mostWords, mostNames}
 use Rattle.chunk.specs.Reading.{Result, done, refused, Reader, bind, only, repeat}
 use Rattle.chunk.specs.Cursors.{step, cursorOf, valued, same, none, countOf}
-use Rattle.chunk.specs.Lundump.{Text, absent, loadBlock, loadInt, loadVector, loadItems, loadNames, namesFrom, loadName, wordsFrom}
+use Rattle.chunk.specs.Lundump.{Text, absent, Vector, loadBlock, loadInt, loadVector, loadItems, loadCode, loadUpvalues, loadNames, namesFrom, loadName, wordsFrom}
 use Rattle.chunk.proofs.Steps.{seen}
 use Rattle.chunk.proofs.Binds.{reached, replaced}
 use Rattle.chunk.proofs.Repeats.{all-of, repeat-length}
@@ -74,3 +77,51 @@ module _ (bytes : List ℕ) (upvalues at : ℕ) (names : List Text) (next : ℕ)
   pub names-length : loadNames upvalues bytes at ≡ done names next → length names ≡ upvalues
   unfolding loadNames
   names-length h = from-int (loadInt bytes at) h
+
+-- ---- the limits
+module _ (bytes : List ℕ) where
+  vector-within : (most each at : ℕ) (v : Vector) (next : ℕ) → loadVector most each bytes at ≡ done v next → v .count ≤ most
+  unfolding loadVector
+  vector-within most each at v next h = by-count (loadInt bytes at) h
+    where
+      by-block : (n start : ℕ) (X : Result (Unit {0})) → bind X (λ _ at₂. done (record { start = start; count = n }) at₂) ≡ done v next → v .count ≡ n
+      by-block n start (done u at₂) h = let e : record { start = start; count = n } ≡ v = cc in rw (← e)
+      by-block n start (refused x) h = absurd (let z : _≡_ {A = ℕ} 0 1 = cc in omega arith)
+      by-limit : (n start : ℕ) (b : Bool) → leb n most ≡ b
+          → only b (bind (loadBlock (each * n) bytes start) (λ _ at₂. done (record { start = start; count = n }) at₂)) ≡ done v next → v .count ≤ most
+      by-limit n start true e h = let c = by-block n start (loadBlock (each * n) bytes start) h in omega (arith, leb-true n most e)
+      by-limit n start false e h = absurd (let z : _≡_ {A = ℕ} 0 1 = cc in omega arith)
+      by-count : (X : Result ℕ) → bind X (λ n at₁. only (leb n most) (bind (loadBlock (each * n) bytes at₁) (λ _ at₂. done (record { start = at₁; count = n }) at₂))) ≡ done v next
+          → v .count ≤ most
+      by-count (done n start) h = by-limit n start (leb n most) refl h
+      by-count (refused x) h = absurd (let z : _≡_ {A = ℕ} 0 1 = cc in omega arith)
+
+  pub few-words : (at : ℕ) (ws : List ℕ) (next : ℕ) → loadCode bytes at ≡ done ws next → length ws ≤ mostWords
+  unfolding loadCode
+  few-words at ws next h = by-vector (loadVector mostWords 4 bytes at) refl h
+    where
+      by-vector : (X : Result Vector) → loadVector mostWords 4 bytes at ≡ X → bind X (λ v at₁. done (wordsFrom (v .count) bytes (v .start)) at₁) ≡ done ws next → length ws ≤ mostWords
+      by-vector (done v at₁) e h =
+          let w : wordsFrom (v .count) bytes (v .start) ≡ ws = cc in
+          let c : v .count ≡ length ws = words-count (v .count) bytes (v .start) ∙ ap length w in
+          omega (arith, vector-within mostWords 4 at v at₁ e)
+      by-vector (refused x) e h = absurd (let z : _≡_ {A = ℕ} 0 1 = cc in omega arith)
+
+  pub few-upvalues : (at n next : ℕ) → loadUpvalues bytes at ≡ done n next → n ≤ mostNames
+  unfolding loadUpvalues
+  few-upvalues at n next h = by-vector (loadVector mostNames 3 bytes at) refl h
+    where
+      by-vector : (X : Result Vector) → loadVector mostNames 3 bytes at ≡ X → bind X (λ v at₁. done (v .count) at₁) ≡ done n next → n ≤ mostNames
+      by-vector (done v at₁) e h = let c : v .count ≡ n = cc in omega (arith, vector-within mostNames 3 at v at₁ e)
+      by-vector (refused x) e h = absurd (let z : _≡_ {A = ℕ} 0 1 = cc in omega arith)
+
+  pub few-items : {A : Type 0} (most : ℕ) (r : ℕ → Reader A) (at : ℕ) (xs : List A) (next : ℕ) → loadItems most r bytes at ≡ done xs next → length xs ≤ most
+  unfolding loadItems
+  few-items {A} most r at xs next h = by-count (loadInt bytes at) h
+    where
+      by-limit : (n start : ℕ) (b : Bool) → leb n most ≡ b → only b (repeat r 0 n bytes start) ≡ done xs next → length xs ≤ most
+      by-limit n start true e h = let c = repeat-length r bytes n 0 start xs next h in omega (arith, leb-true n most e)
+      by-limit n start false e h = absurd (let z : _≡_ {A = ℕ} 0 1 = cc in omega arith)
+      by-count : (X : Result ℕ) → bind X (λ n at₁. only (leb n most) (repeat r 0 n bytes at₁)) ≡ done xs next → length xs ≤ most
+      by-count (done n start) h = by-limit n start (leb n most) refl h
+      by-count (refused x) h = absurd (let z : _≡_ {A = ℕ} 0 1 = cc in omega arith)

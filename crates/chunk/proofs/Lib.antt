@@ -13,3 +13,5 @@ pub mod Takes
 pub mod Refill
 pub mod Shows
 pub mod Passes
+pub mod Claims
+pub mod Example

@@ -52,11 +52,10 @@ module _ (bytes : List ℕ) where
       rw (s .one-each) (four f at (layoutOf f) refl (leb (length (f .words)) w) (leb (length (f .constants)) t) (leb (length (f .constants)) p) (leb (f .upvalues) n))
   roomy (refused e) w t p n s = refl
 
-  pub filled-is : (k : ℕ) (ws ts ps ns : List ℕ) (l m : Located) → l ≡ locatedOf (chosen k bytes) → m ≡ roomed (length ws) (length ts) (length ps) (length ns) l
-      → m ≡ locatedOf (filled k bytes (roomsOf ws ts ps ns))
+  pub filled-is : (k w t p n : ℕ) (l m : Located) → l ≡ locatedOf (chosen k bytes) → m ≡ roomed w t p n l
+      → m ≡ locatedOf (filled k bytes (record { words = w; tags = t; payloads = p; names = n }))
   unfolding filled
-  filled-is k ws ts ps ns l m h e =
-      e ∙ ap (roomed (length ws) (length ts) (length ps) (length ns)) h ∙ roomy (chosen k bytes) (length ws) (length ts) (length ps) (length ns) (chosen-stands bytes k)
+  filled-is k w t p n l m h e = e ∙ ap (roomed w t p n) h ∙ roomy (chosen k bytes) w t p n (chosen-stands bytes k)
 
   -- ---- what is known of a function that is filled
   pub record Filled (k : ℕ) (rooms : Rooms) (l : Layout) : Type 0 where

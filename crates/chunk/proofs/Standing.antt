@@ -1,16 +1,18 @@
 -- Every function that is read stands where its positions say.
--- Assumes none.
+-- Assumes nothing.
 use mathlib.Core.Path.{_≡_, refl}
 use mathlib.Core.Bool.{Bool, true, false}
 use mathlib.Core.List.{List, [], _∷_, _++_}
-use Prim.Native.Nat.{ℕ, zero, suc}
+use Prim.Native.Nat.{ℕ, zero, suc, _≤_}
+use native.Mathlib.Omega.{arith}
 use lib.Dec.{leb}
 use lib.ListN.{length}
+use Rattle.chunk.specs.Limits.{mostConstants, mostNames}
 use Rattle.chunk.specs.Reading.{Result, done, refused, Reader, bind, only}
-use Rattle.chunk.specs.Lundump.{loadByte, Function, Constant, Text, loadInt, loadHead, loadCode, loadConstants, loadUpvalues, loadLines, loadNames, functionWith, several, noneOf, loadProtos, loadFunction, checkHeader, undump}
+use Rattle.chunk.specs.Lundump.{loadByte, Function, Constant, Text, loadInt, loadHead, loadCode, loadConstant, loadConstants, loadUpvalues, loadLines, loadNames, functionWith, several, noneOf, loadProtos, loadFunction, checkHeader, undump}
 use Rattle.chunk.specs.Chunk.{pick, chosen}
 use Rattle.chunk.specs.Stands.{Stands, AllStand, AllRead, OneRead}
-use Rattle.chunk.proofs.Bounds.{names-length}
+use Rattle.chunk.proofs.Bounds.{names-length, few-words, few-upvalues, few-items}
 use Rattle.chunk.proofs.Thens.{own, then1, then2, then3, then4, then5, then6, then7}
 
 module _ (bytes : List ℕ) where
@@ -20,32 +22,33 @@ module _ (bytes : List ℕ) where
 
   module _ (P : Reader (List Function)) (within : (at : ℕ) → AllRead bytes (P bytes at)) where
     s7 : (at₁ : ℕ) (code : List ℕ) (at₂ : ℕ) (ks : List Constant) (at₃ n : ℕ) (inner : List Function) (at₆ : ℕ) (X : Result (List Text))
-        → loadCode bytes at₁ ≡ done code at₂ → loadConstants bytes at₂ ≡ done ks at₃ → AllStand bytes inner → loadNames n bytes at₆ ≡ X
+        → loadCode bytes at₁ ≡ done code at₂ → loadConstants bytes at₂ ≡ done ks at₃ → n ≤ mostNames → AllStand bytes inner → loadNames n bytes at₆ ≡ X
         → AllRead bytes (bind X (then7 bytes P at₁ code at₂ ks n inner at₆))
-    s7 at₁ code at₂ ks at₃ n inner at₆ (done names at₇) c k i m =
-        (record { codeNext = at₂; code = c; constantsNext = at₃; constants = k; namesNext = at₇; names = m; one-each = names-length bytes n at₆ names at₇ m }, i)
-    s7 at₁ code at₂ ks at₃ n inner at₆ (refused e) c k i m = tt
+    s7 at₁ code at₂ ks at₃ n inner at₆ (done names at₇) c k u i m =
+        let e = names-length bytes n at₆ names at₇ m in
+        (record { codeNext = at₂; code = c; constantsNext = at₃; constants = k; namesNext = at₇; names = m; one-each = e; few-words = few-words bytes at₁ code at₂ c; few-constants = few-items bytes mostConstants loadConstant at₂ ks at₃ k; few-names = omega arith }, i)
+    s7 at₁ code at₂ ks at₃ n inner at₆ (refused e) c k u i m = tt
 
     s6 : (at₁ : ℕ) (code : List ℕ) (at₂ : ℕ) (ks : List Constant) (at₃ n : ℕ) (inner : List Function) (X : Result (List ℕ))
-        → loadCode bytes at₁ ≡ done code at₂ → loadConstants bytes at₂ ≡ done ks at₃ → AllStand bytes inner
+        → loadCode bytes at₁ ≡ done code at₂ → loadConstants bytes at₂ ≡ done ks at₃ → n ≤ mostNames → AllStand bytes inner
         → AllRead bytes (bind X (then6 bytes P at₁ code at₂ ks n inner))
-    s6 at₁ code at₂ ks at₃ n inner (done z at₆) c k i = s7 at₁ code at₂ ks at₃ n inner at₆ (loadNames n bytes at₆) c k i refl
-    s6 at₁ code at₂ ks at₃ n inner (refused e) c k i = tt
+    s6 at₁ code at₂ ks at₃ n inner (done z at₆) c k u i = s7 at₁ code at₂ ks at₃ n inner at₆ (loadNames n bytes at₆) c k u i refl
+    s6 at₁ code at₂ ks at₃ n inner (refused e) c k u i = tt
 
     s5 : (at₁ : ℕ) (code : List ℕ) (at₂ : ℕ) (ks : List Constant) (at₃ n : ℕ) (X : Result (List Function))
-        → loadCode bytes at₁ ≡ done code at₂ → loadConstants bytes at₂ ≡ done ks at₃ → AllRead bytes X
+        → loadCode bytes at₁ ≡ done code at₂ → loadConstants bytes at₂ ≡ done ks at₃ → n ≤ mostNames → AllRead bytes X
         → AllRead bytes (bind X (then5 bytes P at₁ code at₂ ks n))
-    s5 at₁ code at₂ ks at₃ n (done inner at₅) c k i = s6 at₁ code at₂ ks at₃ n inner (loadLines bytes at₅) c k i
-    s5 at₁ code at₂ ks at₃ n (refused e) c k i = tt
+    s5 at₁ code at₂ ks at₃ n (done inner at₅) c k u i = s6 at₁ code at₂ ks at₃ n inner (loadLines bytes at₅) c k u i
+    s5 at₁ code at₂ ks at₃ n (refused e) c k u i = tt
 
     s4 : (at₁ : ℕ) (code : List ℕ) (at₂ : ℕ) (ks : List Constant) (at₃ : ℕ) (X : Result ℕ)
-        → loadCode bytes at₁ ≡ done code at₂ → loadConstants bytes at₂ ≡ done ks at₃ → AllRead bytes (bind X (then4 bytes P at₁ code at₂ ks))
-    s4 at₁ code at₂ ks at₃ (done n at₄) c k = s5 at₁ code at₂ ks at₃ n (P bytes at₄) c k (within at₄)
-    s4 at₁ code at₂ ks at₃ (refused e) c k = tt
+        → loadCode bytes at₁ ≡ done code at₂ → loadConstants bytes at₂ ≡ done ks at₃ → loadUpvalues bytes at₃ ≡ X → AllRead bytes (bind X (then4 bytes P at₁ code at₂ ks))
+    s4 at₁ code at₂ ks at₃ (done n at₄) c k u = s5 at₁ code at₂ ks at₃ n (P bytes at₄) c k (few-upvalues bytes at₃ n at₄ u) (within at₄)
+    s4 at₁ code at₂ ks at₃ (refused e) c k u = tt
 
     s3 : (at₁ : ℕ) (code : List ℕ) (at₂ : ℕ) (X : Result (List Constant)) → loadCode bytes at₁ ≡ done code at₂ → loadConstants bytes at₂ ≡ X
         → AllRead bytes (bind X (then3 bytes P at₁ code at₂))
-    s3 at₁ code at₂ (done ks at₃) c k = s4 at₁ code at₂ ks at₃ (loadUpvalues bytes at₃) c k
+    s3 at₁ code at₂ (done ks at₃) c k = s4 at₁ code at₂ ks at₃ (loadUpvalues bytes at₃) c k refl
     s3 at₁ code at₂ (refused e) c k = tt
 
     s2 : (at₁ : ℕ) (X : Result (List ℕ)) → loadCode bytes at₁ ≡ X → AllRead bytes (bind X (then2 bytes P at₁))

@@ -1,5 +1,5 @@
 -- What a reader makes of a cursor.
--- Assumes none.
+-- Assumes nothing.
 use mathlib.Core.Path.{_≡_, refl}
 use mathlib.Core.Bool.{true, false}
 use mathlib.Core.List.{List}

@@ -1,5 +1,5 @@
 -- functionWith, cut after each part: what is read on from there.
--- Assumes none.
+-- Assumes nothing.
 use mathlib.Core.List.{List, _∷_}
 use Prim.Native.Nat.{ℕ}
 use Rattle.chunk.specs.Reading.{Result, done, Reader, bind}

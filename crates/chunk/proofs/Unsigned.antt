@@ -1,5 +1,5 @@
 -- The loop of loadUnsigned, a byte at a time.
--- Assumes none.
+-- Assumes nothing.
 use mathlib.Core.Path.{_≡_, refl}
 use mathlib.Core.Bool.{true, false, cond}
 use mathlib.Core.List.{List}

@@ -1,5 +1,5 @@
 -- Functions within functions, as the walk over them sees them.
--- Assumes none.
+-- Assumes nothing.
 use mathlib.Core.Path.{_≡_, refl, sym, _∙_, ap}
 use mathlib.Core.List.{List, [], _∷_, _++_}
 use Prim.Native.Nat.{ℕ, zero, suc, _-_}

@@ -1,5 +1,5 @@
 -- The header byte by byte, and the chosen function.
--- Assumes none.
+-- Assumes nothing.
 use mathlib.Core.Path.{_≡_, refl, sym, _∙_, ap}
 use mathlib.Core.Bool.{true, false, cond}
 use mathlib.Core.List.{List, [], _∷_}

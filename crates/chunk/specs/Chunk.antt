@@ -9,7 +9,7 @@ use lib.ListN.{length, drop}
 use Rattle.values.specs.Values.{unnamed, «TAG_SHORT_STRING», «TAG_LONG_STRING»}
 use Rattle.chunk.specs.declared.reading.Refusal.the-variants.{Malformed, Short}
 use Rattle.chunk.specs.declared.counts.Counts.{Counts}
-use Rattle.chunk.specs.Limits.{mostBytes, shortLength}
+use Rattle.chunk.specs.Limits.{mostConstants, mostNames, mostBytes, shortLength}
 use Rattle.chunk.specs.Numbers.{numberOf, placeOf}
 use Rattle.chunk.specs.Reading.{Result, done, refused, bind, only}
 use Rattle.chunk.specs.Lundump.{Text, absent, text, Constant, plain, string, Function, undump}
@@ -80,6 +80,10 @@ pub record Rooms : Type 0 where
 
 abbrev pub roomsOf : List ℕ → List ℕ → List ℕ → List ℕ → Rooms
 roomsOf words tags payloads names = record { words = length words; tags = length tags; payloads = length payloads; names = length names }
+
+-- the rooms of one who wants the words alone: as long as can be, but for the words
+abbrev pub wordsRoom : ℕ → Rooms
+wordsRoom words = record { words = words; tags = mostConstants; payloads = mostConstants; names = mostNames }
 
 unfoldable pub fits : Function → Rooms → Bool
 fits f rooms =

@@ -9,3 +9,4 @@ pub mod Stands
 pub mod Cursors
 pub mod Search
 pub mod Filling
+pub mod Claims

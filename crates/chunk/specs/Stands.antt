@@ -2,8 +2,9 @@
 -- Assumes nothing.
 use mathlib.Core.Path.{_≡_}
 use mathlib.Core.List.{List, [], _∷_}
-use Prim.Native.Nat.{ℕ}
+use Prim.Native.Nat.{ℕ, _≤_}
 use lib.ListN.{length}
+use Rattle.chunk.specs.Limits.{mostWords, mostConstants, mostNames}
 use Rattle.chunk.specs.Reading.{Result, done, refused}
 use Rattle.chunk.specs.Lundump.{Function, loadCode, loadConstants, loadNames}
 
@@ -16,6 +17,10 @@ pub record Stands (bytes : List ℕ) (f : Function) : Type 0 where
   pub names : loadNames (f .upvalues) bytes (f .namesAt) ≡ done (f .names) namesNext
   -- "names, one per upvalue"
   pub one-each : length (f .names) ≡ f .upvalues
+  -- "a word, constant or upvalue count exceeds 01's limits" was refused
+  pub few-words : length (f .words) ≤ mostWords
+  pub few-constants : length (f .constants) ≤ mostConstants
+  pub few-names : length (f .names) ≤ mostNames
 
 abbrev pub AllStand : List ℕ → List Function → Type 0
 AllStand bytes [] = Unit

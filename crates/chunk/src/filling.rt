@@ -6,7 +6,7 @@ ghost use Prim.Native.Nat.{_+_, _*_, _≤_};
 ghost use lib.ListN.{length, drop, replicate};
 ghost use Rattle.chunk.specs.Reading.{repeat};
 ghost use Rattle.chunk.specs.Lundump.{wordsFrom, loadName, loadConstant, loadCode, loadConstants, loadNames};
-ghost use Rattle.chunk.specs.Chunk.{chosen, filled, countsOf, roomsOf, after, wordsOf, tagsOf, payloadsOf, namesOf, tagOf, payloadOf, nameNumber};
+ghost use Rattle.chunk.specs.Chunk.{chosen, filled, countsOf, roomsOf, after, wordsOf, tagsOf, payloadsOf, namesOf, tagOf, payloadOf, nameNumber, wordsRoom};
 ghost use Rattle.chunk.specs.Cursors.{same};
 ghost use Rattle.chunk.specs.Filling.{Bounded, Read, valuesAfter};
 ghost use Rattle.chunk.specs.Search.{roomed};
@@ -15,6 +15,8 @@ use crate::constants::Packed;
 use crate::constants::packed_at;
 use crate::counts::Counts;
 use crate::counts::report;
+use crate::limits::MOST_CONSTANTS;
+use crate::limits::MOST_NAMES;
 use crate::locating::Located;
 use crate::locating::locate;
 use crate::reading::Cursor;
@@ -182,5 +184,25 @@ pub extern "C" fn lawendeb_chunk_fill(
     fill_code(chunk, code_at, words);
     fill_constants(chunk, constants_at, tags, payloads);
     fill_names(chunk, names_at, upvalues, names);
+    report(found)
+}
+
+// Of function k, as if there were room for all of its tags, payloads and names: only the words are filled.
+pub fn words_of(chunk: &[u8], k: usize, words: &mut [u32]) -> Counts
+    ensures { λ r. ⌜ r ≡ countsOf (filled k (now (chunk .entry)) (wordsRoom (length (now (words .entry))))) ⌝ }
+    ensures { λ _. ⌜ now (words .exit) ≡ after wordsOf (filled k (now (chunk .entry)) (wordsRoom (length (now (words .entry))))) (now (words .entry)) ⌝ }
+{
+    let found = with_room(
+        locate(chunk, k),
+        words.len(),
+        MOST_CONSTANTS,
+        MOST_CONSTANTS,
+        MOST_NAMES,
+    );
+    let Located::Here(f) = found else {
+        return report(found);
+    };
+    let code_at = f.code_at;
+    fill_code(chunk, code_at, words);
     report(found)
 }

@@ -18,6 +18,7 @@ pub use constants::Packed;
 pub use counts::Counts;
 pub use counts::lawendeb_chunk_count;
 pub use filling::lawendeb_chunk_fill;
+pub use filling::words_of;
 pub use functions::Layout;
 pub use functions::Search;
 pub use functions::Walk;

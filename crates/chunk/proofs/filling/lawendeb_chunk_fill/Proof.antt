@@ -1,5 +1,6 @@
 use borrow.Author.Needs.{needs}
 use mathlib.Core.Path.{_≡_}
+use lib.ListN.{length}
 use Rattle.chunk.specs.declared.functions.Layout.{Layout}
 use Rattle.chunk.specs.declared.locating.Located.the-variants.{Here}
 use Rattle.chunk.specs.Chunk.{Rooms, roomsOf, filled, wordsOf, tagsOf, payloadsOf, namesOf}
@@ -23,7 +24,8 @@ abbrev rooms : tie.Start → Rooms
 rooms s = roomsOf (s .args .words .now) (s .args .tags .now) (s .args .payloads .now) (s .args .names .now)
 
 located : (c : tie.After-with-room) → c .with-room .result ≡ locatedOf (filled (start c .args .k) (start c .args .chunk .now) (rooms (start c)))
-located c = filled-is (start c .args .chunk .now) (start c .args .k) (start c .args .words .now) (start c .args .tags .now) (start c .args .payloads .now) (start c .args .names .now) _ _ (c .before .locate .ensures) (c .with-room .ensures)
+located c =
+    filled-is (start c .args .chunk .now) (start c .args .k) (length (start c .args .words .now)) (length (start c .args .tags .now)) (length (start c .args .payloads .now)) (length (start c .args .names .now)) _ _ (c .before .locate .ensures) (c .with-room .ensures)
 
 here : (c : tie.After-with-room) (l : Layout) → c .with-room .result ≡ Here l → Filled (start c .args .chunk .now) (start c .args .k) (rooms (start c)) l
 here c l e = is-filled (start c .args .chunk .now) (start c .args .k) (rooms (start c)) l _ (located c) e
