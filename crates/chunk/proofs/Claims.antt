@@ -73,10 +73,10 @@ module _ (k : ℕ) (bytes words tags payloads names : List ℕ) where
   roomy : (f : Function) (at : ℕ) → chosen k bytes ≡ done f at → Room k bytes words tags payloads names → fits f rooms ≡ true
   unfolding fits countsOf
   roomy f at h r =
-      let w : length (f .words) ≤ length words = rw h at (r .words) in
-      let t : length (f .constants) ≤ length tags = rw h at (r .tags) in
-      let p : length (f .constants) ≤ length payloads = rw h at (r .payloads) in
-      let n : length (f .names) ≤ length names = rw h at (r .names) in
+      let w : length (f .words) ≤ length words = rw h at (r .for-words) in
+      let t : length (f .constants) ≤ length tags = rw h at (r .for-tags) in
+      let p : length (f .constants) ≤ length payloads = rw h at (r .for-payloads) in
+      let n : length (f .names) ≤ length names = rw h at (r .for-names) in
       rw (le-leb _ _ w, le-leb _ _ t, le-leb _ _ p, le-leb _ _ n)
 
   same : (f : Function) (at : ℕ) → chosen k bytes ≡ done f at → Room k bytes words tags payloads names → result k bytes words tags payloads names ≡ done f at
@@ -130,7 +130,5 @@ module _ (k : ℕ) (bytes : List ℕ) where
 
   pub there-words : (out : List ℕ) (f : Function) (at : ℕ) → chosen k bytes ≡ done f at
       → take (length (f .words)) (after wordsOf (filled k bytes (wordsRoom mostWords)) out) ≡ f .words
-  unfolding countsOf
-  there-words out f at h =
-      let e = room-for-all ∙ h in
-      rw e at (there wordsOf (λ c. c .words) out words-many no-words (filled k bytes (wordsRoom mostWords)) f at e)
+  unfolding after
+  there-words out f at h = rw (room-for-all ∙ h) (take-at (f .words) (drop (length (f .words)) out) (length (f .words)) refl)

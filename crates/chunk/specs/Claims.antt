@@ -24,10 +24,10 @@ module _ (k : ℕ) (bytes words tags payloads names : List ℕ) where
 
   -- the slices are as long as the first pass reported, or longer
   pub record Room : Type 0 where
-    pub words : counted .words ≤ length words
-    pub tags : counted .constants ≤ length tags
-    pub payloads : counted .constants ≤ length payloads
-    pub names : counted .names ≤ length names
+    pub for-words : counted .words ≤ length words
+    pub for-tags : counted .constants ≤ length tags
+    pub for-payloads : counted .constants ≤ length payloads
+    pub for-names : counted .names ≤ length names
 
   pub record FilledAsCounted : Type 0 where
     -- a refusal of the first pass is the second's

@@ -5,31 +5,12 @@ use Rattle.chunk.specs.Cursors.{packedOf}
 use Rattle.chunk.proofs.Takes.{plain-here, string-here, unread-here, string-inside}
 use Rattle.chunk.proofs.constants.packed_at.Statement.{statement}
 use Rattle.chunk.proofs.constants.packed_at.Tie as tie
-use Rattle.chunk.proofs.constants.packed_at.Reads as reads
-use Rattle.chunk.proofs.constants.packed_at.Lts as lts
-use Rattle.chunk.proofs.constants.constant_at.Reads as constant-at-reads
-use Rattle.chunk.proofs.constants.string_tag.Reads as string-tag-reads
-
-constant-at-requires : tie.Need-constant-at-requires
-constant-at-requires c κs = search needs
-
-enum-known-k : tie.Need-enum-known-k
-enum-known-k c = search needs
-
-enum-known-k-2 : tie.Need-enum-known-k-2
-enum-known-k-2 c = search needs
-
-string-tag-requires : tie.Need-string-tag-requires
-string-tag-requires c κs = search needs
 
 mul-t14 : tie.Need-mul-t14
 mul-t14 c = omega (arith, c .before .before .before .before .before .before .pre, string-inside _ _ _ _ _ _ (string-here _ _ _ _ (c .before .before .before .before .constant-at .ensures) _ _ _ (c .before .before .k2 .given .1)))
 
 add-t15 : tie.Need-add-t15
 add-t15 c = omega (arith, c .before .before .before .before .before .before .pre, string-inside _ _ _ _ _ _ (string-here _ _ _ _ (c .before .before .before .before .constant-at .ensures) _ _ _ (c .before .before .k2 .given .1)))
-
-enum-known-k-3 : tie.Need-enum-known-k-3
-enum-known-k-3 c = search needs
 
 returns : tie.Need-returns
 returns c = sym (ap packedOf (plain-here _ _ _ _ (c .before .before .before .constant-at .ensures) _ _ _ (c .before .k .given .1)))
@@ -44,13 +25,13 @@ pub packed-at-spec : {M : Type 1} → statement M
 packed-at-spec =
     tie.close
     (tie.spec
-    constant-at-requires
-    enum-known-k
-    enum-known-k-2
-    string-tag-requires
+    (λ c κs. search needs)
+    (λ c. search needs)
+    (λ c. search needs)
+    (λ c κs. search needs)
     mul-t14
     add-t15
-    enum-known-k-3
+    (λ c. search needs)
     returns
     returns-2
     returns-3)

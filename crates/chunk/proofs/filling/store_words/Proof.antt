@@ -9,9 +9,6 @@ use Rattle.chunk.specs.Lundump.{wordsFrom}
 use Rattle.chunk.proofs.Refill.{one-word}
 use Rattle.chunk.proofs.filling.store_words.Statement.{statement}
 use Rattle.chunk.proofs.filling.store_words.Tie as tie
-use Rattle.chunk.proofs.filling.store_words.Reads as reads
-use Rattle.chunk.proofs.filling.store_words.Lts as lts
-use Rattle.chunk.proofs.bytes.word_at.Reads as word-at-reads
 
 abbrev Inv-loop : tie.InvT-loop
 Inv-loop chunk start n words₀ i₀ at₀ words i at = (i ≤ n) × ((at ≡ start + 4 * i) × ((length words ≡ length words₀) × (words ≡ wordsFrom i chunk start ++ drop i words₀)))
@@ -34,9 +31,6 @@ slice-write-words c = omega arith
 
 add-at : tie.Need-add-at Inv-loop μ-loop
 add-at c = omega arith
-
-add-i : tie.Need-add-i Inv-loop μ-loop
-add-i c = search needs
 
 loop-less : tie.Need-loop-less Inv-loop μ-loop
 loop-less c = omega arith
@@ -67,7 +61,7 @@ store-words-spec =
     mul-words
     slice-write-words
     add-at
-    add-i
+    (λ c. search needs)
     loop-less
     loop-again
     same-length

@@ -10,10 +10,6 @@ use Rattle.chunk.proofs.Steps.{stays}
 use Rattle.chunk.proofs.Repeats.{one-more, no-more}
 use Rattle.chunk.proofs.items.items.Statement.{statement}
 use Rattle.chunk.proofs.items.items.Tie as tie
-use Rattle.chunk.proofs.items.items.Reads as reads
-use Rattle.chunk.proofs.items.items.Lts as lts
-use Rattle.chunk.proofs.items.item.Reads as item-reads
-use Rattle.chunk.proofs.reading.with_value.Reads as with-value-reads
 
 abbrev Inv-loop : tie.InvT-loop
 Inv-loop chunk kind n here₀ i₀ here i = (i ≤ n) × (step none (repeat (itemOf kind) 0 n) chunk here₀ ≡ step none (repeat (itemOf kind) i (n - i)) chunk here)
@@ -24,20 +20,8 @@ abbrev μ-loop : tie.MeasureT-loop
 loop-holds : tie.Need-loop-holds Inv-loop μ-loop
 loop-holds c = (omega arith, rw (sub-zero (c .before .args .n)))
 
-enum-told : tie.Need-enum-told Inv-loop μ-loop
-enum-told c = search needs
-
-enum-told-2 : tie.Need-enum-told-2 Inv-loop μ-loop
-enum-told-2 c = search needs
-
 returns : tie.Need-returns Inv-loop μ-loop
 returns c = stays none _ _ _ _ (c .enum-told2 .given .1) ∙ sym (c .before .before .before .loop .inv .1)
-
-item-requires : tie.Need-item-requires Inv-loop μ-loop
-item-requires c κs = search needs
-
-add-i : tie.Need-add-i Inv-loop μ-loop
-add-i c = search needs
 
 loop-less : tie.Need-loop-less Inv-loop μ-loop
 loop-less c = omega arith
@@ -47,9 +31,6 @@ loop-again c =
     let i = c .before .before .before .before .loop .i in
     let n = c .before .before .before .before .before .before .args .n in
     (omega arith, c .before .before .before .before .loop .inv .1 ∙ (rw (one-left n i (c .before .before .before .loop-test .taken)) (one-more _ _ _ _ _ _ (c .item .ensures))))
-
-with-value-requires : tie.Need-with-value-requires Inv-loop μ-loop
-with-value-requires c κs = search needs
 
 returns-2 : tie.Need-returns-2 Inv-loop μ-loop
 returns-2 c =
@@ -65,12 +46,12 @@ items-spec =
     Inv-loop
     μ-loop
     loop-holds
-    enum-told
-    enum-told-2
+    (λ c. search needs)
+    (λ c. search needs)
     returns
-    item-requires
-    add-i
+    (λ c κs. search needs)
+    (λ c. search needs)
     loop-less
     loop-again
-    with-value-requires
+    (λ c κs. search needs)
     returns-2)

@@ -7,9 +7,6 @@ use Rattle.chunk.specs.Names.{longNameAt, lowest}
 use Rattle.chunk.proofs.Shows.{lowest-start, lowest-hit, lowest-miss, lowest-end}
 use Rattle.chunk.proofs.names.first_long.Statement.{statement}
 use Rattle.chunk.proofs.names.first_long.Tie as tie
-use Rattle.chunk.proofs.names.first_long.Reads as reads
-use Rattle.chunk.proofs.names.first_long.Lts as lts
-use Rattle.chunk.proofs.names.is_long.Reads as is-long-reads
 
 abbrev Inv-loop : tie.InvT-loop
 Inv-loop names size i₀ i = (i ≤ length names) × (lowest (longNameAt names size) 0 (length names) ≡ lowest (longNameAt names size) i (length names - i))
@@ -25,9 +22,6 @@ is-long-requires c κs = omega arith
 
 returns : tie.Need-returns Inv-loop μ-loop
 returns c = lowest-hit _ _ _ (c .before .before .loop-test .taken) (sym (c .before .is-long .ensures) ∙ c .if1 .taken) ∙ sym (c .before .before .before .loop .inv .1)
-
-add-i : tie.Need-add-i Inv-loop μ-loop
-add-i c = search needs
 
 loop-less : tie.Need-loop-less Inv-loop μ-loop
 loop-less c = omega arith
@@ -47,7 +41,7 @@ first-long-spec =
     loop-holds
     is-long-requires
     returns
-    add-i
+    (λ c. search needs)
     loop-less
     loop-again
     returns-2)

@@ -3,14 +3,6 @@ use native.Mathlib.Omega.{arith}
 use Rattle.chunk.proofs.Shows.{unnamed-is, named-is}
 use Rattle.chunk.proofs.names.is_long.Statement.{statement}
 use Rattle.chunk.proofs.names.is_long.Tie as tie
-use Rattle.chunk.proofs.names.is_long.Reads as reads
-use Rattle.chunk.proofs.names.is_long.Lts as lts
-
-mul-span : tie.Need-mul-span
-mul-span c = search needs
-
-shared-slice-read-span : tie.Need-shared-slice-read-span
-shared-slice-read-span c = search needs
 
 returns : tie.Need-returns
 returns c = unnamed-is _ _ _ (c .if1 .taken)
@@ -22,4 +14,4 @@ returns-2 : tie.Need-returns-2
 returns-2 c = named-is _ _ _ (c .if1 .left)
 
 pub is-long-spec : {M : Type 1} → statement M
-is-long-spec = tie.close (tie.spec mul-span shared-slice-read-span returns add-end returns-2)
+is-long-spec = tie.close (tie.spec (λ c. search needs) (λ c. search needs) returns add-end returns-2)

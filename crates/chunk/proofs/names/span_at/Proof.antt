@@ -3,14 +3,6 @@ use borrow.Author.Tests.{lt-ltb, le-ltb}
 use Rattle.chunk.specs.Names.{spanAt}
 use Rattle.chunk.proofs.names.span_at.Statement.{statement}
 use Rattle.chunk.proofs.names.span_at.Tie as tie
-use Rattle.chunk.proofs.names.span_at.Reads as reads
-use Rattle.chunk.proofs.names.span_at.Lts as lts
-
-mul-result : tie.Need-mul-result
-mul-result c = search needs
-
-shared-slice-read-result : tie.Need-shared-slice-read-result
-shared-slice-read-result c = search needs
 
 returns : tie.Need-returns
 unfolding spanAt
@@ -21,4 +13,4 @@ unfolding spanAt
 returns-2 c = rw (le-ltb _ _ (c .if1 .left))
 
 pub span-at-spec : {M : Type 1} → statement M
-span-at-spec = tie.close (tie.spec mul-result shared-slice-read-result returns returns-2)
+span-at-spec = tie.close (tie.spec (λ c. search needs) (λ c. search needs) returns returns-2)

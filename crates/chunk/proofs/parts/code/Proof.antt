@@ -8,9 +8,6 @@ use Rattle.chunk.proofs.Bounds.{words-count}
 use borrow.Author.Needs.{needs}
 use Rattle.chunk.proofs.parts.code.Statement.{statement}
 use Rattle.chunk.proofs.parts.code.Tie as tie
-use Rattle.chunk.proofs.parts.code.Reads as reads
-use Rattle.chunk.proofs.parts.code.Lts as lts
-use Rattle.chunk.proofs.parts.vector.Reads as vector-reads
 
 vector-requires : tie.Need-vector-requires
 vector-requires c κs = (lit≤ tt, lit≤ tt)

@@ -6,9 +6,6 @@ use Rattle.chunk.proofs.Binds.{turned}
 use borrow.Author.Needs.{needs}
 use Rattle.chunk.proofs.parts.upvalues.Statement.{statement}
 use Rattle.chunk.proofs.parts.upvalues.Tie as tie
-use Rattle.chunk.proofs.parts.upvalues.Reads as reads
-use Rattle.chunk.proofs.parts.upvalues.Lts as lts
-use Rattle.chunk.proofs.parts.vector.Reads as vector-reads
 
 vector-requires : tie.Need-vector-requires
 vector-requires c κs = (lit≤ tt, lit≤ tt)

@@ -5,27 +5,12 @@ use Rattle.chunk.specs.Cursors.{placedOf}
 use Rattle.chunk.proofs.Texts.{absent-here, text-here, refused-here, text-inside}
 use Rattle.chunk.proofs.strings.name_at.Statement.{statement}
 use Rattle.chunk.proofs.strings.name_at.Tie as tie
-use Rattle.chunk.proofs.strings.name_at.Reads as reads
-use Rattle.chunk.proofs.strings.name_at.Lts as lts
-use Rattle.chunk.proofs.strings.string_at.Reads as string-at-reads
-
-string-at-requires : tie.Need-string-at-requires
-string-at-requires c κs = search needs
-
-enum-known-s : tie.Need-enum-known-s
-enum-known-s c = search needs
-
-enum-known-s-2 : tie.Need-enum-known-s-2
-enum-known-s-2 c = search needs
 
 mul-t10 : tie.Need-mul-t10
 mul-t10 c = omega (arith, c .before .before .before .before .before .pre, text-inside _ _ _ _ _ (text-here _ _ _ (c .before .before .before .string-at .ensures) _ _ _ (c .before .s2 .given .1)))
 
 add-t11 : tie.Need-add-t11
 add-t11 c = omega (arith, c .before .before .before .before .before .pre, text-inside _ _ _ _ _ (text-here _ _ _ (c .before .before .before .string-at .ensures) _ _ _ (c .before .s2 .given .1)))
-
-enum-known-s-3 : tie.Need-enum-known-s-3
-enum-known-s-3 c = search needs
 
 returns : tie.Need-returns
 returns c = sym (ap placedOf (absent-here _ _ _ (c .before .before .before .string-at .ensures) _ (c .before .s .given .1)))
@@ -40,12 +25,12 @@ pub name-at-spec : {M : Type 1} → statement M
 name-at-spec =
     tie.close
     (tie.spec
-    string-at-requires
-    enum-known-s
-    enum-known-s-2
+    (λ c κs. search needs)
+    (λ c. search needs)
+    (λ c. search needs)
     mul-t10
     add-t11
-    enum-known-s-3
+    (λ c. search needs)
     returns
     returns-2
     returns-3)
