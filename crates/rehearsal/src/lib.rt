@@ -2,6 +2,7 @@
 // the field's terms a schedule simulation, round robin with a quantum.
 mod acceptance;
 pub mod answer;
+pub mod export;
 pub mod machine;
 pub mod rehearsing;
 mod rotation;

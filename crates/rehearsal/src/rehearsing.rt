@@ -1,4 +1,4 @@
-// The whole rehearsal, and its C export.
+// The whole rehearsal.
 ghost use mathlib.Core.Path.{_≡_};
 ghost use Rattle.rehearsal.specs.Rehearse.{rehearseOf, marksLeft, lengthsLeft};
 use crate::acceptance::accept;
