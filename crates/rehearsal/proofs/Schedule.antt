@@ -238,10 +238,10 @@ module _ (graphs : ℕ → Graph) (k q : ℕ) (choices : List ℕ) (limit : ℕ)
             tasks = (own, others-on);
             all = λ j l. ⊎-elim (λ e. inl (inl e)) (λ h. ⊎-elim (λ x. inl (inr x)) (λ x. inr x) h) (all-on j l);
             order = r .order;
-            next = inl (record { open = open; same = refl; count = refl });
+            next = inl (record { lasts = lasts; same = refl; count = refl });
           }) where
-        open : TurnEnds before event → ⊥
-        open h =
+        lasts : TurnEnds before event → ⊥
+        lasts h =
             ⊎-elim
             (λ e. short e)
             (λ g. ⊎-elim
@@ -292,10 +292,10 @@ module _ (graphs : ℕ → Graph) (k q : ℕ) (choices : List ℕ) (limit : ℕ)
 
   all-start : (i n j : ℕ) → i ≤ j → j < i + n → Has j (tasksFrom i n)
   all-start i zero j l h = absurd (omega arith)
-  all-start i (suc n) j l h = go (eqb i j) refl where
-    go : (x : Bool) → eqb i j ≡ x → (i ≡ j) ⊎ Has j (tasksFrom (suc i) n)
-    go true e = inl (eqb-true i j e)
-    go false e = let d : i ≡ j → ⊥ = eqb-false i j e in inr (all-start (suc i) n j (omega arith) (omega arith))
+  all-start i (suc n) j l h = go (eqb i j) refl (λ d. all-start (suc i) n j (omega arith) (omega arith)) where
+    go : (x : Bool) → eqb i j ≡ x → ((i ≡ j → ⊥) → Has j (tasksFrom (suc i) n)) → (i ≡ j) ⊎ Has j (tasksFrom (suc i) n)
+    go true e more = inl (eqb-true i j e)
+    go false e more = inr (more (eqb-false i j e))
 
   pub scheduled : Scheduled [] (trace graphs q choices limit (startOf k))
   scheduled =

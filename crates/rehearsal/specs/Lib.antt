@@ -2,8 +2,11 @@
 pub mod Machine
 pub mod Waits
 pub mod Schedule
+pub mod Paths
 pub mod Bound
 pub mod Trial
 pub mod Rehearse
 pub mod Flat
+pub mod Accepting
+pub mod Claims
 pub mod Running

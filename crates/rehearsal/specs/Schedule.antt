@@ -64,7 +64,7 @@ module _ (graphs : ℕ → Graph) (k q : ℕ) (choices : List ℕ) (limit : ℕ)
 
   -- the turn of e goes on
   pub record GoesOn (before : List Event) (e : Event) (script nth : ℕ) : Type 0 where
-    pub open : TurnEnds before e → ⊥
+    pub lasts : TurnEnds before e → ⊥
     pub same : script ≡ e .script
     pub count : nth ≡ e .nth + 1
 
