@@ -66,20 +66,20 @@ module _ (w0 w1 w2 w3 : List ℕ) (k : ℕ) (marks lengths : List ℕ) where
 
   -- script i is tried
   touched : (i : ℕ) (t : Tried) → SoFar i t → i < k → t .number ≡ «ACCEPTED» → SoFar (suc i) (record {
-        number = Run.numberOf (trialOf (scriptAt w0 w1 w2 w3 i) (t .marks) (t .lengths));
-        place = Run.placeOf (trialOf (scriptAt w0 w1 w2 w3 i) (t .marks) (t .lengths));
-        marks = trialMarks (scriptAt w0 w1 w2 w3 i) (t .marks) (t .lengths);
-        lengths = trialLengths (scriptAt w0 w1 w2 w3 i) (t .marks) (t .lengths);
-      })
+    number = Run.numberOf (trialOf (scriptAt w0 w1 w2 w3 i) (t .marks) (t .lengths));
+    place = Run.placeOf (trialOf (scriptAt w0 w1 w2 w3 i) (t .marks) (t .lengths));
+    marks = trialMarks (scriptAt w0 w1 w2 w3 i) (t .marks) (t .lengths);
+    lengths = trialLengths (scriptAt w0 w1 w2 w3 i) (t .marks) (t .lengths);
+  })
   touched i t s l e =
       let ws = scriptAt w0 w1 w2 w3 i in
       let same : trialOf ws (t .marks) (t .lengths) ≡ trialOf ws marks lengths =
       trial-same ws (t .marks) (t .lengths) marks lengths (s .marks-size) (s .lengths-size) in
       record {
         accepted = λ z j b h. ⊎-elim
-          (λ d. ap number d ∙ sym (ap Run.numberOf same) ∙ z)
-          (λ d. s .accepted e j (omega arith) h)
-          (same-or-not j i);
+            (λ d. ap number d ∙ sym (ap Run.numberOf same) ∙ z)
+            (λ d. s .accepted e j (omega arith) h)
+            (same-or-not j i);
         refused = λ z. record {
           script = i;
           known = l;

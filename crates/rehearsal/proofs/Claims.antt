@@ -40,7 +40,8 @@ bits : (cs : List ℕ) → anyAbove1 cs ≡ false → (c : ℕ) → In c cs → 
 unfolding anyAbove1
 bits [] e c h = absurd h
 bits (x ∷ xs) e c h = go (ltb 1 x) refl e h (bits xs) where
-  go : (b : Bool) → ltb 1 x ≡ b → (b || anyAbove1 xs) ≡ false → In c (x ∷ xs) → (anyAbove1 xs ≡ false → (c : ℕ) → In c xs → c ≤ 1) → c ≤ 1
+  go : (b : Bool) → ltb 1 x ≡ b → (b || anyAbove1 xs) ≡ false → In c (x ∷ xs)
+      → (anyAbove1 xs ≡ false → (c : ℕ) → In c xs → c ≤ 1) → c ≤ 1
   go true p e h more = absurd (true≢false e)
   go false p e h more = ⊎-elim (λ d. omega (arith, ltb-false 1 x p)) (λ d. more e c d) h
 
@@ -70,7 +71,12 @@ in-range k q cs e = go (ltb k 1) refl (ltb 4 k) refl (ltb q 1) refl (ltb 1000 q)
 not-out : (k q : ℕ) (cs : List ℕ) → InRange k q cs → outOfRange k q cs ≡ false
 unfolding outOfRange
 not-out k q cs r =
-    rw (le-ltb k 1 (omega (arith, r .some)), le-ltb 4 k (r .few), le-ltb q 1 (omega (arith, r .word)), le-ltb 1000 q (r .short))
+    rw (
+      le-ltb k 1 (omega (arith, r .some)),
+      le-ltb 4 k (r .few),
+      le-ltb q 1 (omega (arith, r .word)),
+      le-ltb 1000 q (r .short),
+    )
     (no-other cs (r .bits))
 
 not-true : (x : Bool) → (x ≡ true → ⊥) → x ≡ false
@@ -100,7 +106,8 @@ module _ (ws marks lengths : List ℕ) (ok : Run.numberOf (trialOf ws marks leng
     go : (x : Bool) → isInvalid (successorsOf ws p) ≡ x → isInvalid (successorsOf ws p) ≡ false
     go false e = e
     go true e =
-        absurd (let h = demand .eight .1 (record { word = p; met = record { reachable = r; invalid = e } }) in omega (arith, ok))
+        absurd (let h = demand .eight .1 (record { word = p; met = record { reachable = r; invalid = e } }) in omega
+        (arith, ok))
 
 no-waits : (ws : List ℕ) → length ws ≡ 0 → longestOf ws ≡ 0
 no-waits [] e = refl
@@ -136,7 +143,8 @@ module _ (w0 w1 w2 w3 : List ℕ) (k q : ℕ) (choices : List ℕ) (limit : ℕ)
   unfolding rehearseOf
   answers = go (outOfRange k q choices) refl (eqb tried «ACCEPTED») refl where
     go : (x : Bool) → outOfRange k q choices ≡ x → (y : Bool) → eqb tried «ACCEPTED» ≡ y
-        → Answers (cond x (Refused «OUT_OF_RANGE» 0) (cond y (reportOf events) (Refused tried (acceptance w0 w1 w2 w3 k marks lengths .place))))
+        → Answers (cond x (Refused «OUT_OF_RANGE» 0)
+        (cond y (reportOf events) (Refused tried (acceptance w0 w1 w2 w3 k marks lengths .place))))
     go true a y b = range a
     go false a true b = rehearses a (eqb-true _ _ b)
     go false a false b = run a (eqb-false _ _ b)
@@ -222,7 +230,8 @@ module _ (w0 w1 w2 w3 : List ℕ) (k q : ℕ) (choices : List ℕ) (limit : ℕ)
   bound r (range a) i = omega arith
   bound r (run a b) i = omega arith
   bound r (rehearses a b) i =
-      wait-most (longestWait 0 events) (longestWait 1 events) (longestWait 2 events) (longestWait 3 events) ((k - 1) * q) i
+      wait-most (longestWait 0 events) (longestWait 1 events) (longestWait 2 events) (longestWait 3 events)
+      ((k - 1) * q) i
       (most a b 0) (most a b 1) (most a b 2) (most a b 3)
 
   lowest : InRange k q choices → (r : Rehearsal) → Answers r → (numberOf r ≡ «ACCEPTED» → ⊥)
@@ -238,6 +247,7 @@ module _ (w0 w1 w2 w3 : List ℕ) (k q : ℕ) (choices : List ℕ) (limit : ℕ)
         bound = bound answer answers;
         range = (
           (λ h. in-range k q choices (not-true (outOfRange k q choices) h)),
-          (λ i e. true≢false (sym e ∙ not-out k q choices i)));
+          (λ i e. true≢false (sym e ∙ not-out k q choices i)),
+        );
         lowest = λ i n. lowest i answer answers n;
       }

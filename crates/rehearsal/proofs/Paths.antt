@@ -60,7 +60,8 @@ module _ (graphs : ℕ → Graph) (k q : ℕ) (choices : List ℕ) (limit : ℕ)
     from-own : (before : List Event) (f : Event) → f .script ≡ i → From (f ∷ before) (f .word)
     from-own before f e w a =
         ⊎-elim
-        (λ x. subst (λ (j : ℕ). In w (graphs j .successors (f .word))) e (leads-in (graphs (f .script) .successors (f .word)) (S.usedUp graphs k q choices limit before) w (x .1)))
+        (λ x. subst (λ (j : ℕ). In w (graphs j .successors (f .word))) e
+        (leads-in (graphs (f .script) .successors (f .word)) (S.usedUp graphs k q choices limit before) w (x .1)))
         (λ x. absurd (x .0 e))
         a
 
@@ -84,12 +85,14 @@ module _ (graphs : ℕ → Graph) (k q : ℕ) (choices : List ℕ) (limit : ℕ)
             (h, next, more (f .word) (law .inside p (f .word) next) (from-own before f own))
         go false e more = more p h (λ w a. from w (other before f w (eqb-false _ _ e) a))
 
-      pub on-path : (before es : List Event) → ((w : ℕ) → At before i w → w ≡ 0) → Scheduled before es → OnPath (graphs i) i es
+      pub on-path : (before es : List Event) → ((w : ℕ) → At before i w → w ≡ 0) → Scheduled before es
+          → OnPath (graphs i) i es
       on-path before [] from s = inl refl
       on-path before (f ∷ es) from s = go (eqb (f .script) i) refl (λ g. on-path (f ∷ before) es g (s .1)) where
         go : (x : Bool) → eqb (f .script) i ≡ x
             → (((w : ℕ) → At (f ∷ before) i w → w ≡ 0) → (wordsOf i es ≡ []) ⊎ Path (graphs i) (wordsOf i es))
-            → (cond x (f .word ∷ wordsOf i es) (wordsOf i es) ≡ []) ⊎ Path (graphs i) (cond x (f .word ∷ wordsOf i es) (wordsOf i es))
+            → (cond x (f .word ∷ wordsOf i es) (wordsOf i es) ≡ [])
+            ⊎ Path (graphs i) (cond x (f .word ∷ wordsOf i es) (wordsOf i es))
         go true e more =
             let own : f .script ≡ i = eqb-true _ _ e in
             let zero : f .word ≡ 0 = from (f .word) (at-own before f own (s .0 .due .at)) in
@@ -101,7 +104,8 @@ module _ (graphs : ℕ → Graph) (k q : ℕ) (choices : List ℕ) (limit : ℕ)
     Apart [] = Unit {0}
     Apart (e ∷ before) = e .script ≡ i → ⊥
 
-    starts : (before : List Event) (f : Event) → Apart before → f .script ≡ i → S.Next graphs k q choices limit before (f .script) (f .nth)
+    starts : (before : List Event) (f : Event) → Apart before → f .script ≡ i
+        → S.Next graphs k q choices limit before (f .script) (f .nth)
         → f .nth ≡ 0
     starts [] f a e n = n .1
     starts (g ∷ before) f a e n = ⊎-elim (λ x. absurd (a (sym (x .same) ∙ e))) (λ x. x .starts) n
@@ -122,9 +126,12 @@ module _ (graphs : ℕ → Graph) (k q : ℕ) (choices : List ℕ) (limit : ℕ)
     turns before [] a s = inl (refl, refl)
     turns before (f ∷ es) a s = go (eqb (f .script) i) refl (λ b. turns (f ∷ before) es b (s .1)) where
       go : (x : Bool) → eqb (f .script) i ≡ x
-          → (Apart (f ∷ before) → ((waitsOf i es ≡ []) × (turnsOf i es ≡ 0)) ⊎ (length (waitsOf i es) + 1 ≡ turnsOf i es))
-          → ((cond x (waitsSince i 0 es) (waitsOf i es) ≡ []) × (cond x (cond (eqb (f .nth) 0) (turnsOf i es + 1) (turnsOf i es)) (turnsOf i es) ≡ 0))
-          ⊎ (length (cond x (waitsSince i 0 es) (waitsOf i es)) + 1 ≡ cond x (cond (eqb (f .nth) 0) (turnsOf i es + 1) (turnsOf i es)) (turnsOf i es))
+          → (Apart (f ∷ before) → ((waitsOf i es ≡ []) × (turnsOf i es ≡ 0))
+          ⊎ (length (waitsOf i es) + 1 ≡ turnsOf i es))
+          → ((cond x (waitsSince i 0 es) (waitsOf i es) ≡ [])
+          × (cond x (cond (eqb (f .nth) 0) (turnsOf i es + 1) (turnsOf i es)) (turnsOf i es) ≡ 0))
+          ⊎ (length (cond x (waitsSince i 0 es) (waitsOf i es)) + 1
+          ≡ cond x (cond (eqb (f .nth) 0) (turnsOf i es + 1) (turnsOf i es)) (turnsOf i es))
       go true e more =
           let z : f .nth ≡ 0 = starts before f a (eqb-true _ _ e) (s .0 .due .next) in
           inr (rw z (ap (λ (n : ℕ). n + 1) (since-turns 0 es)))

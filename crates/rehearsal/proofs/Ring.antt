@@ -1,5 +1,5 @@
--- Scripts in cyclic order: a queue whose first goes to the end, or leaves, stays in that order, and nobody in it stands between two
--- neighbours.
+-- Scripts in cyclic order: a queue whose first goes to the end, or leaves, stays in that order, and nobody in it
+-- stands between two neighbours.
 -- Assumes nothing.
 use mathlib.Core.Path.{_≡_}
 use mathlib.Core.Logic.{_⊎_, inl, inr, ⊎-elim}
@@ -56,9 +56,9 @@ ring-range first last j [] r h = absurd h
 ring-range first last j (t ∷ ts) r h =
     ⊎-elim
     (λ x. ⊎-elim
-      (λ e. inl (omega (arith, x .0)))
-      (λ g. ⊎-elim (λ l. inl (omega (arith, x .0))) (λ l. inr l) (ring-range first (t .script) j ts (x .1) g))
-      h)
+    (λ e. inl (omega (arith, x .0)))
+    (λ g. ⊎-elim (λ l. inl (omega (arith, x .0))) (λ l. inr l) (ring-range first (t .script) j ts (x .1) g))
+    h)
     (λ x. ⊎-elim (λ e. inr (omega (arith, x .0))) (λ g. inr (wrapped-range first (t .script) j ts (x .1) g .1)) h)
     r
 
@@ -84,7 +84,8 @@ widen a b last (t ∷ ts) h r =
     (λ x. inr (omega (arith, x .0), widen-wrapped a b (t .script) ts h (x .1)))
     r
 
-wrapped-end : (a b last to : ℕ) (ts : List Task) → a < b → last < a → Wrapped a last ts → Wrapped b last (ts ++ (taskAt a to ∷ []))
+wrapped-end : (a b last to : ℕ) (ts : List Task) → a < b → last < a → Wrapped a last ts
+    → Wrapped b last (ts ++ (taskAt a to ∷ []))
 wrapped-end a b last to [] h l w = (l, h, tt)
 wrapped-end a b last to (t ∷ ts) h l w = (w .0, omega (arith, w .1), wrapped-end a b (t .script) to ts h (w .1) (w .2))
 
@@ -137,26 +138,29 @@ passed t u us j o m h =
     (λ x. not-rising (t .script) (u .script) j (x .0) m (rising x h))
     (λ x. not-wrapped (t .script) (u .script) j (omega (arith, x .0)) m (wrapped x h .0) (wrapped x h .1))
     o where
-  rising : (t .script < u .script) × Ring (t .script) (u .script) us → Has j (u ∷ us) ⊎ (t .script ≡ j)
-      → (u .script ≤ j) ⊎ (j ≤ t .script)
-  rising x h =
-      ⊎-elim
-      (λ g. ⊎-elim
-        (λ e. inl (omega arith))
-        (λ i. ⊎-elim (λ l. inl (omega arith)) (λ l. inr (omega arith)) (ring-range (t .script) (u .script) j us (x .1) i))
-        g)
-      (λ e. inr (omega arith))
-      h
-  wrapped : (u .script < t .script) × Wrapped (t .script) (u .script) us → Has j (u ∷ us) ⊎ (t .script ≡ j)
-      → (u .script ≤ j) × (j ≤ t .script)
-  wrapped x h =
-      ⊎-elim
-      (λ g. ⊎-elim
-        (λ e. (omega arith, omega (arith, x .0)))
-        (λ i. let r = wrapped-range (t .script) (u .script) j us (x .1) i in (omega (arith, r .0), omega (arith, r .1)))
-        g)
-      (λ e. (omega (arith, x .0), omega arith))
-      h
+      rising : (t .script < u .script) × Ring (t .script) (u .script) us → Has j (u ∷ us) ⊎ (t .script ≡ j)
+          → (u .script ≤ j) ⊎ (j ≤ t .script)
+      rising x h =
+          ⊎-elim
+          (λ g. ⊎-elim
+          (λ e. inl (omega arith))
+          (λ i. ⊎-elim (λ l. inl (omega arith)) (λ l. inr (omega arith))
+          (ring-range (t .script) (u .script) j us (x .1) i))
+          g)
+          (λ e. inr (omega arith))
+          h
+
+      wrapped : (u .script < t .script) × Wrapped (t .script) (u .script) us → Has j (u ∷ us) ⊎ (t .script ≡ j)
+          → (u .script ≤ j) × (j ≤ t .script)
+      wrapped x h =
+          ⊎-elim
+          (λ g. ⊎-elim
+          (λ e. (omega arith, omega (arith, x .0)))
+          (λ i. let r = wrapped-range (t .script) (u .script) j us (x .1) i in
+          (omega (arith, r .0), omega (arith, r .1)))
+          g)
+          (λ e. (omega (arith, x .0), omega arith))
+          h
 
 pub alone : (a j : ℕ) → Between a j a → a ≡ j → ⊥
 alone a j m e = not-wrapped a a j (omega arith) m (omega arith) (omega arith)

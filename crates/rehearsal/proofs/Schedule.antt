@@ -101,7 +101,8 @@ module _ (graphs : ℕ → Graph) (k q : ℕ) (choices : List ℕ) (limit : ℕ)
   Goes before left (ran e s) = Ran before e × Ready (e ∷ before) left (s .queue) (s .used) (s .taken)
 
   tasks-append : (before : List Event) (ts : List Task) (s : Task) → Tasks before ts
-      → (s .script < k) × ((Returned (s .script) before → ⊥) × At before (s .script) (s .word)) → Tasks before (ts ++ (s ∷ []))
+      → (s .script < k) × ((Returned (s .script) before → ⊥) × At before (s .script) (s .word))
+      → Tasks before (ts ++ (s ∷ []))
   tasks-append before [] s a h = (h, tt)
   tasks-append before (t ∷ ts) s a h = (a .0, tasks-append before ts s (a .1) h)
 
@@ -116,11 +117,16 @@ module _ (graphs : ℕ → Graph) (k q : ℕ) (choices : List ℕ) (limit : ℕ)
     -- the others are where they were
     tasks-on : (us : List Task) → ((j : ℕ) → Has j us → t .script ≡ j → ⊥) → Tasks before us → Tasks (event ∷ before) us
     tasks-on [] n a = tt
-    tasks-on (u ∷ us) n a =
-        ((a .0 .0, (
+    tasks-on (u ∷ us) n a = (
+      (
+        a .0 .0,
+        (
           (λ h. ⊎-elim (λ x. n (u .script) (inl refl) (x .0)) (λ x. a .0 .1 .0 x) h),
-          inr ((λ e. n (u .script) (inl refl) e), a .0 .1 .1))),
-          tasks-on us (λ j h. n j (inr h)) (a .1))
+          inr ((λ e. n (u .script) (inl refl) e), a .0 .1 .1),
+        ),
+      ),
+      tasks-on us (λ j h. n j (inr h)) (a .1),
+    )
 
     others-on : Tasks (event ∷ before) ts
     others-on = tasks-on ts (λ j h. first-once t ts j (r .order) h) (r .tasks .1)
@@ -136,15 +142,18 @@ module _ (graphs : ℕ → Graph) (k q : ℕ) (choices : List ℕ) (limit : ℕ)
 
     -- the script returns
     returns : steps ≡ [] → Goes before left (moved graphs q choices t ts used taken Return)
-    returns e = (ran-now few, record {
-          counts = omega (arith, r .counts, none);
-          chosen = few;
-          words = words-on;
-          tasks = others-on;
-          all = all;
-          order = order-leaves t ts (r .order);
-          next = next ts refl;
-        }) where
+    returns e = (
+      ran-now few,
+      record {
+        counts = omega (arith, r .counts, none);
+        chosen = few;
+        words = words-on;
+        tasks = others-on;
+        all = all;
+        order = order-leaves t ts (r .order);
+        next = next ts refl;
+      },
+    ) where
       none : needed steps ≡ 0
       none = ap needed e
 
@@ -162,13 +171,15 @@ module _ (graphs : ℕ → Graph) (k q : ℕ) (choices : List ℕ) (limit : ℕ)
             over = inr (inr e);
             starts = refl;
             rotates = λ j l m. ⊎-elim
-              (λ h. absurd (passed t u us j (subst (λ (l : List Task). Order (t ∷ l)) p (r .order)) m (inl (subst (Has j) p h))))
-              (λ h. h)
-              (all j l);
+                (λ h. absurd (passed t u us j (subst (λ (l : List Task). Order (t ∷ l)) p (r .order)) m
+                (inl (subst (Has j) p h))))
+                (λ h. h)
+                (all j l);
           })
 
     -- it goes on to a word
-    module _ (to at : ℕ) (leads : LeadsTo steps taken to) (counts : at ≡ taken + needed steps) (few : taken ≤ length choices → at ≤ length choices) where
+    module _ (to at : ℕ) (leads : LeadsTo steps taken to) (counts : at ≡ taken + needed steps)
+        (few : taken ≤ length choices → at ≤ length choices) where
       leads-now : LeadsTo steps (usedUp before) to
       leads-now = subst (λ (n : ℕ). LeadsTo steps n to) (r .counts) leads
 
@@ -179,25 +190,32 @@ module _ (graphs : ℕ → Graph) (k q : ℕ) (choices : List ℕ) (limit : ℕ)
       chosen-now = let h = few (omega (arith, r .counts, r .chosen)) in omega (arith, counts-now)
 
       own : (t .script < k) × ((Returned (t .script) (event ∷ before) → ⊥) × At (event ∷ before) (t .script) to)
-      own =
-          (r .tasks .0 .0, (
-            (λ h. ⊎-elim (λ x. leads-some steps taken to leads (x .1)) (λ x. r .tasks .0 .1 .0 x) h),
-            inl (refl, leads-now)))
+      own = (
+        r .tasks .0 .0,
+        (
+          (λ h. ⊎-elim (λ x. leads-some steps taken to leads (x .1)) (λ x. r .tasks .0 .1 .0 x) h),
+          inl (refl, leads-now),
+        ),
+      )
 
       all-on : (j : ℕ) → j < k → (t .script ≡ j) ⊎ (Has j ts ⊎ Returned j (event ∷ before))
       all-on j l = ⊎-elim (λ h. ⊎-elim (λ x. inl x) (λ x. inr (inl x)) h) (λ h. inr (inr (inr h))) (r .all j l)
 
       -- the turn is over
-      over : TurnEnds before event → Goes before left (ran event (record { queue = ts ++ (taskAt (t .script) to ∷ []); used = 0; taken = at }))
-      over ends = (ran-now chosen-now, record {
-            counts = counts-now;
-            chosen = chosen-now;
-            words = words-on;
-            tasks = tasks-append (event ∷ before) ts (taskAt (t .script) to) others-on own;
-            all = all;
-            order = order-rotates t to ts (r .order);
-            next = next ts refl;
-          }) where
+      over : TurnEnds before event → Goes before left
+          (ran event (record { queue = ts ++ (taskAt (t .script) to ∷ []); used = 0; taken = at }))
+      over ends = (
+        ran-now chosen-now,
+        record {
+          counts = counts-now;
+          chosen = chosen-now;
+          words = words-on;
+          tasks = tasks-append (event ∷ before) ts (taskAt (t .script) to) others-on own;
+          all = all;
+          order = order-rotates t to ts (r .order);
+          next = next ts refl;
+        },
+      ) where
         all : (j : ℕ) → j < k → Has j (ts ++ (taskAt (t .script) to ∷ [])) ⊎ Returned j (event ∷ before)
         all j l =
             ⊎-elim
@@ -211,50 +229,57 @@ module _ (graphs : ℕ → Graph) (k q : ℕ) (choices : List ℕ) (limit : ℕ)
               over = ends;
               starts = refl;
               rotates = λ j l m. ⊎-elim
-                (λ e. absurd (alone (t .script) j m e))
-                (λ h. ⊎-elim (λ x. absurd (subst (Has j) p x)) (λ x. x) h)
-                (all-on j l);
+                  (λ e. absurd (alone (t .script) j m e))
+                  (λ h. ⊎-elim (λ x. absurd (subst (Has j) p x)) (λ x. x) h)
+                  (all-on j l);
             })
         next (u ∷ us) p =
             inr (record {
               over = ends;
               starts = refl;
               rotates = λ j l m. ⊎-elim
-                (λ e. absurd (passed t u us j (subst (λ (l : List Task). Order (t ∷ l)) p (r .order)) m (inr e)))
-                (λ h. ⊎-elim
-                  (λ x. absurd (passed t u us j (subst (λ (l : List Task). Order (t ∷ l)) p (r .order)) m (inl (subst (Has j) p x))))
+                  (λ e. absurd (passed t u us j (subst (λ (l : List Task). Order (t ∷ l)) p (r .order)) m (inr e)))
+                  (λ h. ⊎-elim
+                  (λ x. absurd (passed t u us j (subst (λ (l : List Task). Order (t ∷ l)) p (r .order)) m
+                  (inl (subst (Has j) p x))))
                   (λ x. x)
                   h)
-                (all-on j l);
+                  (all-on j l);
             })
 
       -- the turn goes on
       goes-on : graphs (t .script) .serves (t .word) to ≡ false → (used + 1 ≡ q → ⊥)
           → Goes before left (ran event (record { queue = taskAt (t .script) to ∷ ts; used = used + 1; taken = at }))
-      goes-on unserved short = (ran-now chosen-now, record {
-            counts = counts-now;
-            chosen = chosen-now;
-            words = words-on;
-            tasks = (own, others-on);
-            all = λ j l. ⊎-elim (λ e. inl (inl e)) (λ h. ⊎-elim (λ x. inl (inr x)) (λ x. inr x) h) (all-on j l);
-            order = r .order;
-            next = inl (record { lasts = lasts; same = refl; count = refl });
-          }) where
+      goes-on unserved short = (
+        ran-now chosen-now,
+        record {
+          counts = counts-now;
+          chosen = chosen-now;
+          words = words-on;
+          tasks = (own, others-on);
+          all = λ j l. ⊎-elim (λ e. inl (inl e)) (λ h. ⊎-elim (λ x. inl (inr x)) (λ x. inr x) h) (all-on j l);
+          order = r .order;
+          next = inl (record { lasts = lasts; same = refl; count = refl });
+        },
+      ) where
         lasts : TurnEnds before event → ⊥
         lasts h =
             ⊎-elim
             (λ e. short e)
             (λ g. ⊎-elim
-              (λ v. true≢false
-                (sym (v .serves)
-                ∙ ap (λ (x : ℕ). graphs (t .script) .serves (t .word) x) (leads-once steps (usedUp before) (v .to) to (v .leads) leads-now)
-                ∙ unserved))
-              (λ e. leads-some steps taken to leads e)
-              g)
+            (λ v. true≢false
+            (sym (v .serves)
+            ∙ ap (λ (x : ℕ). graphs (t .script) .serves (t .word) x)
+            (leads-once steps (usedUp before) (v .to) to (v .leads) leads-now)
+            ∙ unserved))
+            (λ e. leads-some steps taken to leads e)
+            g)
             h
 
       goes : (x y : Bool) → graphs (t .script) .serves (t .word) to ≡ x → eqb (used + 1) q ≡ y
-          → Goes before left (ran event (cond (x || y) (record { queue = ts ++ (taskAt (t .script) to ∷ []); used = 0; taken = at }) (record { queue = taskAt (t .script) to ∷ ts; used = used + 1; taken = at })))
+          → Goes before left (ran event (cond (x || y)
+          (record { queue = ts ++ (taskAt (t .script) to ∷ []); used = 0; taken = at })
+          (record { queue = taskAt (t .script) to ∷ ts; used = used + 1; taken = at })))
       goes true y a b = over (inr (inl (record { to = to; leads = leads-now; serves = a })))
       goes false true a b = over (inl (eqb-true (used + 1) q b))
       goes false false a b = goes-on a (eqb-false (used + 1) q b)
@@ -266,7 +291,8 @@ module _ (graphs : ℕ → Graph) (k q : ℕ) (choices : List ℕ) (limit : ℕ)
     step (Go to at) s =
         goes to at (s .0) (s .1 .0) (s .1 .1) (graphs (t .script) .serves (t .word) to) (eqb (used + 1) q) refl refl
 
-  steps-on : (before : List Event) (left : ℕ) (queue : List Task) (used taken : ℕ) → Ready before (suc left) queue used taken
+  steps-on : (before : List Event) (left : ℕ) (queue : List Task) (used taken : ℕ)
+      → Ready before (suc left) queue used taken
       → Goes before left (stepFrom graphs q choices queue used taken)
   steps-on before left [] used taken r = inl (λ j l. ⊎-elim (λ h. absurd h) (λ h. h) (r .all j l))
   steps-on before left (t ∷ ts) used taken r =
@@ -278,13 +304,15 @@ module _ (graphs : ℕ → Graph) (k q : ℕ) (choices : List ℕ) (limit : ℕ)
   unfolding trace
   from-ready zero before s r = inr (inr (omega (arith, r .words)))
   from-ready (suc left) before s r =
-      go (stepFrom graphs q choices (s .queue) (s .used) (s .taken)) (steps-on before left (s .queue) (s .used) (s .taken) r)
+      go (stepFrom graphs q choices (s .queue) (s .used) (s .taken))
+      (steps-on before left (s .queue) (s .used) (s .taken) r)
       (from-ready left) where
-    go : (st : Step) → Goes before left st
-        → ((b : List Event) (u : State) → Ready b left (u .queue) (u .used) (u .taken) → Scheduled b (trace graphs q choices left u))
-        → Scheduled before (followed graphs q choices st (trace graphs q choices left))
-    go halt g more = g
-    go (ran e u) g more = (g .0, more (e ∷ before) u (g .1))
+        go : (st : Step) → Goes before left st
+            → ((b : List Event) (u : State) → Ready b left (u .queue) (u .used) (u .taken)
+            → Scheduled b (trace graphs q choices left u))
+            → Scheduled before (followed graphs q choices st (trace graphs q choices left))
+        go halt g more = g
+        go (ran e u) g more = (g .0, more (e ∷ before) u (g .1))
 
   tasks-start : (i n : ℕ) → i + n ≤ k → Tasks [] (tasksFrom i n)
   tasks-start i zero h = tt
@@ -309,6 +337,6 @@ module _ (graphs : ℕ → Graph) (k q : ℕ) (choices : List ℕ) (limit : ℕ)
         order = order-start 0 k;
         next = next-start k;
       }) where
-    next-start : (n : ℕ) → FirstNext [] 0 (tasksFrom 0 n)
-    next-start zero = tt
-    next-start (suc n) = (refl, refl)
+        next-start : (n : ℕ) → FirstNext [] 0 (tasksFrom 0 n)
+        next-start zero = tt
+        next-start (suc n) = (refl, refl)

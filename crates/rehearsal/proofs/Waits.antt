@@ -59,11 +59,13 @@ own-before i w e es own v =
       words = omega (arith, v .words);
     }
 
-either : (i w : ℕ) (e : Event) (es : List Event) → e .script ≡ i → Waiting i 0 es w ⊎ WaitIn i es w → WaitIn i (e ∷ es) w
+either : (i w : ℕ) (e : Event) (es : List Event) → e .script ≡ i → Waiting i 0 es w ⊎ WaitIn i es w
+    → WaitIn i (e ∷ es) w
 either i w e es own h = ⊎-elim (λ v. own-before i w e es own v) (λ v. later i w e es v) h
 
 -- a word of another in front of it
-one-more : (i n w : ℕ) (e : Event) (es : List Event) → (e .script ≡ i → ⊥) → Waiting i (n + 1) es w → Waiting i n (e ∷ es) w
+one-more : (i n w : ℕ) (e : Event) (es : List Event) → (e .script ≡ i → ⊥) → Waiting i (n + 1) es w
+    → Waiting i n (e ∷ es) w
 one-more i n w e es other v =
     record {
       between = e ∷ v .between;
@@ -108,21 +110,25 @@ since i n w (e ∷ es) h = go (eqb (e .script) i) refl (eqb (e .nth) 0) refl h (
 read : (i w : ℕ) (es : List Event) → In w (waitsOf i es) → WaitIn i es w
 read i w [] h = absurd h
 read i w (e ∷ es) h = go (eqb (e .script) i) refl h (read i w es) where
-  go : (x : Bool) → eqb (e .script) i ≡ x → In w (cond x (waitsSince i 0 es) (waitsOf i es)) → (In w (waitsOf i es) → WaitIn i es w)
+  go : (x : Bool) → eqb (e .script) i ≡ x → In w (cond x (waitsSince i 0 es) (waitsOf i es))
+      → (In w (waitsOf i es) → WaitIn i es w)
       → WaitIn i (e ∷ es) w
   go true p h more = either i w e es (eqb-true _ _ p) (since i 0 w es h)
   go false p h more = later i w e es (more h)
 
 -- the other way round: the wait that ends here
-ends-here : (i n : ℕ) (between : List Event) (first : Event) (after : List Event) → OfOthers i between → first .script ≡ i
+ends-here : (i n : ℕ) (between : List Event) (first : Event) (after : List Event) → OfOthers i between → first .script
+    ≡ i
     → first .nth ≡ 0 → In (n + length between) (waitsSince i n (between ++ (first ∷ after)))
-ends-here i n [] first after o own starts = rw (eq-eqb (first .script) i own, eq-eqb (first .nth) 0 starts) (inl (omega arith))
+ends-here i n [] first after o own starts = rw (eq-eqb (first .script) i own, eq-eqb (first .nth) 0 starts)
+    (inl (omega arith))
 ends-here i n (e ∷ between) first after o own starts =
     let s : n + length (e ∷ between) ≡ n + 1 + length between = omega arith in
     rw (ne-eqb (e .script) i (o .0), s) (ends-here i (n + 1) between first after (o .1) own starts)
 
 -- what follows an own word counts, whatever stands before
-after-own : (i n w : ℕ) (before : List Event) (last : Event) (es : List Event) → last .script ≡ i → In w (waitsSince i 0 es)
+after-own : (i n w : ℕ) (before : List Event) (last : Event) (es : List Event) → last .script ≡ i
+    → In w (waitsSince i 0 es)
     → In w (waitsSince i n (before ++ (last ∷ es)))
 after-own i n w [] last es own h = rw (eq-eqb (last .script) i own) (go (eqb (last .nth) 0)) where
   go : (y : Bool) → In w (cond y (n ∷ waitsSince i 0 es) (waitsSince i 0 es))
@@ -130,13 +136,15 @@ after-own i n w [] last es own h = rw (eq-eqb (last .script) i own) (go (eqb (la
   go false = h
 after-own i n w (e ∷ before) last es own h =
     go (eqb (e .script) i) (eqb (e .nth) 0) (λ m. after-own i m w before last es own h) where
-  go : (x y : Bool) → ((m : ℕ) → In w (waitsSince i m (before ++ (last ∷ es))))
-      → In w (cond x (cond y (n ∷ waitsSince i 0 (before ++ (last ∷ es))) (waitsSince i 0 (before ++ (last ∷ es)))) (waitsSince i (n + 1) (before ++ (last ∷ es))))
-  go true true more = inr (more 0)
-  go true false more = more 0
-  go false y more = more (n + 1)
+      go : (x y : Bool) → ((m : ℕ) → In w (waitsSince i m (before ++ (last ∷ es))))
+          → In w (cond x (cond y (n ∷ waitsSince i 0 (before ++ (last ∷ es))) (waitsSince i 0 (before ++ (last ∷ es))))
+          (waitsSince i (n + 1) (before ++ (last ∷ es))))
+      go true true more = inr (more 0)
+      go true false more = more 0
+      go false y more = more (n + 1)
 
-after-first : (i w : ℕ) (before : List Event) (last : Event) (es : List Event) → last .script ≡ i → In w (waitsSince i 0 es)
+after-first : (i w : ℕ) (before : List Event) (last : Event) (es : List Event) → last .script ≡ i
+    → In w (waitsSince i 0 es)
     → In w (waitsOf i (before ++ (last ∷ es)))
 after-first i w [] last es own h = rw (eq-eqb (last .script) i own) h
 after-first i w (e ∷ before) last es own h = go (eqb (e .script) i) (after-first i w before last es own h) where
@@ -163,7 +171,7 @@ longest-in w [] = inl (omega arith)
 longest-in w (v ∷ ws) =
     ⊎-elim
     (λ h. let e : max w (longestOf (v ∷ ws)) ≡ longestOf (v ∷ ws) = omega arith in
-      inr (subst (λ (m : ℕ). In m (v ∷ ws)) (sym e) (longest-in v ws)))
+    inr (subst (λ (m : ℕ). In m (v ∷ ws)) (sym e) (longest-in v ws)))
     (λ h. inl (omega arith))
     (split w (longestOf (v ∷ ws)))
 
@@ -175,7 +183,7 @@ waits i es =
       longest-most = λ w v. in-most w (waitsOf i es) (found i w es v);
       longest-some = go (waitsOf i es) (λ w. read i w es) (λ w. found i w es);
     } where
-  go : (ws : List ℕ) → ((w : ℕ) → In w ws → WaitIn i es w) → ((w : ℕ) → WaitIn i es w → In w ws)
-      → WaitIn i es (longestOf ws) ⊎ (((w : ℕ) → WaitIn i es w → ⊥) × (longestOf ws ≡ 0))
-  go [] r f = inr ((λ w v. f w v), refl)
-  go (w ∷ ws) r f = inl (r (longestOf (w ∷ ws)) (longest-in w ws))
+      go : (ws : List ℕ) → ((w : ℕ) → In w ws → WaitIn i es w) → ((w : ℕ) → WaitIn i es w → In w ws)
+          → WaitIn i es (longestOf ws) ⊎ (((w : ℕ) → WaitIn i es w → ⊥) × (longestOf ws ≡ 0))
+      go [] r f = inr ((λ w v. f w v), refl)
+      go (w ∷ ws) r f = inl (r (longestOf (w ∷ ws)) (longest-in w ws))

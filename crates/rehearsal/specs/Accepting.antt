@@ -1,5 +1,6 @@
--- Request C-21, "Acceptance is tried .., lowest script first" and "whatever the longest run gives for the lowest script it refuses": what
--- `acceptance` comes to, of at most four scripts. Every run tried has slices of the lengths that were lent.
+-- Request C-21, "Acceptance is tried .., lowest script first" and "whatever the longest run gives for the lowest
+-- script it refuses": what `acceptance` comes to, of at most four scripts. Every run tried has slices of the lengths
+-- that were lent.
 -- Assumes nothing.
 use mathlib.Core.Path.{_≡_}
 use mathlib.Core.List.{List}

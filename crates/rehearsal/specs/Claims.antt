@@ -1,4 +1,5 @@
--- Request C-21: what is claimed of the answer that `rehearse` gives, a field for each sentence. proofs/Claims.antt proves `Claims` of all inputs.
+-- Request C-21: what is claimed of the answer that `rehearse` gives, a field for each sentence. proofs/Claims.antt
+-- proves `Claims` of all inputs.
 -- Assumes nothing.
 use mathlib.Core.Path.{_≡_}
 use mathlib.Core.Logic.{_⊎_, _↔_}
@@ -39,7 +40,9 @@ module _ (w0 w1 w2 w3 : List ℕ) (k q : ℕ) (choices : List ℕ) (limit : ℕ)
     pub known : (e : Event) → In e events → e .script < k
     pub proper : (e : Event) → In e events → Proper (scriptAt w0 w1 w2 w3 (e .script)) (e .word)
     -- "It reports the longest wait of each script"
-    pub reports : (i : ℕ) → i < mostScripts → waitOf (rehearseOf w0 w1 w2 w3 k q choices limit marks lengths) i ≡ longestWait i events
+    pub reports :
+        (i : ℕ) → i < mostScripts
+        → waitOf (rehearseOf w0 w1 w2 w3 k q choices limit marks lengths) i ≡ longestWait i events
     pub waits : (i : ℕ) → Waits i events
     -- "a script with fewer than two turns reports 0"
     pub few-turns : (i : ℕ) → turnsOf i events < 2 → longestWait i events ≡ 0

@@ -1,5 +1,5 @@
--- Request C-21, "accepted scripts": which words a rehearsal runs. proofs/Paths.antt proves `Along` of any scheduled trace, over graphs that have
--- words, and proofs/Claims.antt `Proper` of a rehearsal that is accepted.
+-- Request C-21, "accepted scripts": which words a rehearsal runs. proofs/Paths.antt proves `Along` of any scheduled
+-- trace, over graphs that have words, and proofs/Claims.antt `Proper` of a rehearsal that is accepted.
 -- Assumes nothing.
 use mathlib.Core.Path.{_≡_}
 use mathlib.Core.Logic.{_⊎_}

@@ -36,7 +36,8 @@ anyAbove1 (c ∷ cs) = ltb 1 c || anyAbove1 cs
 unfoldable pub outOfRange : ℕ → ℕ → List ℕ → Bool
 outOfRange k q choices = ltb k 1 || ltb mostScripts k || ltb q 1 || ltb mostQuantum q || anyAbove1 choices
 
--- how far acceptance went: the number and place of the last run tried, and "one pair of work slices, which keep what the last run tried left"
+-- how far acceptance went: the number and place of the last run tried, and "one pair of work slices, which keep what
+-- the last run tried left"
 pub record Tried : Type 0 where
   pub number : ℕ
   pub place : ℕ

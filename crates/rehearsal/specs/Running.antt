@@ -1,5 +1,5 @@
--- What the code keeps: a turn at a time, and running numbers in place of the trace. The contracts of private functions cite it;
--- proofs/Turns.antt joins it to the machine and to the waits.
+-- What the code keeps: a turn at a time, and running numbers in place of the trace. The contracts of private
+-- functions cite it; proofs/Turns.antt joins it to the machine and to the waits.
 -- Assumes nothing.
 use mathlib.Core.Bool.{Bool, true, false, cond, _&&_}
 use mathlib.Core.List.{List, [], _∷_}
@@ -44,7 +44,11 @@ withTally b i t =
 unfoldable pub notedTally : Tally → ℕ → ℕ → Tally
 notedTally t left ran =
     cond (eqb ran 0) t
-    (record { turned = true; ended = left - ran; longest = cond (t .turned) (max (t .longest) (t .ended - left)) (t .longest) })
+    (record {
+      turned = true;
+      ended = left - ran;
+      longest = cond (t .turned) (max (t .longest) (t .ended - left)) (t .longest);
+    })
 
 unfoldable pub noted : Tallies → ℕ → ℕ → ℕ → Tallies
 noted b who left ran = withTally b who (notedTally (tallyAt b who) left ran)
@@ -58,16 +62,39 @@ withoutFirst q = record { size = q .size - 1; a = q .b; b = q .c; c = q .d; d = 
 -- the first leaves its place and goes to the end as s
 unfoldable pub toTheEnd : Queue → Task → Queue
 toTheEnd q s =
-    record { size = q .size; a = cond (eqb (q .size) 1) s (q .b); b = cond (eqb (q .size) 2) s (q .c); c = cond (eqb (q .size) 3) s (q .d); d = s }
+    record {
+      size = q .size;
+      a = cond (eqb (q .size) 1) s (q .b);
+      b = cond (eqb (q .size) 2) s (q .c);
+      c = cond (eqb (q .size) 3) s (q .d);
+      d = s;
+    }
 
 -- a stage after a turn of its queue's first
 abbrev pub staged : Stage → Turn → Stage
+-- a choice is needed and none is left: no words are left to run
 staged st (Starved n) =
-    record { queue = st .queue; tallies = noted (st .tallies) (st .queue .a .script) (st .left) n; left = 0; taken = st .taken }
+    record {
+      queue = st .queue;
+      tallies = noted (st .tallies) (st .queue .a .script) (st .left) n;
+      left = 0;
+      taken = st .taken;
+    }
+-- the last that returns leaves no words to run
 staged st (Returned n at) =
-    record { queue = withoutFirst (st .queue); tallies = noted (st .tallies) (st .queue .a .script) (st .left) n; left = cond (eqb (st .queue .size) 1) 0 (st .left - n); taken = at }
+    record {
+      queue = withoutFirst (st .queue);
+      tallies = noted (st .tallies) (st .queue .a .script) (st .left) n;
+      left = cond (eqb (st .queue .size) 1) 0 (st .left - n);
+      taken = at;
+    }
 staged st (Over n p at) =
-    record { queue = toTheEnd (st .queue) (taskAt (st .queue .a .script) p); tallies = noted (st .tallies) (st .queue .a .script) (st .left) n; left = st .left - n; taken = at }
+    record {
+      queue = toTheEnd (st .queue) (taskAt (st .queue .a .script) p);
+      tallies = noted (st .tallies) (st .queue .a .script) (st .left) n;
+      left = st .left - n;
+      taken = at;
+    }
 
 module _ (graphs : ℕ → Graph) (q : ℕ) (choices : List ℕ) where
   abbrev pub firstTurn : Stage → Turn
@@ -84,7 +111,8 @@ unfoldable pub startStage : ℕ → ℕ → Stage
 startStage k limit =
     record {
       queue = record { size = k; a = taskAt 0 0; b = taskAt 1 0; c = taskAt 2 0; d = taskAt 3 0 };
-      tallies = record { first = newTally limit; second = newTally limit; third = newTally limit; fourth = newTally limit };
+      tallies =
+          record { first = newTally limit; second = newTally limit; third = newTally limit; fourth = newTally limit };
       left = limit;
       taken = 0;
     }

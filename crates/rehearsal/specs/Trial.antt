@@ -1,5 +1,5 @@
--- Request C-21: "Acceptance is tried with all weights 1". The run that a script is tried by: all that a rehearsal knows of the longest run's
--- answer and slices stands here.
+-- Request C-21: "Acceptance is tried with all weights 1". The run that a script is tried by: all that a rehearsal
+-- knows of the longest run's answer and slices stands here.
 -- Assumes nothing.
 use mathlib.Core.List.{List}
 use Prim.Native.Nat.{ℕ}

@@ -41,7 +41,8 @@ pub(crate) fn out_of_range(count: usize, quantum: u32, choices: &[u8]) -> bool
     any_above_1(choices)
 }
 
-// A script that is wanted is tried if all before it were accepted. All that a rehearsal asks of the longest run stands here.
+// A script that is wanted is tried if all before it were accepted. All that a rehearsal asks of the longest run
+// stands here.
 fn try_script(
     wanted: bool,
     words: &[u32],

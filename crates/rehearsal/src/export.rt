@@ -66,6 +66,15 @@ pub extern "C" fn lawendeb_rehearse(
     ensures { λ _. ⌜ now (lengths .exit) ≡ lengthsLeft (now (w0 .entry)) (now (w1 .entry)) (now (w2 .entry)) (now (w3 .entry)) count quantum (now (choices .entry)) limit (now (marks .entry)) (now (lengths .entry)) ⌝ }
 {
     flat_rehearsal(rehearse(
-        w0, w1, w2, w3, count, quantum, choices, limit, marks, lengths,
+        w0,
+        w1,
+        w2,
+        w3,
+        count,
+        quantum,
+        choices,
+        limit,
+        marks,
+        lengths,
     ))
 }

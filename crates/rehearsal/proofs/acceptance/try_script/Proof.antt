@@ -14,25 +14,36 @@ abbrev enter : tie.After-longest-run → tie.Start
 enter l = l .before .before .before .before .before .before .before .before .before
 
 -- the run's answer, as the function gives it
-came : (l : tie.After-longest-run) (p : Answer) → let s = enter l in p .number ≡ numberOf (l .longest-run .result) → p .place ≡ placeOf (l .longest-run .result)
-    → triedOf p (l .longest-run .last .1 .0) (l .longest-run .last .1 .1 .0) ≡ tryScript (s .args .wanted) (s .args .words .now) (triedOf (s .args .before) (s .args .marks .now) (s .args .lengths .now))
+came : (l : tie.After-longest-run) (p : Answer) → let s = enter l in p .number ≡ numberOf (l .longest-run .result)
+    → p .place ≡ placeOf (l .longest-run .result)
+    → triedOf p (l .longest-run .last .1 .0) (l .longest-run .last .1 .1 .0)
+    ≡ tryScript (s .args .wanted) (s .args .words .now)
+    (triedOf (s .args .before) (s .args .marks .now) (s .args .lengths .now))
 came l p n k =
     let s = enter l in
-    tried (s .args .wanted) (s .args .words .now) (s .args .before) (s .args .marks .now) (s .args .lengths .now) (not-false _ (l .before .before .before .before .before .if1 .left)) (l .before .before .before .if2 .left) (l .longest-run .result) p (l .longest-run .last .1 .0) (l .longest-run .last .1 .1 .0) (l .longest-run .ensures .0) (l .longest-run .ensures .1 .0) (l .longest-run .ensures .1 .1) n k
+    tried (s .args .wanted) (s .args .words .now) (s .args .before) (s .args .marks .now) (s .args .lengths .now)
+    (not-false _ (l .before .before .before .before .before .if1 .left)) (l .before .before .before .if2 .left)
+    (l .longest-run .result) p (l .longest-run .last .1 .0) (l .longest-run .last .1 .1 .0)
+    (l .longest-run .ensures .0) (l .longest-run .ensures .1 .0) (l .longest-run .ensures .1 .1) n k
 
 returns : tie.Need-returns
-returns c = let s = c .before .before .before .before in unwanted (s .args .wanted) (s .args .words .now) (s .args .before) (s .args .marks .now) (s .args .lengths .now) (not-true _ (c .if1 .taken))
+returns c = let s = c .before .before .before .before in unwanted (s .args .wanted) (s .args .words .now)
+    (s .args .before) (s .args .marks .now) (s .args .lengths .now) (not-true _ (c .if1 .taken))
 
 returns-2 : tie.Need-returns-2
-returns-2 c = let s = c .before .before .before .before .before .before in refused-before (s .args .wanted) (s .args .words .now) (s .args .before) (s .args .marks .now) (s .args .lengths .now) (c .if2 .taken)
+returns-2 c = let s = c .before .before .before .before .before .before in refused-before (s .args .wanted)
+    (s .args .words .now) (s .args .before) (s .args .marks .now) (s .args .lengths .now) (c .if2 .taken)
 
 returns-3 : tie.Need-returns-3
-returns-3 c = came (c .before .before .before .before .before .before) (record { number = 0; place = 0 }) (sym (ap numberOf (c .enum-told .given .1))) (sym (ap placeOf (c .enum-told .given .1)))
+returns-3 c = came (c .before .before .before .before .before .before) (record { number = 0; place = 0 })
+    (sym (ap numberOf (c .enum-told .given .1))) (sym (ap placeOf (c .enum-told .given .1)))
 
 returns-4 : tie.Need-returns-4
 returns-4 c =
     let r = c .before in
-    came (r .before .before .before .before .before .before) (record { number = r .r .given .0 .0; place = r .r .given .0 .1 .0 }) (sym (ap numberOf (r .r .given .1))) (sym (ap placeOf (r .r .given .1)))
+    came (r .before .before .before .before .before .before)
+    (record { number = r .r .given .0 .0; place = r .r .given .0 .1 .0 }) (sym (ap numberOf (r .r .given .1)))
+    (sym (ap placeOf (r .r .given .1)))
 
 pub try-script-spec : {M : Type 1} → statement M
 try-script-spec =
