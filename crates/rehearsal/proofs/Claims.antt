@@ -32,6 +32,7 @@ use Rattle.rehearsal.specs.Claims.{InRange, Rehearses, Claims}
 use Rattle.rehearsal.proofs.Bound.{bounded}
 use Rattle.rehearsal.proofs.Waits.{waits}
 use Rattle.rehearsal.proofs.Schedule.{scheduled}
+use Rattle.rehearsal.proofs.Only.{only}
 use Rattle.rehearsal.proofs.Paths.{in-words, known, on-path, turns}
 use Rattle.rehearsal.proofs.Accepting.{accepting}
 
@@ -217,6 +218,7 @@ module _ (w0 w1 w2 w3 : List ℕ) (k q : ℕ) (choices : List ℕ) (limit : ℕ)
         in-range = ranges a b;
         accepted = runs a b;
         scheduled = schedule a b;
+        only = λ es s. only (graphsOf w0 w1 w2 w3) k q choices limit [] es events s (schedule a b);
         on-path = path a b;
         known = knows a b;
         proper = proper a b;

@@ -67,7 +67,7 @@ module _ (graphs : ℕ → Graph) (k q : ℕ) (choices : List ℕ) (limit : ℕ)
     go true p = (refl, (refl, (λ h. omega (arith, ltb-true n (length choices) p))))
     go false p = (refl, ltb-false n (length choices) p)
 
-  leads-once : (ss : List ℕ) (n x y : ℕ) → LeadsTo ss n x → LeadsTo ss n y → x ≡ y
+  pub leads-once : (ss : List ℕ) (n x y : ℕ) → LeadsTo ss n x → LeadsTo ss n y → x ≡ y
   leads-once [] n x y a b = absurd a
   leads-once (s ∷ []) n x y a b = a ∙ sym b
   leads-once (s ∷ t ∷ more) n x y a b = a ∙ sym b

@@ -35,6 +35,8 @@ module _ (w0 w1 w2 w3 : List ℕ) (k q : ℕ) (choices : List ℕ) (limit : ℕ)
     pub accepted : (i : ℕ) → i < k → runNumber w0 w1 w2 w3 k marks lengths i ≡ «ACCEPTED»
     -- rotation, turns, choices and the three ends, told by the events alone
     pub scheduled : Scheduled (graphsOf w0 w1 w2 w3) k q choices limit [] events
+    -- and the request's words allow no other
+    pub only : (es : List Event) → Scheduled (graphsOf w0 w1 w2 w3) k q choices limit [] es → es ≡ events
     -- every word that ran is on a course of its script, and is not bad
     pub on-path : (i : ℕ) → i < k → OnPath (graphsOf w0 w1 w2 w3 i) i events
     pub known : (e : Event) → In e events → e .script < k

@@ -1,4 +1,4 @@
--- Request C-21, "accepted scripts": which words a rehearsal runs. proofs/Paths.antt proves `Along` of any scheduled
+-- Request C-21, "accepted scripts": which words a rehearsal runs. proofs/Paths.antt proves `OnPath` of any scheduled
 -- trace, over graphs that have words, and proofs/Claims.antt `Proper` of a rehearsal that is accepted.
 -- Assumes nothing.
 use mathlib.Core.Path.{_≡_}

@@ -68,7 +68,14 @@ pub fn rotation() {
         &[],
         100,
     );
-    two(b"the first given first", &one, &six, 1, &[], 2);
+    two(
+        b"the first given first, three words",
+        &three,
+        &six,
+        1,
+        &[],
+        3,
+    );
 }
 
 pub fn services() {
@@ -137,8 +144,8 @@ pub fn choices() {
     let test = [mv, plain(OP_LT), jump_on(), ret];
     two(b"a turn of no words is none", &test, &three, 1, &[], 100);
     two(
-        b"a turn cut short is one",
-        &[mv, mv, plain(OP_LT), jump_on(), ret],
+        b"a turn cut short by a missing choice is one",
+        &[mv, mv, mv, plain(OP_LT), jump_on(), ret],
         &three,
         2,
         &[],
@@ -148,7 +155,7 @@ pub fn choices() {
         b"the choices are shared",
         &loop1,
         &loop1,
-        1,
+        1000,
         &[0, 1, 0, 1],
         100,
     );
@@ -172,5 +179,5 @@ pub fn ends() {
         &[],
         4294967295,
     );
-    two(b"for ever, 1,000,000 words", &back, &back, 7, &[], 1000000);
+    two(b"for ever, 1,000 words", &back, &back, 7, &[], 1000);
 }
