@@ -1,4 +1,4 @@
--- A record as 53 numbers, part by part, and the records of a whole function one after another: compare/FLAT.md has the tables. A kind is
+-- A record as 53 numbers, part by part, and the records of a whole function one after another: include/RECORD.md has the tables. A kind is
 -- the place of the case in ir.rs or model.rs, an absent value is 0, and so is every number that a kind does not use.
 -- Assumes nothing.
 use Prim.Native.Nat.{ℕ, zero, suc, _+_, _*_, _/_, _^_, _<_}
@@ -124,7 +124,7 @@ abbrev pub flatConfidence : Confidence → ℕ
 flatConfidence Unverified = 0
 flatConfidence Reviewed = 1
 
--- A record's numbers, in FLAT.md's order
+-- A record's numbers, in RECORD.md's order
 
 abbrev pub slotNumbers : FlatSlot → List ℕ
 slotNumbers s = s .kind ∷ s .first ∷ s .second ∷ s .third ∷ []

@@ -4,12 +4,12 @@ use native.Mathlib.Omega.{arith}
 use lib.IntN.{+ℤ-idl}
 use borrow.Author.Needs.{needs}
 use Rattle.fields.specs.Word.{bxOf}
-use Rattle.fields.proofs.Difference.{difference-fits, difference}
+use Rattle.fields.proofs.Laws.{laws}
 use Rattle.records.proofs.dispatch.lift_back.Statement.{statement}
 use Rattle.records.proofs.dispatch.lift_back.Tie as tie
 
 sub-lift-loop-jump : tie.Need-sub-lift-loop-jump
-sub-lift-loop-jump c = difference-fits 0 (c .before .bx .result) (omega arith) (omega (arith, c .before .bx .ensures))
+sub-lift-loop-jump c = laws .difference-fits 0 (c .before .bx .result) (omega arith) (omega (arith, c .before .bx .ensures))
 
 returns : tie.Need-returns
 returns c =
@@ -17,7 +17,7 @@ returns c =
       c .lift-loop-jump .ensures,
       c .before .less .ensures,
       c .before .before .bx .ensures,
-      difference 0 (bxOf (c .before .before .before .args .word)) (omega arith) (omega arith),
+      laws .difference 0 (bxOf (c .before .before .before .args .word)) (omega arith) (omega arith),
       +ℤ-idl,
     )
 
