@@ -1,6 +1,6 @@
--- What leaves by the exports is what came in: of a lifted record the flat numbers give each constant's payload and each name's place as they
--- were lent, and a float by its bits, whether it is a number or not. (Of any value at all they do not: `floatBits` of what is not a number is 0,
--- and no lifted record holds that as a `Float`.)
+-- What leaves by the exports is what came in: of a lifted record the flat numbers give each constant's payload and
+-- each name's place as they were lent, and a float by its bits, whether it is a number or not. (Of any value at all
+-- they do not: `floatBits` of what is not a number is 0, and no lifted record holds that as a `Float`.)
 -- Assumes nothing.
 use Prim.Native.Nat.{ℕ, _<_, _^_}
 use mathlib.Core.Path.{_≡_}
@@ -16,7 +16,8 @@ use Rattle.exports.specs.declared.parts.FlatSlot.{FlatSlot}
 use Rattle.exports.specs.declared.parts.FlatPair.{FlatPair}
 use Rattle.exports.specs.Record.{pair, flatName, flatValue, flatOperand, flatTarget}
 
--- A constant as it was lent: the kind of its tag, and its payload. "Other payloads are ignored": those of nil, false and true.
+-- A constant as it was lent: the kind of its tag, and its payload. "Other payloads are ignored": those of nil, false
+-- and true.
 unfoldable pub lentConstant : ℕ → ℕ → FlatPair
 lentConstant tag payload =
     choose (eqb tag «TAG_FALSE») (pair 1 0)

@@ -1,12 +1,13 @@
--- A record as 53 numbers, part by part, and the records of a whole function one after another: include/RECORD.md has the tables. A kind is
--- the place of the case in ir.rs or model.rs, an absent value is 0, and so is every number that a kind does not use.
+-- A record as 53 numbers, part by part, and the records of a whole function one after another: include/RECORD.md has
+-- the tables. A kind is the place of the case in ir.rs or model.rs, an absent value is 0, and so is every number that
+-- a kind does not use.
 -- Assumes nothing.
 use Prim.Native.Nat.{ℕ, zero, suc, _+_, _*_, _/_, _^_, _<_}
 use mathlib.Core.Path.{_≡_}
 use mathlib.Core.Bool.{Bool, true, false}
 use mathlib.Core.List.{List, [], _∷_, _++_}
 use lib.Dec.{eqb}
-use lib.ListN.{length, getD, take, drop}
+use lib.ListN.{length, take, drop}
 use lib.Ieee.{Float, binary64, eq, toBits}
 use mir.Syntax.{w64}
 use mir.Val.{ofZ}
@@ -39,6 +40,7 @@ use Rattle.values.specs.declared.ir.Writes.{Writes}
 use Rattle.values.specs.declared.ir.SemanticInstruction.{SemanticInstruction}
 use Rattle.common.specs.declared.answer.Answer.{Answer}
 use Rattle.records.specs.Lift.{liftOf}
+use Rattle.records.specs.Sources.{operandIn, targetIn}
 use Rattle.records.specs.Refusals.{answerOf, planOf}
 use Rattle.exports.specs.declared.parts.FlatSlot.{FlatSlot}
 use Rattle.exports.specs.declared.parts.FlatPair.{FlatPair}
@@ -135,10 +137,10 @@ pairNumbers p = p .kind ∷ p .value ∷ []
 -- place k of a record's list, which has 4, 3 or 2 of them; past its end there would be register 0
 
 abbrev pub operandNumbers : List OperandSlot → ℕ → List ℕ
-operandNumbers slots k = slotNumbers (flatOperand (getD slots k (record { operand = operand.Register 0 }) .operand))
+operandNumbers slots k = slotNumbers (flatOperand (operandIn slots k))
 
 abbrev pub targetNumbers : List TargetSlot → ℕ → List ℕ
-targetNumbers slots k = slotNumbers (flatTarget (getD slots k (record { target = target.Register 0 }) .target))
+targetNumbers slots k = slotNumbers (flatTarget (targetIn slots k))
 
 -- 0 to 13
 unfoldable pub headNumbers : SemanticInstruction → List ℕ
@@ -184,7 +186,8 @@ recordLength = 53
 abbrev pub roomIn : List ℕ → ℕ
 roomIn numbers = length numbers / recordLength
 
--- "Records, too, go into the caller's own list of records": the records of as many words as the plan says, all or none, then what was there
+-- "Records, too, go into the caller's own list of records": the records of as many words as the plan says, all or
+-- none, then what was there
 abbrev pub numbersAfter : List ℕ → List ℕ → List ℕ → List ℕ → ℕ → List ℕ → List ℕ
 numbersAfter words tags payloads names bytes numbers =
     let n = planOf (length words) tags payloads names bytes (roomIn numbers) .count in

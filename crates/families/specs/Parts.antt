@@ -11,8 +11,8 @@ use Rattle.values.specs.declared.ir.EffectTarget.the-variants as E
 use Rattle.common.specs.Chain.{choose}
 use Rattle.values.specs.Values.{constantOf, nameOf}
 
--- "Register sums saturate at 255, and below at 0, one addition or subtraction at a time": a sum stops at 255; a difference is that
--- of ℕ, which stops at 0
+-- "Register sums saturate at 255, and below at 0, one addition or subtraction at a time": a sum stops at 255; a
+-- difference is that of ℕ, which stops at 0
 unfoldable pub plus : ℕ → ℕ → ℕ
 plus a b = choose (leb (a + b) 255) (a + b) 255
 

@@ -15,7 +15,8 @@ use values::ir::Writes;
 use values::lookup::constant_at;
 use values::lookup::upvalue_name;
 
-// Events of ltm.h that the opcode table has no need of; `__metamethod` is the name that lifter.rs has for every other event.
+// Events of ltm.h that the opcode table has no need of; `__metamethod` is the name that lifter.rs has for every other
+// event.
 
 const TM_EQ: u8 = 5;
 

@@ -1,5 +1,5 @@
--- What the walk of `lift_proto_lua54` lends: the five shared slices, in one formula that is Copy, and what each of the two callees asks
--- of them. Written over the room `m` and not over the records.
+-- What the walk of `lift_proto_lua54` lends: the five shared slices, in one formula that is Copy, and what each of
+-- the two callees asks of them. Written over the room `m` and not over the records.
 -- Assumes nothing.
 use mathlib.Core.Path.{_≡_, refl}
 use Prim.Native.Nat.{ℕ, _<_, _≤_, _^_}

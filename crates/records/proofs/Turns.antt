@@ -1,4 +1,5 @@
--- Truth values and numbers of a loop's turns: what a test says, that the next number and a record's place fit, and what is left.
+-- Truth values and numbers of a loop's turns: what a test says, that the next number and a record's place fit, and
+-- what is left.
 -- Assumes nothing.
 use mathlib.Core.Path.{_≡_, refl, _∙_, ap}
 use Prim.Native.Nat.{ℕ, zero, suc, _+_, _*_, _<_, _≤_, _^_}

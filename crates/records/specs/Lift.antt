@@ -1,6 +1,7 @@
--- Document 01, "Records": the record of a word. A refinement of the original: lift_instruction_54 of lifter.rs, whose behaviour it is,
--- with its corners. Which arm an opcode takes stands here, the arms themselves in crate families. The fallback comes from the opcode table's
--- fourth column, which is the Rust's; of the columns that are Lua's a record takes nothing.
+-- Document 01, "Records": the record of a word. A refinement of the original: lift_instruction_54 of lifter.rs, whose
+-- behaviour it is, with its corners. Which arm an opcode takes stands here, the arms themselves in crate families.
+-- The fallback comes from the opcode table's fourth column, which is the Rust's; of the columns that are Lua's a
+-- record takes nothing.
 -- Assumes nothing.
 use Prim.Native.Nat.{ℕ, _+_, _-_, _^_}
 use mathlib.Core.Bool.{true, false}
@@ -157,9 +158,9 @@ fallbackBy noFallback c = NoFallback
 unfoldable pub before : ℕ → OptionalPc
 before pc = choose (eqb pc 0) NoPc (Pc (pc - 1))
 
--- the word that lifter.rs names as a record's companion: the EXTRAARG that LOADKX takes, there or not; the word before 46 to 48 and EXTRAARG;
--- and no other opcode has one (NEWTABLE's EXTRAARG is "unmentioned"). What lvm.c wants beside a word is another matter: it stands in the opcode
--- table, and no record takes it from there.
+-- the word that lifter.rs names as a record's companion: the EXTRAARG that LOADKX takes, there or not; the word
+-- before 46 to 48 and EXTRAARG; and no other opcode has one (NEWTABLE's EXTRAARG is "unmentioned"). What lvm.c wants
+-- beside a word is another matter: it stands in the opcode table, and no record takes it from there.
 unfoldable pub companionPc : ℕ → ℕ → OptionalPc
 companionPc opcode pc =
     choose (eqb opcode «OP_LOADKX») (Pc (pc + 1))

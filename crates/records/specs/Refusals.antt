@@ -1,4 +1,5 @@
--- Document 01, "Refused inputs": what lifting refuses, numbers 1 to 6 in their order. The Rust refuses nothing: all of this is added.
+-- Document 01, "Refused inputs": what lifting refuses, numbers 1 to 6 in their order. The Rust refuses nothing: all
+-- of this is added.
 -- Assumes nothing.
 use Prim.Native.Nat.{ℕ, _+_, _/_, _%_, _^_}
 use mathlib.Core.Bool.{Bool, true, false, not}
@@ -26,7 +27,8 @@ unknownTag tag =
 unfoldable pub unknownTagAt : List ℕ → ℕ → Bool
 unknownTagAt tags index = unknownTag (getD tags index 0)
 
--- a span ends past the string bytes: start in the low 32 bits, length in the high 32. The sum is one of ℕ, and wraps nowhere.
+-- a span ends past the string bytes: start in the low 32 bits, length in the high 32. The sum is one of ℕ, and wraps
+-- nowhere.
 unfoldable pub past : ℕ → ℕ → Bool
 past bytes payload = ltb bytes (payload % 2 ^ 32 + payload / 2 ^ 32)
 
@@ -52,9 +54,10 @@ firstStringPast tags payloads bytes = lowest (stringPastAt tags payloads bytes) 
 abbrev pub firstNamePast : List ℕ → ℕ → ℕ
 firstNamePast names bytes = lowest (namePastAt names bytes) (length names)
 
--- "Checks run in this order": 1, "more than 32,768 words"; 2, "tag and payload counts differ, or over 65,536"; 3, "unknown tag; place: lowest
--- index"; 4, "string ends past the string bytes; place: lowest index"; 5, "over 255 names, or a name past the string bytes; place: lowest
--- index if the count is allowed, else 0"; 6, "a lent result slice shorter than the words".
+-- "Checks run in this order": 1, "more than 32,768 words"; 2, "tag and payload counts differ, or over 65,536"; 3,
+-- "unknown tag; place: lowest index"; 4, "string ends past the string bytes; place: lowest index"; 5, "over 255
+-- names, or a name past the string bytes; place: lowest index if the count is allowed, else 0"; 6, "a lent result
+-- slice shorter than the words".
 unfoldable pub answerOf : ℕ → List ℕ → List ℕ → List ℕ → ℕ → ℕ → Answer
 answerOf n tags payloads names bytes room =
     refuseIf (ltb mostWords n) (answer «TOO_MANY_WORDS» 0)

@@ -1,5 +1,5 @@
--- Document 01: "Records, too, go into the caller's own list of records", one per word. The caller's list after lift_proto_lua54, and
--- what it says of each element.
+-- Document 01: "Records, too, go into the caller's own list of records", one per word. The caller's list after
+-- lift_proto_lua54, and what it says of each element.
 -- Assumes nothing.
 use Prim.Native.Nat.{ℕ, zero, suc, _<_, _≤_}
 use mathlib.Core.Path.{_≡_}
@@ -81,8 +81,8 @@ abbrev pub liftedOf : List ℕ → List ℕ → List ℕ → List ℕ → ℕ �
 liftedOf words tags payloads names bytes pc =
     liftedBy (planOf (length words) tags payloads names bytes (length words)) pc (liftOf words tags payloads names pc)
 
--- The record of one word, by value, with no answer: for a caller that has made the plan once for all words, and then asks for the words
--- below its count. Past 32,768 words, or past the words, there is none.
+-- The record of one word, by value, with no answer: for a caller that has made the plan once for all words, and then
+-- asks for the words below its count. Past 32,768 words, or past the words, there is none.
 unfoldable pub recordOrBlank : List ℕ → List ℕ → List ℕ → List ℕ → ℕ → SemanticInstruction
 recordOrBlank words tags payloads names pc =
     choose (ltb mostWords (length words)) blankRecord (choose (ltb pc (length words)) (liftOf words tags payloads names pc) blankRecord)

@@ -41,7 +41,8 @@ fn extended_index(words: &[u32], pc: usize) -> usize
     }
 }
 
-// The target is worked out in numbers that are not negative: what it would be less the offset, and if that is below 0, 2^64 more.
+// The target is worked out in numbers that are not negative: what it would be less the offset, and if that is below
+// 0, 2^64 more.
 fn jmp_target(pc: usize, word: u32) -> usize
     requires { ⌜ pc < mostWords ⌝ }
     ensures { λ r. ⌜ r ≡ jmpTarget pc word ⌝ }

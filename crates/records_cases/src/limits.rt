@@ -183,7 +183,8 @@ pub fn constants() {
     );
 }
 
-// A constant of a tag, after one of a known tag: printed if it is known, and so is any answer but refusal 3 at the second place.
+// A constant of a tag, after one of a known tag: printed if it is known, and so is any answer but refusal 3 at the
+// second place.
 fn tag(t: u8) {
     let words = [0u32; 1];
     let tags = [TAG_FLOAT, t];

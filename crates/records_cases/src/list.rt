@@ -1,5 +1,6 @@
-// Lists of eight records, lent to lift_proto_lua54: the answer, and what each place holds afterwards. The stored sums are of luad's own
-// records where the function is accepted and the place is below n, else of the record that was lent (compare/SAMPLE.md).
+// Lists of eight records, lent to lift_proto_lua54: the answer, and what each place holds afterwards. The stored sums
+// are of luad's own records where the function is accepted and the place is below n, else of the record that was lent
+// (compare/SAMPLE.md).
 ghost use mathlib.Core.Path.{_≡_};
 ghost use lib.ListN.{length, replicate};
 ghost use Rattle.records.specs.Refusals.{planOf};

@@ -1,5 +1,5 @@
-// The limits of what lifting takes, the records of a fixed sample of words, and lists of records that are lent. What is printed is held to the
-// stored output.
+// The limits of what lifting takes, the records of a fixed sample of words, and lists of records that are lent. What
+// is printed is held to the stored output.
 mod limits;
 mod list;
 mod print;

@@ -1,5 +1,5 @@
-// The words of compare/SAMPLE.md: eight words of each opcode, a sum a line; and document 01's bench cases and corners, a sum a word.
-// The stored sums are of luad's own records for these words.
+// The words of compare/SAMPLE.md: eight words of each opcode, a sum a line; and document 01's bench cases and
+// corners, a sum a word. The stored sums are of luad's own records for these words.
 use crate::print;
 use crate::sums;
 use crate::tables;

@@ -1,4 +1,5 @@
-// The tables of compare/SAMPLE.md: seven kinds of constant, one of them twice, and four upvalue names, one of them absent.
+// The tables of compare/SAMPLE.md: seven kinds of constant, one of them twice, and four upvalue names, one of them
+// absent.
 use values::lookup::*;
 
 pub fn tags() -> [u8; 8] {

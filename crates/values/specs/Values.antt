@@ -1,5 +1,5 @@
--- Document 01, "Value types": constants and upvalue names, read off the lent tables.
--- A refinement of the original: get_const_val and get_upval_name of lifter.rs, over tags and payloads in place of a Prototype.
+-- Document 01, "Value types": constants and upvalue names, read off the lent tables. A refinement of the original:
+-- get_const_val and get_upval_name of lifter.rs, over tags and payloads in place of a Prototype.
 -- Assumes nothing.
 use Prim.Native.Nat.{ℕ, _-_, _/_, _%_, _^_}
 use mathlib.Core.Bool.{true, false}

@@ -35,7 +35,8 @@ fn span_at(payload: u64) -> Span
     }
 }
 
-// The bits of a signed number. The language's cast takes only numbers that fit, so a negative one is the complement of one that does.
+// The bits of a signed number. The language's cast takes only numbers that fit, so a negative one is the complement
+// of one that does.
 fn signed(payload: u64) -> i64
     ensures { λ r. ⌜ r ≡ signed64 payload ⌝ }
 {
@@ -67,8 +68,8 @@ fn float(bits: u64) -> ConstantValue
     }
 }
 
-// A span is written into its constant number by number: copied in as a whole, it lies across the place of an integer, and compiled code
-// then waits for the store whenever it reads that place.
+// A span is written into its constant number by number: copied in as a whole, it lies across the place of an integer,
+// and compiled code then waits for the store whenever it reads that place.
 
 fn short_string(payload: u64) -> ConstantValue
     ensures { λ r. ⌜ r ≡ ShortString (spanOf payload) ⌝ }

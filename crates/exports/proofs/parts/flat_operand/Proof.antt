@@ -1,4 +1,5 @@
--- `exports::parts::flat_operand` meets its contract: each arm is its own row, and signed numbers come back from their bits.
+-- `exports::parts::flat_operand` meets its contract: each arm is its own row, and signed numbers come back from their
+-- bits.
 -- Assumes nothing.
 use mir.Facts.{toZ-ofZ}
 use mir.Syntax.{w32, w64}

@@ -1,4 +1,5 @@
--- `exports::parts::flat_value` meets its contract: each arm is its own row, and a signed number comes back from its bits.
+-- `exports::parts::flat_value` meets its contract: each arm is its own row, and a signed number comes back from its
+-- bits.
 -- Assumes nothing.
 use mir.Facts.{toZ-ofZ}
 use mir.Syntax.{w64}

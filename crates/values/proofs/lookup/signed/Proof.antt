@@ -4,7 +4,7 @@ use borrow.Author.Tests.{lt-ltb, le-ltb}
 use mathlib.Core.Path.{ap}
 use Rattle.common.specs.Chain.{choose}
 use Rattle.values.specs.Values.{signed64}
-use Rattle.values.proofs.Laws.{twice}
+use Rattle.values.proofs.Signed.{twice}
 use lib.IntN.{negsuc}
 use Rattle.values.proofs.lookup.signed.Statement.{statement}
 use Rattle.values.proofs.lookup.signed.Tie as tie

@@ -4,7 +4,7 @@ use mathlib.Core.Path.{ap}
 use Rattle.common.specs.Chain.{choose}
 use Rattle.values.specs.Values.{valueOf}
 use Rattle.values.specs.declared.model.ConstantValue.the-variants.{Integer}
-use Rattle.values.proofs.Laws.{kept}
+use Rattle.values.proofs.Signed.{kept}
 use mir.Syntax.{w64}
 use Rattle.values.proofs.lookup.value.Statement.{statement}
 use Rattle.values.proofs.lookup.value.Tie as tie

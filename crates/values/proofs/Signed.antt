@@ -1,4 +1,4 @@
--- Laws on numbers that the proofs of the lookups share.
+-- Signed numbers of 64 bits, stored and read back, as the lookups need them.
 -- Assumes nothing.
 use Prim.Native.Nat.{ℕ, _-_, _<_, _^_}
 use mathlib.Core.Path.{_≡_, _∙_}
