@@ -4,10 +4,10 @@ use libc::STDIN_FILENO;
 use libc::STDOUT_FILENO;
 
 fn main() {
-    // 65,536 bytes: 4,096 lines of 11 bytes and one byte more decide, so a longer input is not read to its end.
-    let mut text = io::large_buffer();
-    let n = io::read_full(STDIN_FILENO, &mut text);
+    // `listing::answer` takes a buffer of this size and no other, and promises that what it holds of an input decides.
+    let mut buffer = io::large_buffer();
+    let n = io::read_full(STDIN_FILENO, &mut buffer);
     let mut page = listing::page();
-    let r = listing::answer(&text[..n], &mut page);
+    let r = listing::answer(&buffer, n, &mut page);
     io::write_all(STDOUT_FILENO, &page[..r]);
 }

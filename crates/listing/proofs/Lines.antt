@@ -1,64 +1,49 @@
 -- How long the program's answer is, and its lines put one after another. Assumes nothing.
 use mathlib.Core.Path.{_≡_, refl, sym, ap, _∙_}
-use mathlib.Core.Bool.{Bool, true, false, cond}
-use mathlib.Core.List.{List, [], _∷_}
+use mathlib.Core.List.{List, _∷_}
 use Prim.Native.Nat.{ℕ, zero, suc, _+_, _*_, _≤_}
 use native.Mathlib.Numerals.{add-one}
 use native.Mathlib.Omega.{arith}
-use lib.Dec.{ltb}
-use lib.ListN.{length, take, drop, replicate}
-use lib.Seq.{take-at, length-take-le}
-use borrow.Author.Tests.{ltb-false}
+use lib.ListN.{length, take, replicate, length-append}
+use Rattle.common.specs.Limits.{mostLines}
+use Rattle.common.specs.Lists.{put}
+use Rattle.common.proofs.Put.{put-laws}
 use Rattle.runs.specs.declared.longest.Run.{Run}
 use Rattle.runs.specs.declared.longest.Run.the-variants.{Accepted, Refused}
 use Rattle.runs.specs.Run.{runOf}
 use Rattle.sheet.specs.declared.reading.Sheet.{Sheet}
 use Rattle.sheet.specs.declared.reading.Sheet.the-variants.{Words, Malformed, TooLong}
-use Rattle.sheet.specs.Format.{mostLines, sheetOf, wordsOf, roomOf, tableAfter, numberOf, placeOf}
-use Rattle.sheet.specs.Rows.{put, lastLineOf, refusalLineOf}
-use Rattle.sheet.proofs.Widths.{length-both, length-row, length-pair}
-use Rattle.sheet.proofs.Overlay.{length-put, and-then}
-use Rattle.sheet.proofs.Scanned.{length-words, table-is}
-use Rattle.sheet.proofs.Whole.{Filling, filling}
-use Rattle.listing.specs.Answer.{lineAt, linesOf, listingOf, lengthsOf, tell, runText, reply, answerOf, pageLength, writtenOf}
+use Rattle.sheet.specs.Format.{sheetOf, wordsOf, numberOf, placeOf}
+use Rattle.sheet.specs.Rows.{lastLineOf, refusalLineOf}
+use Rattle.sheet.proofs.Laws.{laws}
+use Rattle.listing.specs.Answer.{lineAt, linesOf, listingOf, lengthsOf, tell, runText, reply, answerOf}
 
 -- ---- lengths
 
 pub length-at : (words lengths : List ℕ) (p : ℕ) → length (lineAt words lengths p) ≡ 31
 unfolding lineAt
-length-at words lengths p = length-row _ _ _ _ _
+length-at words lengths p = laws .row _ _ _ _ _
 
 pub length-lines : (words lengths : List ℕ) (k : ℕ) → length (linesOf words lengths k) ≡ 31 * k
 unfolding linesOf
 length-lines words lengths zero = refl
 length-lines words lengths (suc k) =
-    length-both (linesOf words lengths k) (lineAt words lengths k) (31 * k) 31 (31 * suc k) (length-lines words lengths k) (length-at words lengths k) (omega arith)
+    length-append (linesOf words lengths k) (lineAt words lengths k) ∙ rw (length-lines words lengths k, length-at words lengths k) (omega arith)
 
 pub length-listing : (words lengths : List ℕ) (longest first : ℕ)
     → length (listingOf words lengths longest first) ≡ 31 * length words + 13
 unfolding listingOf
 length-listing words lengths longest first =
-    length-both (linesOf words lengths (length words)) (lastLineOf longest first) (31 * length words) 13 (31 * length words + 13) (length-lines words lengths (length words)) (length-pair longest first) refl
+    length-append (linesOf words lengths (length words)) (lastLineOf longest first)
+    ∙ rw (length-lines words lengths (length words), laws .pair longest first)
 
 length-tell : (words : List ℕ) (run : Run) → length (tell words run) ≤ 31 * length words + 13
 length-tell words (Accepted longest first) = omega (arith, length-listing words (lengthsOf words) longest first)
-length-tell words (Refused number place) = omega (arith, length-pair number place)
+length-tell words (Refused number place) = omega (arith, laws .pair number place)
 
-length-run : (words : List ℕ) → length (runText words) ≤ 31 * length words + 13
+pub length-run : (words : List ℕ) → length (runText words) ≤ 31 * length words + 13
 unfolding runText
 length-run words = length-tell words (runOf words (length words) (length words))
-
-length-reply : (text : List ℕ) (s : Sheet) → sheetOf mostLines text ≡ s → length (reply text s) ≤ 126989
-length-reply text (Words n) e =
-    let f : Filling mostLines text n = filling mostLines text n e in
-    omega (arith, length-run (wordsOf text n), length-words text n, f .fits)
-length-reply text (Malformed line) e = omega (arith, length-pair 12 line)
-length-reply text TooLong e = omega (arith, length-pair 13 0)
-
--- the answer fits the page
-pub length-answer : (text : List ℕ) → length (answerOf text) ≤ 126989
-unfolding answerOf
-length-answer text = length-reply text (sheetOf mostLines text) refl
 
 -- ---- the lines put one after another
 
@@ -69,7 +54,7 @@ module _ (words lengths l o o′ : List ℕ) where
   one-line-more p e h f =
       let z : 31 * p ≡ 0 + 31 * p = omega arith in
       let k : length (lineAt words lengths p) ≡ 31 = length-at words lengths p in
-      rw (add-one p) (and-then l o o′ 0 (31 * p) (linesOf words lengths p) (lineAt words lengths p) e (length-lines words lengths p) (rw k (omega arith)) (rw z at f))
+      rw (add-one p) (put-laws .and-then l o o′ 0 (31 * p) (linesOf words lengths p) (lineAt words lengths p) e (length-lines words lengths p) (rw k (omega arith)) (rw z at f))
 
   pub last-line : (longest first : ℕ) → o ≡ put l 0 (linesOf words lengths (length words))
       → 31 * length words + 13 ≤ length l → o′ ≡ put o (31 * length words) (lastLineOf longest first)
@@ -77,8 +62,8 @@ module _ (words lengths l o o′ : List ℕ) where
   unfolding listingOf
   last-line longest first e h f =
       let z : 31 * length words ≡ 0 + 31 * length words = omega arith in
-      let k : length (lastLineOf longest first) ≡ 13 = length-pair longest first in
-      and-then l o o′ 0 (31 * length words) (linesOf words lengths (length words)) (lastLineOf longest first) e (length-lines words lengths (length words)) (rw k (omega arith)) (rw z at f)
+      let k : length (lastLineOf longest first) ≡ 13 = laws .pair longest first in
+      put-laws .and-then l o o′ 0 (31 * length words) (linesOf words lengths (length words)) (lastLineOf longest first) e (length-lines words lengths (length words)) (rw k (omega arith)) (rw z at f)
 
 -- ---- what is said
 
@@ -98,9 +83,9 @@ module _ (words : List ℕ) where
       → runOf words (length words) (length words) ≡ Refused number place → r ≡ 13
       → out ≡ put page 0 (refusalLineOf number place) → (r ≡ length (runText words)) × (out ≡ put page 0 (runText words))
   refused-text page out r number place e k o =
-      rw (told (Refused number place) e) (k ∙ sym (length-pair number place), o)
+      rw (told (Refused number place) e) (k ∙ sym (laws .pair number place), o)
 
-replied : (text : List ℕ) (s : Sheet) → sheetOf mostLines text ≡ s → answerOf text ≡ reply text s
+pub replied : (text : List ℕ) (s : Sheet) → sheetOf mostLines text ≡ s → answerOf text ≡ reply text s
 unfolding answerOf
 replied text s e = rw e
 
@@ -124,33 +109,10 @@ pub rejected-text : (text page out : List ℕ) (r number place : ℕ) (s : Sheet
     → number ≡ numberOf s → place ≡ placeOf s → r ≡ 13 → out ≡ put page 0 (refusalLineOf number place)
     → (r ≡ length (answerOf text)) × (out ≡ put page 0 (answerOf text))
 rejected-text text page out r number place s e h a b k o =
-    rw (replied text s e, rejected-reply text s h, ← a, ← b) (k ∙ sym (length-pair number place), o)
-
--- the words that were read, in a table that has room for all
-pub read-part : (text table last : List ℕ) (n : ℕ) → sheetOf (roomOf table) text ≡ Words n → last ≡ tableAfter text table
-    → take n last ≡ wordsOf text n
-read-part text table last n s e =
-    rw (e, table-is text table (Words n) s) (take-at (wordsOf text n) (drop n table) n (length-words text n))
+    rw (replied text s e, rejected-reply text s h, ← a, ← b) (k ∙ sym (laws .pair number place), o)
 
 -- a part of zeros
 pub take-zeros : (n m : ℕ) → n ≤ m → take {A = ℕ} n (replicate m 0) ≡ replicate n 0
 take-zeros zero m h = refl
 take-zeros (suc n) zero h = absurd (omega arith)
 take-zeros (suc n) (suc m) h = ap (λ (l : List ℕ). let z : ℕ = 0 in z ∷ l) (take-zeros n m (omega arith))
-
--- ---- what is written fits the page, for a caller that writes it out
-
-written-fits : (room : ℕ) (text : List ℕ) → length (writtenOf room text) ≤ room
-written-fits room text = go (ltb room pageLength) refl
-  where
-    go : (t : Bool) → ltb room pageLength ≡ t → length (cond t [] (answerOf text)) ≤ room
-    go true e = omega arith
-    go false e = omega (arith, length-answer text, ltb-false room pageLength e)
-
-pub counted : (text page out : List ℕ) (r : ℕ) → r ≡ length (writtenOf (length page) text)
-    → out ≡ put page 0 (writtenOf (length page) text) → (r ≤ length out) × (r ≡ length (take r out))
-counted text page out r k e =
-    let f : length (writtenOf (length page) text) ≤ length page = written-fits (length page) text in
-    let m : length out ≡ length page = ap length e ∙ length-put page 0 (writtenOf (length page) text) (omega arith) in
-    let h : r ≤ length out = omega arith in
-    (h, sym (length-take-le r out h))

@@ -1,10 +1,9 @@
 -- What the bench program writes for what it reads: document 01, "Bench program".
 -- Assumes nothing.
-use mathlib.Core.Bool.{cond}
 use mathlib.Core.List.{List, [], _++_}
 use Prim.Native.Nat.{ℕ, zero, suc}
-use lib.Dec.{ltb}
 use lib.ListN.{length, getD, replicate}
+use Rattle.common.specs.Limits.{mostLines}
 use Rattle.fields.specs.Word.{opcodeOf}
 use Rattle.runs.specs.declared.edges.Successors.{Successors}
 use Rattle.runs.specs.declared.edges.Successors.the-variants.{Invalid, Stop, One, Two}
@@ -14,7 +13,7 @@ use Rattle.runs.specs.declared.longest.Run.the-variants.{Accepted, Refused}
 use Rattle.runs.specs.Run.{runOf, lengthsAfter}
 use Rattle.sheet.specs.declared.reading.Sheet.{Sheet}
 use Rattle.sheet.specs.declared.reading.Sheet.the-variants.{Words, Malformed, TooLong}
-use Rattle.sheet.specs.Format.{mostLines, sheetOf, wordsOf, numberOf, placeOf}
+use Rattle.sheet.specs.Format.{sheetOf, wordsOf, numberOf, placeOf}
 use Rattle.sheet.specs.declared.writing.Cell.{Cell}
 use Rattle.sheet.specs.declared.writing.Cell.the-variants.{Number, Dash}
 use Rattle.sheet.specs.Rows.{rowOf, lastLineOf, refusalLineOf}
@@ -32,8 +31,8 @@ secondCell Stop = Dash
 secondCell (One q) = Dash
 secondCell (Two q r) = Number r
 
--- the line of word p: its steps as the step table has them, its stretch as the work slice of lengths has it, also where the
--- word is bad or unreachable
+-- the line of word p: its steps as the step table has them, its stretch as the work slice of lengths has it, also where
+-- the word is bad or unreachable
 unfoldable pub lineAt : List ℕ → List ℕ → ℕ → List ℕ
 lineAt words lengths p =
     rowOf p (opcodeOf (getD words p 0)) (firstCell (successorsOf words p)) (secondCell (successorsOf words p)) (getD lengths p 0)
@@ -69,12 +68,3 @@ reply text TooLong = refusalLineOf (numberOf TooLong) (placeOf TooLong)
 -- what is written for a text. The word table has 4,096 places
 unfoldable pub answerOf : List ℕ → List ℕ
 answerOf text = reply text (sheetOf mostLines text)
-
--- the longest answer: 4,096 lines of 31 bytes, and the last one of 13
-abbrev pub pageLength : ℕ
-pageLength = 126989
-
--- what is put on a page of so many bytes: the answer, and nothing where the page is too short for the longest one. The
--- program's page is that long
-abbrev pub writtenOf : ℕ → List ℕ → List ℕ
-writtenOf room text = cond (ltb room pageLength) [] (answerOf text)

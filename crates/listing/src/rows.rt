@@ -2,7 +2,7 @@
 ghost use mathlib.Core.Path.{_≡_};
 ghost use Prim.Native.Nat.{_+_, _*_, _≤_, _<_};
 ghost use lib.ListN.{length};
-ghost use Rattle.sheet.specs.Rows.{put};
+ghost use Rattle.common.specs.Lists.{put};
 ghost use Rattle.listing.specs.Answer.{firstCell, secondCell, lineAt, listingOf};
 use crate::paper::put_text;
 use runs::edges::Successors;

@@ -1,9 +1,13 @@
 // The program's fixed work tables, of which the library is lent the parts that a sheet fills.
 ghost use mathlib.Core.Path.{_≡_};
 ghost use Prim.Native.Nat.{_≤_};
-ghost use lib.ListN.{length};
-ghost use Rattle.sheet.specs.Rows.{put, refusalLineOf};
-ghost use Rattle.listing.specs.Answer.{runText, answerOf, writtenOf};
+ghost use lib.ListN.{length, take};
+ghost use Rattle.common.specs.Limits.{mostLines};
+ghost use Rattle.common.specs.Lists.{put};
+ghost use Rattle.sheet.specs.Rows.{refusalLineOf};
+ghost use Rattle.listing.specs.Answer.{runText, answerOf};
+ghost use Rattle.listing.specs.Claims.{pageLength, Enough, Counted};
+use crate::paper::BUFFER;
 use crate::paper::PAGE;
 use crate::paper::put_text;
 use crate::rows::put_listing;
@@ -20,10 +24,11 @@ fn put_refusal(number: u8, place: usize, page: &mut [u8]) -> usize
     13
 }
 
-// Puts what is to be written for words, and answers how long it is. Of the run's refusals only 7 and 8 can come: 4,096 words
-// are below 32,768 (1), the parts that are lent have a place for each word (6), and no run is longer than the words (9).
+// Puts what is to be written for words, and answers how long it is. Of the run's refusals only 7 and 8 can come: 4,096
+// words are below 32,768 (1), the parts that are lent have a place for each word (6), and no run is longer than the
+// words (9).
 fn put_run(words: &[u32], page: &mut [u8]) -> usize
-    requires { ⌜ (length (now words) ≤ 4096) × (126989 ≤ length (now page)) ⌝ }
+    requires { ⌜ (length (now words) ≤ mostLines) × (pageLength ≤ length (now page)) ⌝ }
     ensures { λ r. ⌜ r ≡ length (runText (now (words .entry))) ⌝ }
     ensures { λ _. ⌜ now (page .exit) ≡ put (now (page .entry)) 0 (runText (now (words .entry))) ⌝ }
 {
@@ -43,7 +48,7 @@ fn put_run(words: &[u32], page: &mut [u8]) -> usize
 
 // Puts what is to be written for a sheet's text, and answers how long it is.
 fn put_answer(text: &[u8], page: &mut [u8]) -> usize
-    requires { ⌜ 126989 ≤ length (now page) ⌝ }
+    requires { ⌜ pageLength ≤ length (now page) ⌝ }
     ensures { λ r. ⌜ r ≡ length (answerOf (now (text .entry))) ⌝ }
     ensures { λ _. ⌜ now (page .exit) ≡ put (now (page .entry)) 0 (answerOf (now (text .entry))) ⌝ }
 {
@@ -62,13 +67,26 @@ fn put_answer(text: &[u8], page: &mut [u8]) -> usize
     }
 }
 
-// From a sheet's text to what the program writes: the bytes stand at the start of the page, and their count is answered.
-pub fn answer(text: &[u8], page: &mut [u8]) -> usize
-    ensures { λ r. ⌜ r ≡ length (writtenOf (length (now (page .entry))) (now (text .entry))) ⌝ }
-    ensures { λ _. ⌜ now (page .exit) ≡ put (now (page .entry)) 0 (writtenOf (length (now (page .entry))) (now (text .entry))) ⌝ }
+// Puts what is to be written for the first n bytes of a buffer, or for all of them if there are fewer.
+fn put_held(buffer: &[u8], n: usize, page: &mut [u8]) -> usize
+    requires { ⌜ pageLength ≤ length (now page) ⌝ }
+    ensures { λ r. ⌜ r ≡ length (answerOf (take n (now (buffer .entry)))) ⌝ }
+    ensures { λ _. ⌜ now (page .exit) ≡ put (now (page .entry)) 0 (answerOf (take n (now (buffer .entry)))) ⌝ }
 {
-    if page.len() < PAGE {
-        return 0;
+    if n < buffer.len() {
+        return put_answer(&buffer[..n], page);
     }
-    put_answer(text, page)
+    put_answer(buffer, page)
+}
+
+// From what was read to what the program writes. The buffer is lent whole, so that its size is in the type, and n of its
+// bytes were read: they decide, however long the input is (`Enough`). What is to be written stands at the start of the
+// page, and its count is answered.
+pub fn answer(buffer: &[u8; BUFFER], n: usize, page: &mut [u8; PAGE]) -> usize
+    ensures { λ r. ⌜ r ≡ length (answerOf (take n (now (buffer .entry)))) ⌝ }
+    ensures { λ _. ⌜ now (page .exit) ≡ put (now (page .entry)) 0 (answerOf (take n (now (buffer .entry)))) ⌝ }
+    ensures { λ _. ⌜ Enough (now (buffer .entry)) n ⌝ }
+    ensures { λ r. ⌜ Counted r (now (page .exit)) ⌝ }
+{
+    put_held(buffer, n, page)
 }

@@ -2,8 +2,11 @@
 ghost use mathlib.Core.Path.{_≡_};
 ghost use lib.ListN.{length};
 use fields::opcodes::*;
-use libc::STDOUT_FILENO;
 use meter::Meter;
+use print_cases::end;
+use print_cases::number;
+use print_cases::number_u32;
+use print_cases::text;
 
 // Stands in a list of calls for a begin; any other number is a feed of it.
 const BEGIN: usize = 18446744073709551615;
@@ -27,24 +30,13 @@ const GENERIC_FOR: [u32; 4] = [
 // A bad word.
 const INVALID: [u32; 1] = [OP_EXTRAARG as u32];
 
-fn text(bytes: &[u8]) {
-    io::write_all(STDOUT_FILENO, bytes);
-}
-
-fn number(n: u32) {
-    io::print_decimal(STDOUT_FILENO, n as u64);
-}
-
 fn show(m: Meter) {
-    text(b"; ");
-    number(m.begun);
-    text(b" ");
-    number(m.last);
-    text(b" ");
-    number(m.count);
-    text(b" ");
-    number(m.services);
-    text(b"\n");
+    text(b";");
+    number_u32(m.begun);
+    number_u32(m.last);
+    number_u32(m.count);
+    number_u32(m.services);
+    end();
 }
 
 fn call(words: &[u32], m: Meter, q: usize) -> Meter {
@@ -56,10 +48,10 @@ fn call(words: &[u32], m: Meter, q: usize) -> Meter {
     }
     let fed = meter::feed_step(words, m, q);
     let next = fed.meter;
-    text(b"feed ");
-    io::print_decimal(STDOUT_FILENO, q as u64);
-    text(b": ");
-    number(fed.number);
+    text(b"feed");
+    number(q as u64);
+    text(b":");
+    number_u32(fed.number);
     show(next);
     next
 }
@@ -104,8 +96,8 @@ fn straight(words: &[u32]) {
         }
         q += 1;
     }
-    text(b"straight on: ");
-    number(refused);
+    text(b"straight on:");
+    number_u32(refused);
     show(m);
 }
 

@@ -1,19 +1,8 @@
 // What the cases print.
-use libc::STDOUT_FILENO;
+pub use print_cases::end;
+pub use print_cases::number;
+pub use print_cases::text;
 use records::refusals::Plan;
-
-pub fn text(label: &[u8]) {
-    io::write_all(STDOUT_FILENO, label);
-}
-
-pub fn number(n: u64) {
-    io::write_all(STDOUT_FILENO, b" ");
-    io::print_decimal(STDOUT_FILENO, n);
-}
-
-pub fn end() {
-    io::write_all(STDOUT_FILENO, b"\n");
-}
 
 // A line: the answer's number and place, and how many records are written.
 pub fn plan(label: &[u8], plan: Plan) {

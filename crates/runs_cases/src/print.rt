@@ -1,40 +1,11 @@
 // What the cases print.
-use libc::STDOUT_FILENO;
+pub use print_cases::bytes;
+pub use print_cases::end;
+pub use print_cases::number;
+pub use print_cases::numbers;
+pub use print_cases::text;
 use runs::Run;
 use runs::edges::Successors;
-
-pub fn text(label: &[u8]) {
-    io::write_all(STDOUT_FILENO, label);
-}
-
-pub fn number(n: u64) {
-    io::write_all(STDOUT_FILENO, b" ");
-    io::print_decimal(STDOUT_FILENO, n);
-}
-
-pub fn end() {
-    io::write_all(STDOUT_FILENO, b"\n");
-}
-
-fn of_byte(x: u8) -> u64 {
-    x as u64
-}
-
-fn of_word(x: u32) -> u64 {
-    x as u64
-}
-
-pub fn bytes(s: &[u8]) {
-    for i in 0..s.len() {
-        number(of_byte(s[i]));
-    }
-}
-
-pub fn numbers(s: &[u32]) {
-    for i in 0..s.len() {
-        number(of_word(s[i]));
-    }
-}
 
 // The number, then L and first, or the place.
 pub fn answer(run: Run) {

@@ -1,6 +1,7 @@
 pub mod Widths
-pub mod Overlay
+pub mod Columns
 pub mod Compare
 pub mod Round
 pub mod Scanned
-pub mod Whole
+pub mod Claims
+pub mod Laws

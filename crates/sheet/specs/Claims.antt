@@ -1,5 +1,5 @@
 -- What the format's definitions mean, over whole texts and in terms of the lines of words alone. The proof of `Claims` is
--- `proofs/Whole.antt`.
+-- `proofs/Claims.antt`.
 -- Assumes nothing.
 use mathlib.Core.Path.{_≡_}
 use mathlib.Core.List.{List, [], _∷_, _++_}

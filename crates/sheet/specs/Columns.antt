@@ -6,8 +6,9 @@ use mathlib.Core.List.{List, [], _∷_, _++_}
 use Prim.Native.Nat.{ℕ, zero, suc, _+_, _/_, _%_}
 use lib.Dec.{eqb}
 
-abbrev pub blank : ℕ
-blank = 32
+-- document 01's blank
+abbrev pub space : ℕ
+space = 32
 
 abbrev pub newline : ℕ
 newline = 10
@@ -21,7 +22,7 @@ digitOf v = 48 + v % 10
 
 -- what a column shows left of the last one: a digit, or a blank where nothing is left of the number
 unfoldable pub glyphOf : ℕ → ℕ
-glyphOf v = cond (eqb v 0) blank (digitOf v)
+glyphOf v = cond (eqb v 0) space (digitOf v)
 
 -- the k columns left of the last one, where v is left of the number
 unfoldable pub leading : ℕ → ℕ → List ℕ

@@ -5,13 +5,11 @@ use mathlib.Core.List.{List, [], _∷_, _++_}
 use Prim.Native.Nat.{ℕ, zero, suc, _+_, _*_, min}
 use lib.Dec.{eqb}
 use lib.ListN.{length, take, drop}
+use Rattle.common.specs.Limits.{mostLines}
+use Rattle.common.specs.Numbers.{«ACCEPTED», «MALFORMED_LINE», «TOO_MANY_LINES»}
 use Rattle.sheet.specs.declared.reading.Sheet.{Sheet}
 use Rattle.sheet.specs.declared.reading.Sheet.the-variants.{Words, Malformed, TooLong}
 use Rattle.sheet.specs.Line.{valueOf, isLine}
-
--- "It holds at most 4,096 words"
-abbrev pub mostLines : ℕ
-mostLines = 4096
 
 -- what is read of the text that is left, where k lines are read and there is room for so many more. "Of 12 and 13 the
 -- first met in reading order counts", and the text of a line for which there is no room "is not examined"
@@ -41,7 +39,7 @@ stored (Words n) text table = wordsOf text n ++ drop n table
 stored (Malformed line) text table = table
 stored TooLong text table = table
 
--- the room that a table has: its places, at most 4,096. The program's has 4,096
+-- the room that a table has: its places, at most 4,096. "It holds at most 4,096 words": the program's has as many
 abbrev pub roomOf : List ℕ → ℕ
 roomOf table = min mostLines (length table)
 
@@ -50,9 +48,9 @@ tableAfter text table = stored (sheetOf (roomOf table) text) text table
 
 -- the document's number and place of each answer
 abbrev pub numberOf : Sheet → ℕ
-numberOf (Words n) = 0
-numberOf (Malformed line) = 12
-numberOf TooLong = 13
+numberOf (Words n) = «ACCEPTED»
+numberOf (Malformed line) = «MALFORMED_LINE»
+numberOf TooLong = «TOO_MANY_LINES»
 
 abbrev pub placeOf : Sheet → ℕ
 placeOf (Words n) = 0

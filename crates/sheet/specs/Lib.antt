@@ -4,3 +4,4 @@ pub mod Line
 pub mod Format
 pub mod Rows
 pub mod Claims
+pub mod Laws

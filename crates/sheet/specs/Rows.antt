@@ -2,16 +2,15 @@
 -- stretch", "then a line of L and its first word. On refusal the only line is the number and the place, 6 columns each".
 -- Assumes nothing.
 use mathlib.Core.List.{List, [], _∷_, _++_}
-use Prim.Native.Nat.{ℕ, _+_}
-use lib.ListN.{length, take, drop}
+use Prim.Native.Nat.{ℕ}
 use Rattle.sheet.specs.declared.writing.Cell.{Cell}
 use Rattle.sheet.specs.declared.writing.Cell.the-variants.{Number, Dash}
-use Rattle.sheet.specs.Columns.{blank, newline, hyphen, columns}
+use Rattle.sheet.specs.Columns.{space, newline, hyphen, columns}
 
 -- a successor's column: its number, or `-` if there is none
 unfoldable pub cellOf : Cell → List ℕ
 cellOf (Number v) = columns 6 v
-cellOf Dash = blank ∷ blank ∷ blank ∷ blank ∷ blank ∷ hyphen ∷ []
+cellOf Dash = space ∷ space ∷ space ∷ space ∷ space ∷ hyphen ∷ []
 
 -- the line of word p
 unfoldable pub rowOf : ℕ → ℕ → Cell → Cell → ℕ → List ℕ
@@ -29,7 +28,3 @@ lastLineOf longest first = pairOf longest first
 -- the line of a refusal's number and place
 abbrev pub refusalLineOf : ℕ → ℕ → List ℕ
 refusalLineOf number place = pairOf number place
-
--- text over the bytes of l from index i on: how the functions that fill a line's columns say what they leave
-unfoldable pub put : List ℕ → ℕ → List ℕ → List ℕ
-put l i text = take i l ++ (text ++ drop (i + length text) l)

@@ -3,13 +3,15 @@ ghost use mathlib.Core.Path.{_≡_};
 ghost use mathlib.Core.List.{_++_};
 ghost use Prim.Native.Nat.{ℕ, _*_, _≤_, _<_, min};
 ghost use lib.ListN.{length, drop};
-ghost use Rattle.sheet.specs.Format.{mostLines, roomOf, sheetOf, wordAt, wordsOf, tableAfter, numberOf, placeOf};
+ghost use Rattle.common.specs.Limits.{mostLines};
+ghost use Rattle.sheet.specs.Format.{roomOf, sheetOf, wordAt, wordsOf, tableAfter, numberOf, placeOf};
 use crate::lines::LINE;
 use crate::lines::is_line;
 use crate::lines::value;
-
-// The program's table has so many places, and document 01 refuses one line more.
-const MOST_LINES: usize = 4096;
+use common::limits::MOST_LINES;
+use common::numbers::ACCEPTED;
+use common::numbers::MALFORMED_LINE;
+use common::numbers::TOO_MANY_LINES;
 
 // What a sheet holds.
 pub enum Sheet {
@@ -26,9 +28,9 @@ pub fn number(s: Sheet) -> u8
     ensures { λ r. ⌜ r ≡ numberOf s ⌝ }
 {
     match s {
-        Sheet::Words(_) => 0,
-        Sheet::Malformed(_) => 12,
-        Sheet::TooLong => 13,
+        Sheet::Words(_) => ACCEPTED,
+        Sheet::Malformed(_) => MALFORMED_LINE,
+        Sheet::TooLong => TOO_MANY_LINES,
     }
 }
 

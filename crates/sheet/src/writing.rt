@@ -3,8 +3,9 @@ ghost use mathlib.Core.Path.{_≡_};
 ghost use mathlib.Core.List.{[], _∷_, _++_};
 ghost use Prim.Native.Nat.{_+_, _-_, _≤_, _<_};
 ghost use lib.ListN.{length};
+ghost use Rattle.common.specs.Lists.{put};
 ghost use Rattle.sheet.specs.Columns.{leading, columns};
-ghost use Rattle.sheet.specs.Rows.{put, cellOf, rowOf, pairOf, lastLineOf, refusalLineOf};
+ghost use Rattle.sheet.specs.Rows.{cellOf, rowOf, pairOf, lastLineOf, refusalLineOf};
 use crate::digits::digit;
 use crate::digits::glyph;
 

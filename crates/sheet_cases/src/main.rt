@@ -1,37 +1,39 @@
 // Sheets at the edges of the format, each named, with what the program writes for it.
-use libc::STDOUT_FILENO;
 
-fn show(name: &[u8], text: &[u8]) {
-    io::write_all(STDOUT_FILENO, name);
+// The first n bytes of a buffer as a sheet.
+fn show_part(name: &[u8], buffer: &[u8; 65536], n: usize) {
+    print_cases::text(name);
     let mut page = listing::page();
-    let r = listing::answer(text, &mut page);
-    io::write_all(STDOUT_FILENO, &page[..r]);
+    let r = listing::answer(buffer, n, &mut page);
+    print_cases::text(&page[..r]);
 }
 
-// The first n bytes of text as a sheet.
-fn show_part(name: &[u8], text: &[u8], n: usize) {
-    if n <= text.len() {
-        show(name, &text[..n]);
-    }
-}
-
-// Of a large sheet, the first n bytes of text, the answer's count of bytes, and its last 75: two words' lines and the last
-// line.
-fn show_end(name: &[u8], text: &[u8], n: usize) {
-    if n <= text.len() {
-        write_end(name, &text[..n]);
-    }
-}
-
-fn write_end(name: &[u8], text: &[u8]) {
-    io::write_all(STDOUT_FILENO, name);
+// Of a large sheet the answer's count of bytes, and its last 75: two words' lines and the last line.
+fn show_end(name: &[u8], buffer: &[u8; 65536], n: usize) {
+    print_cases::text(name);
     let mut page = listing::page();
-    let r = listing::answer(text, &mut page);
-    io::print_decimal(STDOUT_FILENO, r as u64);
-    io::write_all(STDOUT_FILENO, b"\n");
+    let r = listing::answer(buffer, n, &mut page);
+    print_cases::decimal(r as u64);
+    print_cases::end();
     if 75 <= r {
         let start = r - 75;
-        io::write_all(STDOUT_FILENO, &page[start..r]);
+        print_cases::text(&page[start..r]);
+    }
+}
+
+// A sheet of few bytes.
+fn show(name: &[u8], text: &[u8]) {
+    let mut buffer = io::large_buffer();
+    copy(text, &mut buffer);
+    show_part(name, &buffer, text.len());
+}
+
+// As much of the text as the buffer holds, at its start.
+fn copy(text: &[u8], buffer: &mut [u8]) {
+    let mut i = 0;
+    while i < text.len() && i < buffer.len() {
+        buffer[i] = text[i];
+        i += 1;
     }
 }
 
@@ -124,7 +126,17 @@ fn sizes() {
     show_part(b"# 4,097 lines: 13\n", &text, 45067);
     show_part(b"# 4,096 lines and a byte: 13\n", &text, 45057);
     show_part(b"# 4,096 lines, no last newline: 12\n", &text, 45055);
-    show(b"# lines without end: 13\n", &text);
+    show_part(b"# lines without end: 13\n", &text, 65536);
+    show_part(
+        b"# more bytes than the buffer has: all of them\n",
+        &text,
+        65537,
+    );
+}
+
+fn sizes_with_junk() {
+    let mut text = io::large_buffer();
+    fill(&mut text, b"        71\n");
     text[45056] = b'x';
     show_part(b"# line 4,097 is junk: 13\n", &text, 45067);
     text[45054] = b'x';
@@ -161,7 +173,7 @@ fn junk() {
     );
     show_part(b"# junk of 12 bytes\n", &text, 12);
     show_part(b"# junk of 255 bytes\n", &text, 255);
-    show(b"# junk of 65,536 bytes\n", &text);
+    show_part(b"# junk of 65,536 bytes\n", &text, 65536);
 }
 
 fn main() {
@@ -170,6 +182,7 @@ fn main() {
     malformed_columns();
     malformed_lines();
     sizes();
+    sizes_with_junk();
     longest();
     junk();
 }

@@ -34,8 +34,8 @@ slice-aggregate-text c = search needs
 text-requires : tie.Need-text-requires Inv-loop μ-loop
 text-requires c κs = search needs
 
-number-requires : tie.Need-number-requires Inv-loop μ-loop
-number-requires c κs = search needs
+number-u32-requires : tie.Need-number-u32-requires Inv-loop μ-loop
+number-u32-requires c κs = search needs
 
 show-requires : tie.Need-show-requires Inv-loop μ-loop
 show-requires c κs = search needs
@@ -57,6 +57,6 @@ straight-spec =
     loop-again
     slice-aggregate-text
     text-requires
-    number-requires
+    number-u32-requires
     show-requires
     returns)

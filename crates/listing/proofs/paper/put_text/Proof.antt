@@ -5,8 +5,8 @@ use Prim.Native.Nat.{ℕ, _-_, _≤_}
 use native.Mathlib.Omega.{arith}
 use lib.ListN.{length, take, length-set}
 use lib.Seq.{take-length}
-use Rattle.sheet.specs.Rows.{put}
-use Rattle.sheet.proofs.Overlay.{put-none, put-byte}
+use Rattle.common.specs.Lists.{put}
+use Rattle.common.proofs.Put.{put-laws}
 use Rattle.listing.proofs.paper.put_text.Statement.{statement}
 use Rattle.listing.proofs.paper.put_text.Tie as tie
 
@@ -20,7 +20,7 @@ loop-again : tie.Need-loop-again Inv-loop μ-loop
 loop-again c =
     let l = c .before .before .loop in
     let s = c .before .before .before in
-    (omega arith, simp length-set (l .inv .1), put-byte (s .args .page .now) (l .page) (s .args .at) (l .i) (s .args .text .now) (s .pre) (omega arith) (l .inv .2))
+    (omega arith, simp length-set (l .inv .1), put-laws .element (s .args .page .now) (l .page) (s .args .at) (l .i) (s .args .text .now) (s .pre) (omega arith) (l .inv .2))
 
 returns : tie.Need-returns Inv-loop μ-loop
 returns c =
@@ -35,7 +35,7 @@ put-text-spec =
     (tie.spec
     Inv-loop
     μ-loop
-    (λ c. (omega arith, refl, put-none (c .args .page .now) (c .args .at)))
+    (λ c. (omega arith, refl, put-laws .none (c .args .page .now) (c .args .at)))
     (λ c. omega arith)
     (λ c. omega arith)
     (λ c. omega arith)

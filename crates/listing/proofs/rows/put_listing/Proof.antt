@@ -4,8 +4,8 @@ use Prim.Native.Nat.{_-_, _≤_}
 use native.Mathlib.Omega.{arith}
 use lib.ListN.{length}
 use borrow.Author.Needs.{needs}
-use Rattle.sheet.specs.Rows.{put}
-use Rattle.sheet.proofs.Overlay.{put-none}
+use Rattle.common.specs.Lists.{put}
+use Rattle.common.proofs.Put.{put-laws}
 use Rattle.listing.specs.Answer.{linesOf}
 use Rattle.listing.proofs.Lines.{one-line-more, last-line}
 use Rattle.listing.proofs.rows.put_listing.Statement.{statement}
@@ -20,7 +20,7 @@ abbrev μ-loop : tie.MeasureT-loop
 
 loop-holds : tie.Need-loop-holds Inv-loop μ-loop
 unfolding linesOf
-loop-holds c = (omega arith, refl, put-none (c .before .before .before .args .page .now) 0)
+loop-holds c = (omega arith, refl, put-laws .none (c .before .before .before .args .page .now) 0)
 
 loop-again : tie.Need-loop-again Inv-loop μ-loop
 loop-again c =

@@ -5,11 +5,11 @@ use Prim.Native.Nat.{ℕ, _≤_}
 use native.Mathlib.Omega.{arith}
 use lib.ListN.{replicate, length, take}
 use borrow.Author.Needs.{needs}
+use Rattle.common.specs.Limits.{mostLines}
 use Rattle.sheet.specs.declared.reading.Sheet.the-variants.{Words, Malformed, TooLong}
-use Rattle.sheet.specs.Format.{mostLines, sheetOf, wordsOf}
-use Rattle.sheet.proofs.Scanned.{length-words}
-use Rattle.sheet.proofs.Whole.{Filling, filling}
-use Rattle.listing.proofs.Lines.{read-part, words-text, rejected-text}
+use Rattle.sheet.specs.Format.{sheetOf, wordsOf}
+use Rattle.sheet.proofs.Laws.{laws}
+use Rattle.listing.proofs.Lines.{words-text, rejected-text}
 use Rattle.listing.proofs.tables.put_answer.Statement.{statement}
 use Rattle.listing.proofs.tables.put_answer.Tie as tie
 
@@ -23,15 +23,13 @@ sheet-is : (c : tie.After-read) → c .read .result ≡ sheetOf mostLines (text-
 sheet-is c = c .read .ensures .0
 
 part-is : (c : tie.After-read) (n : ℕ) → c .read .result ≡ Words n → take n (c .read .last .1 .0) ≡ wordsOf (text-at c) n
-part-is c n e = read-part (text-at c) (replicate 4096 0) (c .read .last .1 .0) n (sym (sheet-is c) ∙ e) (c .read .ensures .1)
+part-is c n e = ap (λ (l : List ℕ). take n l) (c .read .ensures .1) ∙ laws .stored (text-at c) (replicate 4096 0) n (sym (sheet-is c) ∙ e)
 
 part-count : (c : tie.After-read) (n : ℕ) → c .read .result ≡ Words n → n ≡ length (take n (c .read .last .1 .0))
-part-count c n e = sym (ap length (part-is c n e) ∙ length-words (text-at c) n)
+part-count c n e = sym (ap length (part-is c n e) ∙ laws .words (text-at c) n)
 
 fits : (c : tie.After-read) (n : ℕ) → c .read .result ≡ Words n → n ≤ 4096
-fits c n e =
-    let f : Filling mostLines (text-at c) n = filling mostLines (text-at c) n (sym (sheet-is c) ∙ e) in
-    f .fits
+fits c n e = laws .fits mostLines (text-at c) n (sym (sheet-is c) ∙ e)
 
 put-run-requires : tie.Need-put-run-requires
 put-run-requires c κs =

@@ -5,7 +5,7 @@ use borrow.Author.Needs.{needs}
 use Rattle.sheet.specs.declared.reading.Sheet.the-variants.{Words, TooLong}
 use Rattle.sheet.specs.Format.{sheetOf, roomOf}
 use Rattle.sheet.proofs.Scanned.{table-is}
-use Rattle.sheet.proofs.Whole.{Filling, filling}
+use Rattle.sheet.proofs.Claims.{Filling, filling}
 use Rattle.sheet.proofs.reading.read.Statement.{statement}
 use Rattle.sheet.proofs.reading.read.Tie as tie
 

@@ -3,7 +3,7 @@ use borrow.Author.Needs.{needs}
 use Rattle.sheet.specs.Columns.{columns}
 use Rattle.sheet.specs.Rows.{pairOf}
 use Rattle.sheet.proofs.Widths.{length-columns}
-use Rattle.sheet.proofs.Overlay.{two-filled}
+use Rattle.sheet.proofs.Columns.{two-filled}
 use Rattle.sheet.proofs.writing.pair.Statement.{statement}
 use Rattle.sheet.proofs.writing.pair.Tie as tie
 

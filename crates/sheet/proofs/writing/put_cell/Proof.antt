@@ -1,5 +1,5 @@
 use borrow.Author.Needs.{needs}
-use Rattle.sheet.proofs.Overlay.{dash-ending, number-cell}
+use Rattle.sheet.proofs.Columns.{dash-ending, number-cell}
 use Rattle.sheet.proofs.writing.put_cell.Statement.{statement}
 use Rattle.sheet.proofs.writing.put_cell.Tie as tie
 

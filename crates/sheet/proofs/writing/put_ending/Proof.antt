@@ -4,7 +4,7 @@ use Prim.Native.Nat.{_<_}
 use native.Mathlib.Omega.{arith}
 use lib.ListN.{length, length-set}
 use borrow.Author.Needs.{needs}
-use Rattle.sheet.proofs.Overlay.{putLeading, put-turn, put-done, put-ending}
+use Rattle.sheet.proofs.Columns.{putLeading, put-turn, put-done, put-ending}
 use Rattle.sheet.proofs.writing.put_ending.Statement.{statement}
 use Rattle.sheet.proofs.writing.put_ending.Tie as tie
 

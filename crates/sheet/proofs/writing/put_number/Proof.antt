@@ -1,5 +1,5 @@
 use borrow.Author.Needs.{needs}
-use Rattle.sheet.proofs.Overlay.{columns-ending}
+use Rattle.sheet.proofs.Columns.{columns-ending}
 use Rattle.sheet.proofs.writing.put_number.Statement.{statement}
 use Rattle.sheet.proofs.writing.put_number.Tie as tie
 

@@ -3,7 +3,7 @@ use borrow.Author.Needs.{needs}
 use Rattle.sheet.specs.Columns.{columns}
 use Rattle.sheet.specs.Rows.{cellOf, rowOf}
 use Rattle.sheet.proofs.Widths.{length-columns, length-cell}
-use Rattle.sheet.proofs.Overlay.{five-filled}
+use Rattle.sheet.proofs.Columns.{five-filled}
 use Rattle.sheet.proofs.writing.row.Statement.{statement}
 use Rattle.sheet.proofs.writing.row.Tie as tie
 

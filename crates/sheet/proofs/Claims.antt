@@ -1,4 +1,4 @@
--- Whole sheets: `specs/Claims.antt` holds.
+-- `specs/Claims.antt` holds.
 -- Assumes nothing.
 use mathlib.Core.Path.{_≡_, refl, sym, ap, subst, _∙_}
 use mathlib.Core.Bool.{Bool, true, false}
@@ -217,7 +217,7 @@ every room ws a h = only-words room (textOf ws) (length ws) (record { words = ws
 
 -- ---- what the filling needs
 
-length-text : (ws : List ℕ) → length (textOf ws) ≡ 11 * length ws
+pub length-text : (ws : List ℕ) → length (textOf ws) ≡ 11 * length ws
 unfolding textOf
 length-text [] = refl
 length-text (w ∷ ws) = length-append (lineOf w) (textOf ws) ∙ omega (arith, length-line w, length-text ws)
