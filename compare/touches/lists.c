@@ -1,7 +1,7 @@
 /* The proved lists for a program that compares: reads functions, each a count and its words as 32-bit
    numbers, and writes for each word, and for one word number past the end, the 38 numbers of the
    answer. */
-#include "lawendeb_touches.h"
+#include "lawendeb.h"
 #include <stdio.h>
 #include <stdlib.h>
 

@@ -7,7 +7,7 @@
 #include "lobject.h"
 #include "lopcodes.h"
 #include "lstate.h"
-#include "../lawendeb_touches.h"
+#include "lawendeb.h"
 #include <stdio.h>
 #include <stdlib.h>
 #include <string.h>
