@@ -4,7 +4,7 @@
    Three archives, to be linked alone or side by side; all are made in target/staticlib/:
      libmeter.a     begin and feed, for controllers: `rt staticlib meter`. It needs no symbol.
      libexports.a   steps, the longest run, records: `rt staticlib exports`. It needs memset.
-     libtouches.a   what a word reads and writes: `rt staticlib touches`. TOUCHES_NEEDS
+     libtouches.a   what a word reads and writes: `rt staticlib touches`. It needs memset.
    They write nothing but what a call is lent: no heap, no static data, and as measured less than
    1 kB of stack (docs/BENCHMARKS.md). So every call is reentrant, and calls on different memory may
    run at once, in threads or interrupts. A begin, a feed and what a word touches take a bounded
