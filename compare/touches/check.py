@@ -3,11 +3,13 @@ against the second reading, word by word.
 
 Functions tried: every opcode at the boundaries of its fields, with its companions; every pair of
 opcode values; the real functions of REAL (words/real.txt), whole and with bits flipped, words
-exchanged or cut off; random functions. Ends with status 1 at the first difference.
+exchanged or cut off; random functions. Ends with status 1 at the first difference, or if a reading
+that is wrong on purpose (WRONG) is not caught.
 """
 import itertools, random, struct, subprocess, sys
 from collections import Counter
-from reading import CODE, NAMES, NUMBERS, Touched
+import reading
+from reading import A, CODE, NAMES, NUMBERS, R, Touched, name_at
 
 JMP0 = 16777215 << 7 | CODE["JMP"]
 
@@ -140,6 +142,48 @@ def compare(side, label, functions, counts):
     return seen
 
 
+def own_a(words, p, on):
+    """A metamethod word writes its own A."""
+    return [R(A(words[p]))] if reading.is_metamethod(name_at(words, p)) else on
+
+
+def by_the_comment(words, p, on):
+    """TFORLOOP writes R[A], as the comment in lopcodes.h says."""
+    return [R(A(words[p])), set()] if name_at(words, p) == "TFORLOOP" else on
+
+
+def late_control(words, p, on):
+    """FORPREP sets R[A+3] only if the loop runs."""
+    return [on[0], set()] if name_at(words, p) == "FORPREP" else on
+
+
+def on_both_steps(words, p, on):
+    """What is written on some step is listed plainly."""
+    return [set.union(*on)] * len(on)
+
+
+def saturating(words, p, on):
+    """Registers stop at 255, as the Rust's do."""
+    return [{(kind, min(index, 255)) for kind, index in places} for places in on]
+
+
+WRONG = (own_a, by_the_comment, late_control, on_both_steps, saturating)
+
+
+def caught(side, wrong, functions):
+    """A word that tells the reading from the lists, if its writes are those that `wrong` makes of them."""
+    right = reading.written
+    reading.written = lambda words, p, leading: wrong(words, p, right(words, p, leading))
+    try:
+        for words, answers in side.lists(functions):
+            for p, answer in enumerate(answers):
+                if answer != tuple(Touched(words, p).numbers()):
+                    return words, p
+    finally:
+        reading.written = right
+    return None
+
+
 def main():
     program, path = sys.argv[1:3]
     seed = int(sys.argv[3]) if len(sys.argv) > 3 else 1
@@ -153,6 +197,12 @@ def main():
     total += compare(side, "random functions", (random_function(rng) for _ in range(many)), counts)
     never = [name for name in NAMES if not counts[CODE[name]]]
     print(f"all: {total} words; opcodes met in good words: {83 - len(never)} of 83; never: {' '.join(never)}")
+    few = [random_function(rng) for _ in range(1000)]
+    for wrong in WRONG:
+        found = caught(side, wrong, few)
+        print(f"wrong on purpose, {wrong.__name__}: {'caught at word %d of %s' % (found[1], found[0]) if found else 'NOT CAUGHT'}")
+        if not found:
+            sys.exit(1)
 
 
 if __name__ == "__main__":
