@@ -213,7 +213,8 @@ def main():
     total += compare(side, "random functions", (random_function(rng) for _ in range(many)), counts)
     never = [name for name in NAMES if not counts[CODE[name]]]
     print(f"all: {total} words; opcodes met in good words: {83 - len(never)} of 83; never: {' '.join(never)}")
-    few = [random_function(rng) for _ in range(1000)]
+    # random words seldom have B 0, so one function that reads up to the top stands among them
+    few = [random_function(rng) for _ in range(1000)] + [[CODE["CALL"], CODE["RETURN"]]]
     for wrong in WRONG_WRITES + WRONG_READS:
         found = caught(side, wrong, few)
         print(f"wrong on purpose, {wrong.__name__}: {'caught at word %d of %s' % (found[1], found[0]) if found else 'NOT CAUGHT'}")
