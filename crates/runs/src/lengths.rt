@@ -3,7 +3,7 @@
 ghost use mathlib.Core.Path.{_≡_};
 ghost use mathlib.Core.Bool.{cond};
 ghost use mathlib.Core.List.{_++_};
-ghost use Prim.Native.Nat.{_≤_, _<_};
+ghost use Prim.Native.Nat.{_≤_, _<_, max};
 ghost use lib.Dec.{eqb};
 ghost use lib.ListN.{length, getD, drop, replicate};
 ghost use Rattle.common.specs.Lowest.{lowest};
@@ -20,15 +20,27 @@ use crate::packing::RETURNS;
 use crate::packing::TARGETS;
 use crate::weighing::weigh;
 
-// What an edge from p to q adds to a segment.
+// What an edge from p to q adds to a segment. The length is read before the test, so that the compiler puts no jump here, nor into
+// `larger`: in scattered code a processor would guess every other one wrong.
 fn beyond(lengths: &[u32], p: usize, q: usize) -> u32
     requires { ⌜ q < length (now lengths) ⌝ }
     ensures { λ r. ⌜ r ≡ cond (servesOf p q) 0 (getD (now (lengths .entry)) q 0) ⌝ }
 {
+    let there = lengths[q];
     if serves(p, q) {
         return 0;
     }
-    lengths[q]
+    there
+}
+
+// The larger of two lengths.
+fn larger(x: u32, y: u32) -> u32
+    ensures { λ r. ⌜ r ≡ max x y ⌝ }
+{
+    if x < y {
+        return y;
+    }
+    x
 }
 
 // The length of a word, and the lowest reachable invalid word from it on.
@@ -80,14 +92,8 @@ fn measure(
             invalid,
         };
     }
-    if x < above {
-        return Measured {
-            length: above + weight,
-            invalid,
-        };
-    }
     Measured {
-        length: x + weight,
+        length: larger(above, x) + weight,
         invalid,
     }
 }

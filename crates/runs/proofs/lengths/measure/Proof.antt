@@ -84,14 +84,7 @@ returns-6 c =
     let d = here (c .before) in
     let s = enter d in
     let e = two (c .before) in
-    measures-by (m s) (l s) (p s) (d .if1 .left) e (λ _. s .args .weight) (s .args .invalid) (omega (arith, two-best (c .before), c .if6 .taken)) (both-valid _ _ (p s) (s .args .invalid))
-
-returns-7 : tie.Need-returns-7
-returns-7 c =
-    let d = here (c .before) in
-    let s = enter d in
-    let e = two (c .before) in
-    measures-by (m s) (l s) (p s) (d .if1 .left) e (λ _. s .args .weight) (s .args .invalid) (omega (arith, two-best (c .before), c .if6 .left)) (both-valid _ _ (p s) (s .args .invalid))
+    measures-by (m s) (l s) (p s) (d .if1 .left) e (λ _. s .args .weight) (s .args .invalid) (omega (arith, two-best (c .before), c .larger .ensures)) (both-valid _ _ (p s) (s .args .invalid))
 
 pub measure-spec : {M : Type 1} → statement M
 measure-spec =
@@ -109,7 +102,6 @@ measure-spec =
     (λ c κs. let s = enter (entering c) in target-in (m s) (l s) (p s) mostWeight (s .args .above) (s .pre .0) (c .if3 .left) (c .before .if2 .left))
     (λ c. let s = enter (entering (c .before .before)) in omega (arith, s .pre .1, low (c .before)))
     returns-5
-    (λ c. let s = enter (here (c .before)) in omega (arith, s .pre .1, above-low (m s) (l s) (p s) mostWeight (s .args .above) (s .pre .0)))
-    returns-6
-    (λ c. let s = enter (here (c .before)) in omega (arith, s .pre .1, low (c .before .before)))
-    returns-7)
+    (λ c κs. search needs)
+    (λ c. let s = enter (here (c .before)) in omega (arith, s .pre .1, c .larger .ensures, above-low (m s) (l s) (p s) mostWeight (s .args .above) (s .pre .0), low (c .before .before)))
+    returns-6)
