@@ -1,0 +1,4 @@
+pub mod Needed
+pub mod Patches
+pub mod Reading
+pub mod Segments

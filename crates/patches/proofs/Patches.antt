@@ -1,0 +1,180 @@
+-- Words that no path comes near may change: by the words that the table of steps looks at, and by what holds of any two graphs with the same edges at
+-- reachable words. Assumes nothing.
+use mathlib.Core.Path.{_≡_, refl, sym, ap, ap₂, _∙_}
+use mathlib.Core.Logic.{inl, inr, ⊎-elim}
+use mathlib.Core.Bool.{Bool, true, false, _&&_, _||_, true≢false}
+use mathlib.Core.List.{List}
+use Prim.Native.Nat.{ℕ, _+_, _-_, _≤_, _<_}
+use native.Mathlib.Omega.{arith}
+use borrow.Author.Tests.{ltb-false, eq-eqb, ne-eqb}
+use lib.Dec.{ltb, eqb}
+use lib.ListN.{length, getD, List·getD-eq-default}
+use Rattle.common.specs.Limits.{mostWords}
+use Rattle.common.specs.Numbers.{«ACCEPTED», «TOO_MANY_WORDS», «SHORT_SLICE», «NO_WORDS», «REACHES_INVALID», «WEIGHTS_REFUSED»}
+use Rattle.common.specs.Chain.{refuseIf}
+use Rattle.common.specs.Lists.{over}
+use Rattle.common.specs.Lowest.{lowest, lowestFrom}
+use Rattle.common.proofs.Lowest.{lowest-laws}
+use Rattle.common.proofs.Order.{split, same-or-not, bit}
+use Rattle.common.proofs.Over.{over-laws}
+use Rattle.fields.specs.Word.{opcodeOf}
+use Rattle.graph.specs.Graph.{Reachable}
+use Rattle.graph.specs.Marks.{markOf}
+use Rattle.graph.specs.Longest.{lengthOf, longest, first}
+use Rattle.graph.specs.Unreachable.{SameWhereReachable}
+use Rattle.graph.proofs.Laws as graph
+use Rattle.graph.proofs.Unreachable.{unreachable}
+use Rattle.runs.specs.declared.edges.Successors.{Successors}
+use Rattle.runs.specs.declared.longest.Run.{Run}
+use Rattle.runs.specs.declared.longest.Run.the-variants.{Accepted, Refused}
+use Rattle.runs.specs.Steps.{isInvalid, listOf}
+use Rattle.runs.specs.Successors.{successorsOf}
+use Rattle.runs.specs.Instance.{graphOf}
+use Rattle.runs.specs.Weights.{weightOf, refusesWeights, weightsPlace}
+use Rattle.runs.specs.Run.{numberOf, reachesInvalid, lowestInvalid, runOf, numberIs, marksAfter, lengthsAfter}
+use Rattle.runs.specs.Slices.{Kept}
+use Rattle.runs.specs.Laws.{Enough}
+use Rattle.runs.proofs.Laws.{laws}
+use Rattle.patches.specs.Reading.{SameAt, enteredBy, SameAround}
+use Rattle.patches.specs.Patches.{Dead, Patched, SameRun, DeadWordsMayChange}
+use Rattle.patches.proofs.Reading.{reading}
+use Rattle.patches.proofs.Segments.{segments-same}
+
+-- an accepted answer passed the checks, the last one too
+passed :
+    (a b c d e : Bool) (i k : ℕ) (r : Run)
+    → numberOf
+    (refuseIf a (Refused «TOO_MANY_WORDS» 0)
+    (refuseIf b (Refused «SHORT_SLICE» 0)
+    (refuseIf c (Refused «WEIGHTS_REFUSED» i) (refuseIf d (Refused «NO_WORDS» 0) (refuseIf e (Refused «REACHES_INVALID» k) r)))))
+    ≡ «ACCEPTED»
+    → e ≡ false
+passed true b c d e i k r x = absurd (omega arith)
+passed false true c d e i k r x = absurd (omega arith)
+passed false false true d e i k r x = absurd (omega arith)
+passed false false false true e i k r x = absurd (omega arith)
+passed false false false false true i k r x = absurd (omega arith)
+passed false false false false false i k r x = refl
+
+module _ (ws weights : List ℕ) (m l : ℕ) (accepted : numberOf (runOf ws weights m l) ≡ «ACCEPTED») where
+  none-invalid : length ws ≤ lowestInvalid ws
+  unfolding runOf
+  none-invalid =
+      ltb-false (lowestInvalid ws) (length ws)
+      (passed (ltb mostWords (length ws)) (ltb m (length ws) || ltb l (length ws)) (refusesWeights weights) (eqb (length ws) 0)
+      (ltb (lowestInvalid ws) (length ws)) (weightsPlace weights) (lowestInvalid ws)
+      (Accepted (longest (graphOf ws) (weightOf ws weights)) (first (graphOf ws) (weightOf ws weights))) accepted)
+
+  -- no reachable word of an accepted function is bad
+  pub valid : (p : ℕ) → Reachable (graphOf ws) p → isInvalid (successorsOf ws p) ≡ false
+  unfolding lowestInvalid
+  valid p r = go (isInvalid (successorsOf ws p)) refl
+    where
+      inside : p < length ws
+      inside = graph.laws .reaching (graphOf ws) (laws .lawful ws) .below p r
+
+      unmet : reachesInvalid ws p ≡ false
+      unmet = lowest-laws .first (reachesInvalid ws) 0 (length ws) .not-before p (omega arith) (omega (arith, none-invalid, inside))
+
+      go : (t : Bool) → isInvalid (successorsOf ws p) ≡ t → isInvalid (successorsOf ws p) ≡ false
+      go false e = e
+      go true e =
+          absurd (true≢false (sym (ap₂ (λ (x y : Bool). x && y) (eq-eqb _ _ (graph.laws .marking (graphOf ws) (laws .lawful ws) .one p r)) e) ∙ unmet))
+
+-- the slices after an accepted run
+module _ (ws weights m l : List ℕ) (accepted : numberIs ws weights m l ≡ «ACCEPTED») where
+  marks-of : marksAfter ws weights m l ≡ over (markOf (graphOf ws)) (length ws) m
+  unfolding marksAfter
+  marks-of = rw accepted
+
+  lengths-of : lengthsAfter ws weights m l ≡ over (lengthOf (graphOf ws) (weightOf ws weights)) (length ws) l
+  unfolding lengthsAfter
+  lengths-of = rw accepted
+
+module _ (ws vs weights m l m′ l′ : List ℕ) (t : Patched ws vs weights m l m′ l′) where
+  -- a word that is not dead is the same
+  alive : (q : ℕ) → (Dead (graphOf ws) q → ⊥) → SameAt ws vs q
+  alive q n =
+      ⊎-elim
+      (λ e. e)
+      (λ d. ⊎-elim
+      (λ past. List·getD-eq-default ws 0 past ∙ sym (List·getD-eq-default vs 0 (omega (arith, t .count, past))))
+      (λ h. absurd (n (t .differ q h d)))
+      (split (length ws) q))
+      (same-or-not (getD ws q 0) (getD vs q 0))
+
+  around : (p : ℕ) → Reachable (graphOf ws) p → SameAround ws vs p
+  around p r =
+      record {
+        count = t .count;
+        itself = alive p (λ d. d .unreachable r);
+        after = alive (p + 1) (λ d. d .apart p r (inr refl));
+        before = λ h. alive (p - 1) (λ d. d .apart p r (inl (omega arith)));
+        entered = λ e. alive (enteredBy ws p) (λ d. d .unreachable (reading .entered-reachable ws p e (valid ws weights (length m) (length l) (t .accepted) p r) r));
+      }
+
+  steps-same : (p : ℕ) → Reachable (graphOf ws) p → successorsOf ws p ≡ successorsOf vs p
+  steps-same p r = reading .same ws vs p (around p r)
+
+  alike : SameWhereReachable (graphOf ws) (graphOf vs) (weightOf ws weights) (weightOf vs weights)
+  alike =
+      record {
+        size = t .count;
+        edges = λ p r. ap listOf (steps-same p r);
+        serving = λ p q r. refl;
+        weights = λ p r. ap (λ (x : ℕ). getD weights (opcodeOf x) 0) (around p r .itself);
+      }
+
+  marks-same : (p : ℕ) → p < length ws → markOf (graphOf ws) p ≡ markOf (graphOf vs) p
+  marks-same = unreachable .marks (graphOf ws) (graphOf vs) _ _ (laws .lawful ws) (laws .lawful vs) alike
+
+  lengths-same : (p : ℕ) → p < length ws → lengthOf (graphOf ws) (weightOf ws weights) p ≡ lengthOf (graphOf vs) (weightOf vs weights) p
+  lengths-same = unreachable .lengths (graphOf ws) (graphOf vs) _ _ (laws .lawful ws) (laws .lawful vs) alike
+
+  longest-same : longest (graphOf ws) (weightOf ws weights) ≡ longest (graphOf vs) (weightOf vs weights)
+  longest-same = unreachable .longest-run (graphOf ws) (graphOf vs) _ _ (laws .lawful ws) (laws .lawful vs) alike
+
+  first-same : first (graphOf ws) (weightOf ws weights) ≡ first (graphOf vs) (weightOf vs weights)
+  first-same = unreachable .first-word (graphOf ws) (graphOf vs) _ _ (laws .lawful ws) (laws .lawful vs) alike
+
+  invalid-same : (p : ℕ) → p < length ws → reachesInvalid ws p ≡ reachesInvalid vs p
+  invalid-same p h =
+      ⊎-elim
+      (λ z. ap (λ (x : ℕ). eqb x 1 && isInvalid (successorsOf ws p)) z ∙ sym (ap (λ (x : ℕ). eqb x 1 && isInvalid (successorsOf vs p)) (sym (marks-same p h) ∙ z)))
+      (λ o. ap₂ (λ (x : ℕ) (s : Successors). eqb x 1 && isInvalid s) (marks-same p h)
+      (steps-same p (graph.laws .marking (graphOf ws) (laws .lawful ws) .reachable p h o)))
+      (bit (graph.laws .marking (graphOf ws) (laws .lawful ws) .bit p))
+
+  lowest-same : lowestInvalid ws ≡ lowestInvalid vs
+  unfolding lowestInvalid
+  lowest-same =
+      lowest-laws .same (reachesInvalid ws) (reachesInvalid vs) 0 (length ws) (λ p h. invalid-same p (omega arith))
+      ∙ ap (lowestFrom (reachesInvalid vs) 0) (t .count)
+
+  answer : runOf ws weights (length m) (length l) ≡ runOf vs weights (length m′) (length l′)
+  unfolding runOf
+  answer = rw (longest-same, first-same, lowest-same, t .marks-count, t .lengths-count, t .count)
+
+  accepted-too : numberIs vs weights m′ l′ ≡ «ACCEPTED»
+  accepted-too = sym (ap numberOf answer) ∙ t .accepted
+
+  same-run : SameRun ws vs weights m l m′ l′
+  same-run =
+      record {
+        accepted = accepted-too;
+        same-marks = λ p h. ap (λ (x : List ℕ). getD x p 0) (marks-of ws weights m l (t .accepted)) ∙ over-laws .at _ (length ws) m p h ∙ marks-same p h ∙ sym (ap (λ (x : List ℕ). getD x p 0) (marks-of vs weights m′ l′ accepted-too) ∙ over-laws .at _ (length vs) m′ p (omega (arith, t .count)));
+        same-lengths = λ p h. ap (λ (x : List ℕ). getD x p 0) (lengths-of ws weights m l (t .accepted)) ∙ over-laws .at _ (length ws) l p h ∙ lengths-same p h ∙ sym (ap (λ (x : List ℕ). getD x p 0) (lengths-of vs weights m′ l′ accepted-too) ∙ over-laws .at _ (length vs) l′ p (omega (arith, t .count)));
+        same-segments = segments-same (graphOf ws) (graphOf vs) _ _ (laws .lawful ws) (laws .lawful vs) alike (λ p q. refl);
+        same-answer = answer;
+        marks-kept = rw (marks-of vs weights m′ l′ accepted-too) (kept _ (length vs) m′ (enough .marks-long));
+        lengths-kept = rw (lengths-of vs weights m′ l′ accepted-too) (kept _ (length vs) l′ (enough .lengths-long));
+      }
+    where
+      enough : Enough (length vs) weights (length m′) (length l′)
+      enough = laws .enough vs weights (length m′) (length l′) accepted-too
+
+      kept : (f : ℕ → ℕ) (n : ℕ) (before : List ℕ) → n ≤ length before → Kept n before (over f n before)
+      kept f n before h = record { size = over-laws .length-over f n before h; past = over-laws .past f n before }
+
+pub dead-words-may-change : DeadWordsMayChange
+dead-words-may-change = same-run
