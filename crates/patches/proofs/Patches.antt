@@ -40,6 +40,17 @@ use Rattle.patches.specs.Patches.{Dead, Patched, SameRun, DeadWordsMayCh
 use Rattle.patches.proofs.Reading.{reading}
 use Rattle.patches.proofs.Segments.{segments-same}
 
+-- two lists that are equally long hold the same where they do not differ, and past their ends
+pub same-unless : (ws vs : List ℕ) → length ws ≡ length vs → (q : ℕ) → (q < length ws → (SameAt ws vs q → ⊥) → ⊥) → SameAt ws vs q
+same-unless ws vs count q n =
+    ⊎-elim
+    (λ e. e)
+    (λ d. ⊎-elim
+    (λ past. List·getD-eq-default ws 0 past ∙ sym (List·getD-eq-default vs 0 (omega (arith, count, past))))
+    (λ h. absurd (n h d))
+    (split (length ws) q))
+    (same-or-not (getD ws q 0) (getD vs q 0))
+
 -- an accepted answer passed the checks, the last one too
 passed :
     (a b c d e : Bool) (i k : ℕ) (r : Run)
@@ -91,38 +102,15 @@ module _ (ws weights m l : List ℕ) (accepted : numberIs ws weights m l ≡ «A
   unfolding lengthsAfter
   lengths-of = rw accepted
 
-module _ (ws vs weights m l m′ l′ : List ℕ) (t : Patched ws vs weights m l m′ l′) where
-  -- a word that is not dead is the same
-  alive : (q : ℕ) → (Dead (graphOf ws) q → ⊥) → SameAt ws vs q
-  alive q n =
-      ⊎-elim
-      (λ e. e)
-      (λ d. ⊎-elim
-      (λ past. List·getD-eq-default ws 0 past ∙ sym (List·getD-eq-default vs 0 (omega (arith, t .count, past))))
-      (λ h. absurd (n (t .differ q h d)))
-      (split (length ws) q))
-      (same-or-not (getD ws q 0) (getD vs q 0))
-
-  around : (p : ℕ) → Reachable (graphOf ws) p → SameAround ws vs p
-  around p r =
-      record {
-        count = t .count;
-        itself = alive p (λ d. d .unreachable r);
-        after = alive (p + 1) (λ d. d .apart p r (inr refl));
-        before = λ h. alive (p - 1) (λ d. d .apart p r (inl (omega arith)));
-        entered = λ e. alive (enteredBy ws p) (λ d. d .unreachable (reading .entered-reachable ws p e (valid ws weights (length m) (length l) (t .accepted) p r) r));
-      }
-
-  steps-same : (p : ℕ) → Reachable (graphOf ws) p → successorsOf ws p ≡ successorsOf vs p
-  steps-same p r = reading .same ws vs p (around p r)
-
+-- two lists that hold the same, and have the same steps, at the words that are reachable in the first
+module _ (ws vs weights : List ℕ) (count : length ws ≡ length vs) (itself : (p : ℕ) → Reachable (graphOf ws) p → SameAt ws vs p) (steps : (p : ℕ) → Reachable (graphOf ws) p → successorsOf ws p ≡ successorsOf vs p) where
   alike : SameWhereReachable (graphOf ws) (graphOf vs) (weightOf ws weights) (weightOf vs weights)
   alike =
       record {
-        size = t .count;
-        edges = λ p r. ap listOf (steps-same p r);
+        size = count;
+        edges = λ p r. ap listOf (steps p r);
         serving = λ p q r. refl;
-        weights = λ p r. ap (λ (x : ℕ). getD weights (opcodeOf x) 0) (around p r .itself);
+        weights = λ p r. ap (λ (x : ℕ). getD weights (opcodeOf x) 0) (itself p r);
       }
 
   marks-same : (p : ℕ) → p < length ws → markOf (graphOf ws) p ≡ markOf (graphOf vs) p
@@ -140,41 +128,74 @@ module _ (ws vs weights m l m′ l′ : List ℕ) (t : Patched ws vs weights m l
   invalid-same : (p : ℕ) → p < length ws → reachesInvalid ws p ≡ reachesInvalid vs p
   invalid-same p h =
       ⊎-elim
-      (λ z. ap (λ (x : ℕ). eqb x 1 && isInvalid (successorsOf ws p)) z ∙ sym (ap (λ (x : ℕ). eqb x 1 && isInvalid (successorsOf vs p)) (sym (marks-same p h) ∙ z)))
+      (λ z. unmarked ws z ∙ sym (unmarked vs (sym (marks-same p h) ∙ z)))
       (λ o. ap₂ (λ (x : ℕ) (s : Successors). eqb x 1 && isInvalid s) (marks-same p h)
-      (steps-same p (graph.laws .marking (graphOf ws) (laws .lawful ws) .reachable p h o)))
+      (steps p (graph.laws .marking (graphOf ws) (laws .lawful ws) .reachable p h o)))
       (bit (graph.laws .marking (graphOf ws) (laws .lawful ws) .bit p))
+    where
+      unmarked : (us : List ℕ) → markOf (graphOf us) p ≡ 0 → reachesInvalid us p ≡ false
+      unmarked us z = rw z
 
   lowest-same : lowestInvalid ws ≡ lowestInvalid vs
   unfolding lowestInvalid
   lowest-same =
       lowest-laws .same (reachesInvalid ws) (reachesInvalid vs) 0 (length ws) (λ p h. invalid-same p (omega arith))
-      ∙ ap (lowestFrom (reachesInvalid vs) 0) (t .count)
+      ∙ ap (lowestFrom (reachesInvalid vs) 0) count
+
+  pub answer-same : (a b : ℕ) → runOf ws weights a b ≡ runOf vs weights a b
+  unfolding runOf
+  answer-same a b = rw (longest-same, first-same, lowest-same, count)
+
+module _ (ws vs weights m l m′ l′ : List ℕ) (t : Patched ws vs weights m l m′ l′) where
+  -- a word that is not dead is the same
+  alive : (q : ℕ) → (Dead (graphOf ws) q → ⊥) → SameAt ws vs q
+  alive q n = same-unless ws vs (t .count) q (λ h d. n (t .differ q h d))
+
+  around : (p : ℕ) → Reachable (graphOf ws) p → SameAround ws vs p
+  around p r =
+      record {
+        count = t .count;
+        itself = alive p (λ d. d .unreachable r);
+        after = alive (p + 1) (λ d. d .apart p r (inr refl));
+        before = λ h. alive (p - 1) (λ d. d .apart p r (inl (omega arith)));
+        entered = λ e. alive (enteredBy ws p) (λ d. d .unreachable (reading .entered-reachable ws p e (valid ws weights (length m) (length l) (t .accepted) p r) r));
+      }
+
+  itself : (p : ℕ) → Reachable (graphOf ws) p → SameAt ws vs p
+  itself p r = around p r .itself
+
+  steps : (p : ℕ) → Reachable (graphOf ws) p → successorsOf ws p ≡ successorsOf vs p
+  steps p r = reading .same ws vs p (around p r)
 
   answer : runOf ws weights (length m) (length l) ≡ runOf vs weights (length m′) (length l′)
-  unfolding runOf
-  answer = rw (longest-same, first-same, lowest-same, t .marks-count, t .lengths-count, t .count)
+  answer = answer-same ws vs weights (t .count) itself steps (length m) (length l) ∙ ap₂ (runOf vs weights) (t .marks-count) (t .lengths-count)
 
   accepted-too : numberIs vs weights m′ l′ ≡ «ACCEPTED»
   accepted-too = sym (ap numberOf answer) ∙ t .accepted
+
+  -- the first n of two slices
+  firsts : {f h : ℕ → ℕ} (a b : List ℕ) {a′ b′ : List ℕ} → a′ ≡ over f (length ws) a → b′ ≡ over h (length vs) b → ((p : ℕ) → p < length ws → f p ≡ h p) → (p : ℕ) → p < length ws → getD a′ p 0 ≡ getD b′ p 0
+  firsts {f} {h} a b d e s p k =
+      rw (d, e) (over-laws .at f (length ws) a p k ∙ s p k ∙ sym (over-laws .at h (length vs) b p (omega (arith, t .count))))
+
+  -- and the rest
+  kept : (f : ℕ → ℕ) {a a′ : List ℕ} → a′ ≡ over f (length vs) a → length vs ≤ length a → Kept (length vs) a a′
+  kept f {a} e h = rw e (record { size = over-laws .length-over f (length vs) a h; past = over-laws .past f (length vs) a })
+
+  enough : Enough (length vs) weights (length m′) (length l′)
+  enough = laws .enough vs weights (length m′) (length l′) accepted-too
 
   same-run : SameRun ws vs weights m l m′ l′
   same-run =
       record {
         accepted = accepted-too;
-        same-marks = λ p h. ap (λ (x : List ℕ). getD x p 0) (marks-of ws weights m l (t .accepted)) ∙ over-laws .at _ (length ws) m p h ∙ marks-same p h ∙ sym (ap (λ (x : List ℕ). getD x p 0) (marks-of vs weights m′ l′ accepted-too) ∙ over-laws .at _ (length vs) m′ p (omega (arith, t .count)));
-        same-lengths = λ p h. ap (λ (x : List ℕ). getD x p 0) (lengths-of ws weights m l (t .accepted)) ∙ over-laws .at _ (length ws) l p h ∙ lengths-same p h ∙ sym (ap (λ (x : List ℕ). getD x p 0) (lengths-of vs weights m′ l′ accepted-too) ∙ over-laws .at _ (length vs) l′ p (omega (arith, t .count)));
-        same-segments = segments-same (graphOf ws) (graphOf vs) _ _ (laws .lawful ws) (laws .lawful vs) alike (λ p q. refl);
+        same-marks = firsts m m′ (marks-of ws weights m l (t .accepted)) (marks-of vs weights m′ l′ accepted-too) (marks-same ws vs weights (t .count) itself steps);
+        same-lengths = firsts l l′ (lengths-of ws weights m l (t .accepted)) (lengths-of vs weights m′ l′ accepted-too) (lengths-same ws vs weights (t .count) itself steps);
+        same-segments = segments-same (graphOf ws) (graphOf vs) _ _ (laws .lawful ws) (laws .lawful vs) (alike ws vs weights (t .count) itself steps) (λ p q. refl);
         same-answer = answer;
-        marks-kept = rw (marks-of vs weights m′ l′ accepted-too) (kept _ (length vs) m′ (enough .marks-long));
-        lengths-kept = rw (lengths-of vs weights m′ l′ accepted-too) (kept _ (length vs) l′ (enough .lengths-long));
+        marks-kept = kept (markOf (graphOf vs)) (marks-of vs weights m′ l′ accepted-too) (enough .marks-long);
+        lengths-kept = kept (lengthOf (graphOf vs) (weightOf vs weights)) (lengths-of vs weights m′ l′ accepted-too) (enough .lengths-long);
       }
-    where
-      enough : Enough (length vs) weights (length m′) (length l′)
-      enough = laws .enough vs weights (length m′) (length l′) accepted-too
-
-      kept : (f : ℕ → ℕ) (n : ℕ) (before : List ℕ) → n ≤ length before → Kept n before (over f n before)
-      kept f n before h = record { size = over-laws .length-over f n before h; past = over-laws .past f n before }
 
 pub dead-words-may-change : DeadWordsMayChange
 dead-words-may-change = same-run

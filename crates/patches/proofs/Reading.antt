@@ -23,7 +23,7 @@ use Rattle.runs.specs.Instance.{graphOf}
 use Rattle.runs.proofs.Laws.{laws}
 use Rattle.patches.specs.Reading.{SameAt, enteredBy, SameAround, Reading}
 
-holds : (t : Bool) → T t → t ≡ true
+pub holds : (t : Bool) → T t → t ≡ true
 holds true x = refl
 holds false x = absurd x
 
@@ -41,13 +41,24 @@ only-prepares w e =
     (sym (ap (λ (c : Companion). cond (eqb (companionNumber c) (companionNumber callAtTarget)) (eqb (opcodeOf w) «OP_TFORPREP») true) e)
     ∙ holds _ (fields.laws .each-below asksTarget 128 asked (opcodeOf w) (omega arith)))
 
-module _ (ws vs : List ℕ) (p : ℕ) (s : SameAround ws vs p) where
+module _ (ws vs : List ℕ) where
   opcode-same : (i : ℕ) → SameAt ws vs i → opcodeAt ws i ≡ opcodeAt vs i
   unfolding opcodeAt
   opcode-same i e = ap opcodeOf e
 
+  -- a companion that is, or is not, there in both
+  pub present-by : (p : ℕ) → SameAt ws vs p → standsAt (companionOf (opcodeAt ws p)) ws p ≡ standsAt (companionOf (opcodeAt ws p)) vs p → companionPresent ws p ≡ companionPresent vs p
+  unfolding companionPresent
+  present-by p e stands = stands ∙ ap (λ (o : ℕ). standsAt (companionOf o) vs p) (opcode-same p e)
+
+  -- all else is in the word itself
+  pub same-by : length ws ≡ length vs → (p : ℕ) → SameAt ws vs p → companionPresent ws p ≡ companionPresent vs p → successorsOf ws p ≡ successorsOf vs p
+  unfolding successorsOf
+  same-by count p e present = λ i. unless (ltb p (count i)) (unless (present i) (nextOf (classOf (opcode-same p e i)) (count i) (e i) p))
+
+module _ (ws vs : List ℕ) (p : ℕ) (s : SameAround ws vs p) where
   opcode-after : opcodeAt ws (p + 1) ≡ opcodeAt vs (p + 1)
-  opcode-after = opcode-same (p + 1) (s .after)
+  opcode-after = opcode-same ws vs (p + 1) (s .after)
 
   stands-same : (c : Companion) → (c ≡ callAtTarget → SameAt ws vs (enteredBy ws p)) → standsAt c ws p ≡ standsAt c vs p
   stands-same alone f = refl
@@ -55,49 +66,45 @@ module _ (ws vs : List ℕ) (p : ℕ) (s : SameAround ws vs p) where
   stands-same arithmeticBefore f = go (ltb 0 p) refl
     where
       go : (t : Bool) → ltb 0 p ≡ t → t && isBetween «OP_ADDI» «OP_SHR» (opcodeAt ws (p - 1)) ≡ t && isBetween «OP_ADDI» «OP_SHR» (opcodeAt vs (p - 1))
-      go true e = ap (isBetween «OP_ADDI» «OP_SHR») (opcode-same (p - 1) (s .before (ltb-true 0 p e)))
+      go true e = ap (isBetween «OP_ADDI» «OP_SHR») (opcode-same ws vs (p - 1) (s .before (ltb-true 0 p e)))
       go false e = refl
   stands-same jumpAfter f = ap (λ (o : ℕ). eqb o «OP_JMP») opcode-after
   stands-same extraAfter f = ap (λ (o : ℕ). eqb o «OP_EXTRAARG») opcode-after
   stands-same extraAfterIfK f = ap₂ (λ (w o : ℕ). cond (eqb (kOf w) 1) (eqb o «OP_EXTRAARG») true) (s .itself) opcode-after
   stands-same callAtTarget f =
-      ap (λ (o : ℕ). eqb o «OP_TFORCALL») (opcode-same (enteredBy ws p) (f refl) ∙ ap (λ (w : ℕ). opcodeAt vs (p + 1 + bxOf w)) (s .itself))
+      ap (λ (o : ℕ). eqb o «OP_TFORCALL») (opcode-same ws vs (enteredBy ws p) (f refl) ∙ ap (λ (w : ℕ). opcodeAt vs (p + 1 + bxOf w)) (s .itself))
   stands-same loopAfter f = ap (λ (o : ℕ). eqb o «OP_TFORLOOP») opcode-after
 
   entered-same : companionOf (opcodeAt ws p) ≡ callAtTarget → SameAt ws vs (enteredBy ws p)
   unfolding opcodeAt
   entered-same e = s .entered (only-prepares (getD ws p 0) e)
 
-  present-same : companionPresent ws p ≡ companionPresent vs p
-  unfolding companionPresent
-  present-same =
-      stands-same (companionOf (opcodeAt ws p)) entered-same ∙ ap (λ (o : ℕ). standsAt (companionOf o) vs p) (opcode-same p (s .itself))
-
   same : successorsOf ws p ≡ successorsOf vs p
-  unfolding successorsOf
-  same = λ i. unless (ltb p (s .count i)) (unless (present-same i) (nextOf (classOf (opcode-same p (s .itself) i)) (s .count i) (s .itself i) p))
+  same = same-by ws vs (s .count) p (s .itself) (present-by ws vs p (s .itself) (stands-same (companionOf (opcodeAt ws p)) entered-same))
 
--- three tests that a word that is not bad passed
-passed : (a b c : Bool) (s : Successors) → isInvalid (unless a (unless b (unless c s))) ≡ false → unless a (unless b (unless c s)) ≡ s
+-- a word that is not bad passed the test
+pub through : (t : Bool) (s : Successors) → isInvalid (unless t s) ≡ false → unless t s ≡ s
 unfolding unless
-passed true true true s e = refl
-passed true true false s e = absurd (true≢false e)
-passed true false c s e = absurd (true≢false e)
-passed false b c s e = absurd (true≢false e)
+through true s e = refl
+through false s e = absurd (true≢false e)
 
 class-entering : classOf «OP_TFORPREP» ≡ entering
 unfolding classOf
 class-entering = refl
 
-module _ (ws : List ℕ) (p : ℕ) (prepares : opcodeAt ws p ≡ «OP_TFORPREP») (valid : isInvalid (successorsOf ws p) ≡ false) where
-  by-tests :
-      successorsOf ws p
-      ≡ unless (ltb p (length ws)) (unless (companionPresent ws p) (unless (ltb (enteredBy ws p) (length ws)) (One (enteredBy ws p))))
-  unfolding successorsOf one
-  by-tests = rw (prepares, class-entering)
+-- and so it is as the table's "Next word" has it
+pub as-next : (ws : List ℕ) (p : ℕ) → isInvalid (successorsOf ws p) ≡ false → successorsOf ws p ≡ nextOf (classOf (opcodeAt ws p)) (length ws) (getD ws p 0) p
+unfolding successorsOf
+as-next ws p valid =
+    let inside = through (ltb p (length ws)) _ valid in
+    inside ∙ through (companionPresent ws p) _ (sym (ap isInvalid inside) ∙ valid)
 
+module _ (ws : List ℕ) (p : ℕ) (prepares : opcodeAt ws p ≡ «OP_TFORPREP») (valid : isInvalid (successorsOf ws p) ≡ false) where
   enters : successorsOf ws p ≡ One (enteredBy ws p)
-  enters = by-tests ∙ passed _ _ _ _ (sym (ap isInvalid by-tests) ∙ valid)
+  unfolding one
+  enters =
+      let there : successorsOf ws p ≡ unless (ltb (enteredBy ws p) (length ws)) (One (enteredBy ws p)) = as-next ws p valid ∙ rw (prepares, class-entering) in
+      there ∙ through (ltb (enteredBy ws p) (length ws)) _ (sym (ap isInvalid there) ∙ valid)
 
   entered-reachable : Reachable (graphOf ws) p → Reachable (graphOf ws) (enteredBy ws p)
   entered-reachable r =

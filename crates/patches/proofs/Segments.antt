@@ -17,10 +17,11 @@ unserved-there g h e p (q ∷ qs) u = (sym (e p q) ∙ u .0, unserved-there g h 
 module _ (g h : Graph) (w v : ℕ → ℕ) (lg : Lawful g) (lh : Lawful h) (s : SameWhereReachable g h w v) (serving : (p q : ℕ) → g .serves p q ≡ h .serves p q) where
   along-there : (p : ℕ) (ps : List ℕ) → Reachable g p → Along g p ps → Along h p ps
   along-there p [] r a = omega (arith, s .size)
-  along-there p (q ∷ qs) r a =
-      (omega (arith, s .size, a .0),
-      subst (λ (l : List ℕ). In q l) (s .edges p r) (a .1),
-      along-there q qs (laws .reaching g lg .next p q r (a .1)) (a .2))
+  along-there p (q ∷ qs) r a = (
+    omega (arith, s .size, a .0),
+    subst (λ (l : List ℕ). In q l) (s .edges p r) (a .1),
+    along-there q qs (laws .reaching g lg .next p q r (a .1)) (a .2),
+  )
 
   path-there : (ps : List ℕ) → Path g ps → Path h ps
   path-there [] x = x
