@@ -29,7 +29,7 @@ use Rattle.runs.specs.Weights.{lowestZero, refusesWeights}
 use Rattle.runs.specs.Run.{numberOf, lowestInvalid, runOf}
 use Rattle.runs.proofs.Laws.{laws}
 use Rattle.patches.specs.Reading.{SameAt, enteredBy}
-use Rattle.patches.specs.Needed.{Needed}
+use Rattle.patches.specs.Needed.{smallest, Needed}
 use Rattle.patches.proofs.Reading.{holds, present-by, same-by, as-next, reading}
 use Rattle.patches.proofs.Patches.{same-unless, valid, answer-same}
 
@@ -106,7 +106,7 @@ unasked extraAfterIfK e ws p = absurd (true≢false e)
 unasked callAtTarget e ws p = absurd (true≢false e)
 unasked loopAfter e ws p = absurd (true≢false e)
 
-module _ (ws vs : List ℕ) (few : length ws < 3) (count : length ws ≡ length vs) (differ : (p : ℕ) → p < length ws → (SameAt ws vs p → ⊥) → Reachable (graphOf ws) p → ⊥) (good : (p : ℕ) → Reachable (graphOf ws) p → isInvalid (successorsOf ws p) ≡ false) where
+module _ (ws vs : List ℕ) (few : length ws < smallest) (count : length ws ≡ length vs) (differ : (p : ℕ) → p < length ws → (SameAt ws vs p → ⊥) → Reachable (graphOf ws) p → ⊥) (good : (p : ℕ) → Reachable (graphOf ws) p → isInvalid (successorsOf ws p) ≡ false) where
   itself : (p : ℕ) → Reachable (graphOf ws) p → SameAt ws vs p
   itself p r = same-unless ws vs count p (λ h d. differ p h d r)
 
@@ -157,7 +157,7 @@ module _ (ws vs : List ℕ) (few : length ws < 3) (count : length ws ≡ length 
       (same-or-not (getD ws 1 0) (getD vs 1 0))
 
 none-smaller :
-    (ws vs weights : List ℕ) (m l : ℕ) → length ws < 3 → length ws ≡ length vs → numberOf (runOf ws weights m l) ≡ «ACCEPTED»
+    (ws vs weights : List ℕ) (m l : ℕ) → length ws < smallest → length ws ≡ length vs → numberOf (runOf ws weights m l) ≡ «ACCEPTED»
     → ((p : ℕ) → p < length ws → (SameAt ws vs p → ⊥) → Reachable (graphOf ws) p → ⊥)
     → runOf ws weights m l ≡ runOf vs weights m l
 none-smaller ws vs weights m l few count accepted differ =
@@ -175,4 +175,7 @@ needed =
       before-unreachable = refl;
       before-accepted = refl;
       before-refused = refl;
+      second-unreachable = (refl, refl, refl);
+      second-accepted = refl;
+      second-refused = refl;
     }

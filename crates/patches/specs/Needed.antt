@@ -1,12 +1,13 @@
--- Request C-23's "nor next to a reachable word" is needed, on both sides: pairs of lists that differ in one word, which is not reachable but stands next to a
--- reachable one, and are answered differently. The pair of three words is the smallest: of fewer words, any that is not reachable may change.
+-- What request C-23 supposes is needed: pairs of lists that differ in one word and are answered differently. "Nor next to a reachable word", on both sides:
+-- the word is not reachable but stands next to a reachable one. Of these pairs that of three words is the smallest: of fewer words, any that is not
+-- reachable may change. "Reachable in the first", which is accepted: the word is dead by the courses of the other list.
 -- Assumes nothing.
 use mathlib.Core.Path.{_≡_}
 use mathlib.Core.List.{List, [], _∷_}
 use Prim.Native.Nat.{ℕ, _<_}
 use lib.ListN.{length}
 use Rattle.common.specs.Numbers.{«ACCEPTED», «REACHES_INVALID»}
-use Rattle.fields.specs.Opcodes.{«OP_MOVE», «OP_LOADKX», «OP_ADD», «OP_MMBIN», «OP_RETURN0», «OP_EXTRAARG»}
+use Rattle.fields.specs.Opcodes.{«OP_MOVE», «OP_LOADKX», «OP_ADD», «OP_MMBIN», «OP_RETURN0», «OP_TFORCALL», «OP_TFORLOOP», «OP_EXTRAARG»}
 use Rattle.graph.specs.Graph.{Reachable}
 use Rattle.graph.specs.Marks.{markOf}
 use Rattle.runs.specs.declared.longest.Run.{Run}
@@ -20,6 +21,10 @@ use Rattle.patches.specs.Reading.{SameAt}
 abbrev runAlone : List ℕ → Run
 runAlone ws = runOf ws ones (length ws) (length ws)
 
+-- how many words the smallest pair has
+abbrev pub smallest : ℕ
+smallest = 3
+
 -- with x at word 1, the word after LOADKX, which goes on at word 2
 abbrev pub afterLoad : ℕ → List ℕ
 afterLoad x = «OP_LOADKX» ∷ x ∷ «OP_RETURN0» ∷ []
@@ -32,6 +37,14 @@ jumpOver = 2147483704
 abbrev pub beforeMetamethod : ℕ → List ℕ
 beforeMetamethod x = jumpOver ∷ x ∷ «OP_MMBIN» ∷ «OP_RETURN0» ∷ []
 
+-- TFORPREP with Bx 1
+abbrev pub prepare : ℕ
+prepare = 32843
+
+-- with x at word 2, the word that TFORPREP at word 0 enters
+abbrev pub entered : ℕ → List ℕ
+entered x = prepare ∷ «OP_MOVE» ∷ x ∷ «OP_TFORLOOP» ∷ «OP_RETURN0» ∷ []
+
 pub record Needed : Type 0 where
   -- the word after a reachable one: "LOADKX 4 .. word p+1 is EXTRAARG"
   pub after-unreachable : markOf (graphOf (afterLoad «OP_EXTRAARG»)) 1 ≡ 0
@@ -39,10 +52,14 @@ pub record Needed : Type 0 where
   pub after-refused : runAlone (afterLoad «OP_MOVE») ≡ Refused «REACHES_INVALID» 0
   -- there is no smaller pair
   pub none-smaller :
-      (ws vs weights : List ℕ) (marks lengths : ℕ) → length ws < 3 → length ws ≡ length vs → numberOf (runOf ws weights marks lengths) ≡ «ACCEPTED»
+      (ws vs weights : List ℕ) (marks lengths : ℕ) → length ws < smallest → length ws ≡ length vs → numberOf (runOf ws weights marks lengths) ≡ «ACCEPTED»
       → ((p : ℕ) → p < length ws → (SameAt ws vs p → ⊥) → Reachable (graphOf ws) p → ⊥)
       → runOf ws weights marks lengths ≡ runOf vs weights marks lengths
   -- the word before one: "46 to 48 .. p > 0 and word p-1 is 21 to 45"
   pub before-unreachable : markOf (graphOf (beforeMetamethod «OP_ADD»)) 1 ≡ 0
   pub before-accepted : runAlone (beforeMetamethod «OP_ADD») ≡ Accepted 3 0
   pub before-refused : runAlone (beforeMetamethod «OP_MOVE») ≡ Refused «REACHES_INVALID» 2
+  -- a word that is dead by the second list alone: "TFORPREP 75 .. that word is TFORCALL"
+  pub second-unreachable : (markOf (graphOf (entered «OP_MOVE»)) 1 ≡ 0) × (markOf (graphOf (entered «OP_MOVE»)) 2 ≡ 0) × (markOf (graphOf (entered «OP_MOVE»)) 3 ≡ 0)
+  pub second-accepted : runAlone (entered «OP_TFORCALL») ≡ Accepted 4 0
+  pub second-refused : runAlone (entered «OP_MOVE») ≡ Refused «REACHES_INVALID» 0
