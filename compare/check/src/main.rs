@@ -60,8 +60,8 @@ fn main() {
     let start = Instant::now();
     let c = patches::all(&sides, seed, functions / 8);
     println!(
-        "patches: {} words of {} lists, dead words of {} functions, {} of them real: each side answers the same; next to a reachable word {} lists, answered otherwise {} with the patch after it and {} before it",
-        c.words, c.lists, c.functions, c.real, c.near, c.after, c.before
+        "patches: {} words of {} lists, dead words of {} functions, {} of them real: each side answers the same; next to a reachable word {} lists, answered otherwise {} with the patch between two and {} before one",
+        c.words, c.lists, c.functions, c.real, c.near, c.between, c.before
     );
     eprintln!("  {:.1} s", start.elapsed().as_secs_f64());
 

@@ -18,9 +18,9 @@ pub struct Counts {
     /// Patched lists that were held against their first, and words that differ in them.
     pub lists: u64,
     pub words: u64,
-    /// Lists patched next to a reachable word, and those that were answered otherwise: with the patch after it, or before it.
+    /// Lists patched next to a reachable word, and those that were answered otherwise: with the patch between two, or before one.
     pub near: u64,
-    pub after: u64,
+    pub between: u64,
     pub before: u64,
 }
 
@@ -168,8 +168,8 @@ fn near(sides: &[Side], rng: &mut Rng, words: &[u32], weights: &Weights, met: &[
     let differ = sides.iter().filter(|side| compare(side, &pair, 0).is_err()).count();
     assert!(differ == 0 || differ == sides.len(), "sides disagree on {pair:?}");
     if differ > 0 {
-        counts.after += u64::from(after_one(met, q));
-        counts.before += u64::from(before_one(met, q) && !after_one(met, q));
+        assert!(before_one(met, q), "a word after a reachable one alone is free to change: {pair:?}");
+        *(if after_one(met, q) { &mut counts.between } else { &mut counts.before }) += 1;
     }
 }
 
@@ -192,14 +192,14 @@ pub fn all(sides: &[Side], seed: u64, wanted: u64) -> Counts {
         let words = with_table(&mut rng, &code, &other);
         hold(sides, &mut rng, &words, false, &mut counts);
     }
-    assert!(counts.after > 0 && counts.before > 0, "words next to reachable ones are not free to change");
+    assert!(counts.between > 0 && counts.before > 0, "words next to reachable ones are not free to change");
     counts
 }
 
 /// Rules that let too much change, each with the smallest pair that shows it; panics if one was not caught.
 pub fn wrong(side: &Side, seed: u64) -> Vec<String> {
     let rules: [(&str, Rule); 3] = [
-        ("wrong rule, words after reachable ones too", |first, _, q| !first[q] && !before_one(first, q)),
+        ("wrong rule, words next to reachable ones too", |first, _, q| !first[q]),
         ("wrong rule, words before reachable ones too", |first, _, q| !first[q] && !after_one(first, q)),
         ("wrong rule, reachable in the second list", |_, second, q| dead(second, q)),
     ];

@@ -1,7 +1,7 @@
 -- Words that no path comes near may change: by the words that the table of steps looks at, and by what holds of any two graphs with the same edges at
 -- reachable words. Assumes nothing.
-use mathlib.Core.Path.{_≡_, refl, sym, ap, ap₂, _∙_}
-use mathlib.Core.Logic.{inl, inr, ⊎-elim}
+use mathlib.Core.Path.{_≡_, refl, sym, ap, ap₂, subst, _∙_}
+use mathlib.Core.Logic.{inl, ⊎-elim}
 use mathlib.Core.Bool.{Bool, true, false, _&&_, _||_, true≢false}
 use mathlib.Core.List.{List}
 use Prim.Native.Nat.{ℕ, _+_, _-_, _≤_, _<_}
@@ -18,7 +18,7 @@ use Rattle.common.proofs.Lowest.{lowest-laws}
 use Rattle.common.proofs.Order.{split, same-or-not, bit}
 use Rattle.common.proofs.Over.{over-laws}
 use Rattle.fields.specs.Word.{opcodeOf}
-use Rattle.graph.specs.Graph.{Reachable}
+use Rattle.graph.specs.Graph.{In, Reachable}
 use Rattle.graph.specs.Marks.{markOf}
 use Rattle.graph.specs.Longest.{lengthOf, longest, first}
 use Rattle.graph.specs.Unreachable.{SameWhereReachable}
@@ -36,12 +36,12 @@ use Rattle.runs.specs.Slices.{Kept}
 use Rattle.runs.specs.Laws.{Enough}
 use Rattle.runs.proofs.Laws.{laws}
 use Rattle.patches.specs.Reading.{SameAt, enteredBy, SameAround}
-use Rattle.patches.specs.Patches.{Dead, Patched, SameRun, DeadWordsMayChange}
+use Rattle.patches.specs.Patches.{Patched, SameRun, DeadWordsMayChange}
+use Rattle.patches.specs.Needed.{DifferBeforeNone}
 use Rattle.patches.proofs.Reading.{reading}
-use Rattle.patches.proofs.Segments.{segments-same}
 
 -- two lists that are equally long hold the same where they do not differ, and past their ends
-pub same-unless : (ws vs : List ℕ) → length ws ≡ length vs → (q : ℕ) → (q < length ws → (SameAt ws vs q → ⊥) → ⊥) → SameAt ws vs q
+same-unless : (ws vs : List ℕ) → length ws ≡ length vs → (q : ℕ) → (q < length ws → (SameAt ws vs q → ⊥) → ⊥) → SameAt ws vs q
 same-unless ws vs count q n =
     ⊎-elim
     (λ e. e)
@@ -77,7 +77,7 @@ module _ (ws weights : List ℕ) (m l : ℕ) (accepted : numberOf (runOf ws weig
       (Accepted (longest (graphOf ws) (weightOf ws weights)) (first (graphOf ws) (weightOf ws weights))) accepted)
 
   -- no reachable word of an accepted function is bad
-  pub valid : (p : ℕ) → Reachable (graphOf ws) p → isInvalid (successorsOf ws p) ≡ false
+  valid : (p : ℕ) → Reachable (graphOf ws) p → isInvalid (successorsOf ws p) ≡ false
   unfolding lowestInvalid
   valid p r = go (isInvalid (successorsOf ws p)) refl
     where
@@ -142,39 +142,63 @@ module _ (ws vs weights : List ℕ) (count : length ws ≡ length vs) (itself : 
       lowest-laws .same (reachesInvalid ws) (reachesInvalid vs) 0 (length ws) (λ p h. invalid-same p (omega arith))
       ∙ ap (lowestFrom (reachesInvalid vs) 0) count
 
-  pub answer-same : (a b : ℕ) → runOf ws weights a b ≡ runOf vs weights a b
+  answer-same : (a b : ℕ) → runOf ws weights a b ≡ runOf vs weights a b
   unfolding runOf
   answer-same a b = rw (longest-same, first-same, lowest-same, count)
 
-module _ (ws vs weights m l m′ l′ : List ℕ) (t : Patched ws vs weights m l m′ l′) where
-  -- a word that is not dead is the same
-  alive : (q : ℕ) → (Dead (graphOf ws) q → ⊥) → SameAt ws vs q
-  alive q n = same-unless ws vs (t .count) q (λ h d. n (t .differ q h d))
+-- two lists that differ only in words that are neither reachable in the first nor before a reachable one
+module _ (ws vs weights : List ℕ) (m l : ℕ) (count : length ws ≡ length vs) (accepted : numberOf (runOf ws weights m l) ≡ «ACCEPTED») (differ : DifferBeforeNone ws vs) where
+  pub itself : (p : ℕ) → Reachable (graphOf ws) p → SameAt ws vs p
+  itself p r = same-unless ws vs count p (λ h d. differ p h d .0 r)
+
+  before : (p : ℕ) → Reachable (graphOf ws) (p + 1) → SameAt ws vs p
+  before p r = same-unless ws vs count p (λ h d. differ p h d .1 r)
+
+  next : (p q : ℕ) → Reachable (graphOf ws) p → In q (listOf (successorsOf ws p)) → Reachable (graphOf ws) q
+  next = graph.laws .reaching (graphOf ws) (laws .lawful ws) .next
 
   around : (p : ℕ) → Reachable (graphOf ws) p → SameAround ws vs p
   around p r =
+      let good = valid ws weights m l accepted p r in
       record {
-        count = t .count;
-        itself = alive p (λ d. d .unreachable r);
-        after = alive (p + 1) (λ d. d .apart p r (inr refl));
-        before = λ h. alive (p - 1) (λ d. d .apart p r (inl (omega arith)));
-        entered = λ e. alive (enteredBy ws p) (λ d. d .unreachable (reading .entered-reachable ws p e (valid ws weights (length m) (length l) (t .accepted) p r) r));
+        count = count;
+        itself = itself p r;
+        before = λ h. before (p - 1) (subst (λ (q : ℕ). Reachable (graphOf ws) q) (omega (arith, h)) r);
+        after = λ looks. ⊎-elim
+            (λ i. itself (p + 1) (next p (p + 1) r i))
+            (λ i. before (p + 1) (subst (λ (q : ℕ). Reachable (graphOf ws) q) (omega arith) (next p (p + 2) r i)))
+            (reading .goes-on ws p looks good);
+        entered = λ e. itself (enteredBy ws p) (reading .entered-reachable ws p e good r);
       }
 
-  itself : (p : ℕ) → Reachable (graphOf ws) p → SameAt ws vs p
-  itself p r = around p r .itself
-
-  steps : (p : ℕ) → Reachable (graphOf ws) p → successorsOf ws p ≡ successorsOf vs p
+  pub steps : (p : ℕ) → Reachable (graphOf ws) p → successorsOf ws p ≡ successorsOf vs p
   steps p r = reading .same ws vs p (around p r)
 
+  pub answer-before-none : runOf ws weights m l ≡ runOf vs weights m l
+  answer-before-none = answer-same ws vs weights count itself steps m l
+
+module _ (ws vs weights m l m′ l′ : List ℕ) (t : Patched ws vs weights m l m′ l′) where
+  differ-before-none : DifferBeforeNone ws vs
+  differ-before-none p h d = let dead = t .differ p h d in (dead .unreachable, λ r. dead .apart (p + 1) r (inl refl))
+
+  itself-dead : (p : ℕ) → Reachable (graphOf ws) p → SameAt ws vs p
+  itself-dead = itself ws vs weights (length m) (length l) (t .count) (t .accepted) differ-before-none
+
+  steps-dead : (p : ℕ) → Reachable (graphOf ws) p → successorsOf ws p ≡ successorsOf vs p
+  steps-dead = steps ws vs weights (length m) (length l) (t .count) (t .accepted) differ-before-none
+
   answer : runOf ws weights (length m) (length l) ≡ runOf vs weights (length m′) (length l′)
-  answer = answer-same ws vs weights (t .count) itself steps (length m) (length l) ∙ ap₂ (runOf vs weights) (t .marks-count) (t .lengths-count)
+  answer =
+      answer-before-none ws vs weights (length m) (length l) (t .count) (t .accepted) differ-before-none
+      ∙ ap₂ (runOf vs weights) (t .marks-count) (t .lengths-count)
 
   accepted-too : numberIs vs weights m′ l′ ≡ «ACCEPTED»
   accepted-too = sym (ap numberOf answer) ∙ t .accepted
 
   -- the first n of two slices
-  firsts : {f h : ℕ → ℕ} (a b : List ℕ) {a′ b′ : List ℕ} → a′ ≡ over f (length ws) a → b′ ≡ over h (length vs) b → ((p : ℕ) → p < length ws → f p ≡ h p) → (p : ℕ) → p < length ws → getD a′ p 0 ≡ getD b′ p 0
+  firsts :
+      {f h : ℕ → ℕ} (a b : List ℕ) {a′ b′ : List ℕ} → a′ ≡ over f (length ws) a → b′ ≡ over h (length vs) b → ((p : ℕ) → p < length ws → f p ≡ h p)
+      → (p : ℕ) → p < length ws → getD a′ p 0 ≡ getD b′ p 0
   firsts {f} {h} a b d e s p k =
       rw (d, e) (over-laws .at f (length ws) a p k ∙ s p k ∙ sym (over-laws .at h (length vs) b p (omega (arith, t .count))))
 
@@ -189,9 +213,9 @@ module _ (ws vs weights m l m′ l′ : List ℕ) (t : Patched ws vs weights m l
   same-run =
       record {
         accepted = accepted-too;
-        same-marks = firsts m m′ (marks-of ws weights m l (t .accepted)) (marks-of vs weights m′ l′ accepted-too) (marks-same ws vs weights (t .count) itself steps);
-        same-lengths = firsts l l′ (lengths-of ws weights m l (t .accepted)) (lengths-of vs weights m′ l′ accepted-too) (lengths-same ws vs weights (t .count) itself steps);
-        same-segments = segments-same (graphOf ws) (graphOf vs) _ _ (laws .lawful ws) (laws .lawful vs) (alike ws vs weights (t .count) itself steps) (λ p q. refl);
+        same-marks = firsts m m′ (marks-of ws weights m l (t .accepted)) (marks-of vs weights m′ l′ accepted-too) (marks-same ws vs weights (t .count) itself-dead steps-dead);
+        same-lengths = firsts l l′ (lengths-of ws weights m l (t .accepted)) (lengths-of vs weights m′ l′ accepted-too) (lengths-same ws vs weights (t .count) itself-dead steps-dead);
+        same-segments = unreachable .segments (graphOf ws) (graphOf vs) _ _ (laws .lawful ws) (laws .lawful vs) (alike ws vs weights (t .count) itself-dead steps-dead);
         same-answer = answer;
         marks-kept = kept (markOf (graphOf vs)) (marks-of vs weights m′ l′ accepted-too) (enough .marks-long);
         lengths-kept = kept (lengthOf (graphOf vs) (weightOf vs weights)) (lengths-of vs weights m′ l′ accepted-too) (enough .lengths-long);

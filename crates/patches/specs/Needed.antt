@@ -1,10 +1,10 @@
--- What request C-23 supposes is needed: pairs of lists that differ in one word and are answered differently. "Nor next to a reachable word", on both sides:
--- the word is not reachable but stands next to a reachable one. Of these pairs that of three words is the smallest: of fewer words, any that is not
--- reachable may change. "Reachable in the first", which is accepted: the word is dead by the courses of the other list.
+-- What request C-23 supposes, held against what is needed, by pairs of lists that differ in one word and are answered differently. "Next to": the word is
+-- not reachable, but stands next to a reachable one. The smallest such pair has three words. It is the word before a reachable one that matters; one that
+-- only stands after one may change too. "Reachable in the first", which is accepted: the word is dead by the courses of the other list.
 -- Assumes nothing.
 use mathlib.Core.Path.{_≡_}
 use mathlib.Core.List.{List, [], _∷_}
-use Prim.Native.Nat.{ℕ, _<_}
+use Prim.Native.Nat.{ℕ, _+_, _<_}
 use lib.ListN.{length}
 use Rattle.common.specs.Numbers.{«ACCEPTED», «REACHES_INVALID»}
 use Rattle.fields.specs.Opcodes.{«OP_MOVE», «OP_LOADKX», «OP_ADD», «OP_MMBIN», «OP_RETURN0», «OP_TFORCALL», «OP_TFORLOOP», «OP_EXTRAARG»}
@@ -29,13 +29,13 @@ smallest = 3
 abbrev pub afterLoad : ℕ → List ℕ
 afterLoad x = «OP_LOADKX» ∷ x ∷ «OP_RETURN0» ∷ []
 
--- JMP with sJ 1
+-- JMP with sJ 2
 abbrev pub jumpOver : ℕ
-jumpOver = 2147483704
+jumpOver = 2147483832
 
--- with x at word 1, the word before MMBIN, to which JMP goes past it
+-- with x at word 2, the word before MMBIN, to which JMP goes past it
 abbrev pub beforeMetamethod : ℕ → List ℕ
-beforeMetamethod x = jumpOver ∷ x ∷ «OP_MMBIN» ∷ «OP_RETURN0» ∷ []
+beforeMetamethod x = jumpOver ∷ «OP_MOVE» ∷ x ∷ «OP_MMBIN» ∷ «OP_RETURN0» ∷ []
 
 -- TFORPREP with Bx 1
 abbrev pub prepare : ℕ
@@ -45,21 +45,32 @@ prepare = 32843
 abbrev pub entered : ℕ → List ℕ
 entered x = prepare ∷ «OP_MOVE» ∷ x ∷ «OP_TFORLOOP» ∷ «OP_RETURN0» ∷ []
 
+-- words that are neither reachable nor before a reachable one
+abbrev pub DifferBeforeNone : List ℕ → List ℕ → Type 0
+DifferBeforeNone ws vs = (p : ℕ) → p < length ws → (SameAt ws vs p → ⊥) → (Reachable (graphOf ws) p → ⊥) × (Reachable (graphOf ws) (p + 1) → ⊥)
+
+-- .. and words that are not reachable
+abbrev pub DifferUnreachable : List ℕ → List ℕ → Type 0
+DifferUnreachable ws vs = (p : ℕ) → p < length ws → (SameAt ws vs p → ⊥) → Reachable (graphOf ws) p → ⊥
+
 pub record Needed : Type 0 where
-  -- the word after a reachable one: "LOADKX 4 .. word p+1 is EXTRAARG"
+  -- the smallest pair: "LOADKX 4 .. p+2 .. word p+1 is EXTRAARG"
   pub after-unreachable : markOf (graphOf (afterLoad «OP_EXTRAARG»)) 1 ≡ 0
   pub after-accepted : runAlone (afterLoad «OP_EXTRAARG») ≡ Accepted 2 0
   pub after-refused : runAlone (afterLoad «OP_MOVE») ≡ Refused «REACHES_INVALID» 0
-  -- there is no smaller pair
   pub none-smaller :
       (ws vs weights : List ℕ) (marks lengths : ℕ) → length ws < smallest → length ws ≡ length vs → numberOf (runOf ws weights marks lengths) ≡ «ACCEPTED»
-      → ((p : ℕ) → p < length ws → (SameAt ws vs p → ⊥) → Reachable (graphOf ws) p → ⊥)
-      → runOf ws weights marks lengths ≡ runOf vs weights marks lengths
-  -- the word before one: "46 to 48 .. p > 0 and word p-1 is 21 to 45"
-  pub before-unreachable : markOf (graphOf (beforeMetamethod «OP_ADD»)) 1 ≡ 0
+      → DifferUnreachable ws vs → runOf ws weights marks lengths ≡ runOf vs weights marks lengths
+  -- a word that stands before a reachable one and after none: "46 to 48 .. p > 0 and word p-1 is 21 to 45"
+  pub before-unreachable : (markOf (graphOf (beforeMetamethod «OP_ADD»)) 1 ≡ 0) × (markOf (graphOf (beforeMetamethod «OP_ADD»)) 2 ≡ 0)
   pub before-accepted : runAlone (beforeMetamethod «OP_ADD») ≡ Accepted 3 0
-  pub before-refused : runAlone (beforeMetamethod «OP_MOVE») ≡ Refused «REACHES_INVALID» 2
+  pub before-refused : runAlone (beforeMetamethod «OP_MOVE») ≡ Refused «REACHES_INVALID» 3
+  -- there is no pair for a word that stands after a reachable one and before none
+  pub after-alone :
+      (ws vs weights : List ℕ) (marks lengths : ℕ) → length ws ≡ length vs → numberOf (runOf ws weights marks lengths) ≡ «ACCEPTED»
+      → DifferBeforeNone ws vs → runOf ws weights marks lengths ≡ runOf vs weights marks lengths
   -- a word that is dead by the second list alone: "TFORPREP 75 .. that word is TFORCALL"
-  pub second-unreachable : (markOf (graphOf (entered «OP_MOVE»)) 1 ≡ 0) × (markOf (graphOf (entered «OP_MOVE»)) 2 ≡ 0) × (markOf (graphOf (entered «OP_MOVE»)) 3 ≡ 0)
+  pub second-unreachable :
+      (markOf (graphOf (entered «OP_MOVE»)) 1 ≡ 0) × (markOf (graphOf (entered «OP_MOVE»)) 2 ≡ 0) × (markOf (graphOf (entered «OP_MOVE»)) 3 ≡ 0)
   pub second-accepted : runAlone (entered «OP_TFORCALL») ≡ Accepted 4 0
   pub second-refused : runAlone (entered «OP_MOVE») ≡ Refused «REACHES_INVALID» 0
