@@ -40,9 +40,9 @@ pub needed : Needed
 unfolding unless one ordered two opcodeAt isBetween companionPresent successorsOf servesOf classOf companionOf leads markOf within heaviest lengthOf most lowestFrom longest first lowestZero refusesWeights lowestInvalid runOf
 needed =
     record {
-      after-unreachable = refl;
-      after-accepted = refl;
-      after-refused = refl;
+      smallest-unreachable = refl;
+      smallest-accepted = refl;
+      smallest-refused = refl;
       none-smaller = none-smaller;
       before-unreachable = (refl, refl);
       before-accepted = refl;

@@ -45,19 +45,19 @@ prepare = 32843
 abbrev pub entered : ℕ → List ℕ
 entered x = prepare ∷ «OP_MOVE» ∷ x ∷ «OP_TFORLOOP» ∷ «OP_RETURN0» ∷ []
 
--- words that are neither reachable nor before a reachable one
+-- the lists differ only in words that are neither reachable in the first nor right before a reachable one
 abbrev pub DifferBeforeNone : List ℕ → List ℕ → Type 0
 DifferBeforeNone ws vs = (p : ℕ) → p < length ws → (SameAt ws vs p → ⊥) → (Reachable (graphOf ws) p → ⊥) × (Reachable (graphOf ws) (p + 1) → ⊥)
 
--- .. and words that are not reachable
+-- .. only in words that are not reachable in the first
 abbrev pub DifferUnreachable : List ℕ → List ℕ → Type 0
 DifferUnreachable ws vs = (p : ℕ) → p < length ws → (SameAt ws vs p → ⊥) → Reachable (graphOf ws) p → ⊥
 
 pub record Needed : Type 0 where
   -- the smallest pair: "LOADKX 4 .. p+2 .. word p+1 is EXTRAARG"
-  pub after-unreachable : markOf (graphOf (afterLoad «OP_EXTRAARG»)) 1 ≡ 0
-  pub after-accepted : runAlone (afterLoad «OP_EXTRAARG») ≡ Accepted 2 0
-  pub after-refused : runAlone (afterLoad «OP_MOVE») ≡ Refused «REACHES_INVALID» 0
+  pub smallest-unreachable : markOf (graphOf (afterLoad «OP_EXTRAARG»)) 1 ≡ 0
+  pub smallest-accepted : runAlone (afterLoad «OP_EXTRAARG») ≡ Accepted 2 0
+  pub smallest-refused : runAlone (afterLoad «OP_MOVE») ≡ Refused «REACHES_INVALID» 0
   pub none-smaller :
       (ws vs weights : List ℕ) (marks lengths : ℕ) → length ws < smallest → length ws ≡ length vs → numberOf (runOf ws weights marks lengths) ≡ «ACCEPTED»
       → DifferUnreachable ws vs → runOf ws weights marks lengths ≡ runOf vs weights marks lengths
@@ -65,7 +65,7 @@ pub record Needed : Type 0 where
   pub before-unreachable : (markOf (graphOf (beforeMetamethod «OP_ADD»)) 1 ≡ 0) × (markOf (graphOf (beforeMetamethod «OP_ADD»)) 2 ≡ 0)
   pub before-accepted : runAlone (beforeMetamethod «OP_ADD») ≡ Accepted 3 0
   pub before-refused : runAlone (beforeMetamethod «OP_MOVE») ≡ Refused «REACHES_INVALID» 3
-  -- there is no pair for a word that stands after a reachable one and before none
+  -- there is no pair for a word that stands after a reachable one and before none: this is more than the request asks
   pub after-alone :
       (ws vs weights : List ℕ) (marks lengths : ℕ) → length ws ≡ length vs → numberOf (runOf ws weights marks lengths) ≡ «ACCEPTED»
       → DifferBeforeNone ws vs → runOf ws weights marks lengths ≡ runOf vs weights marks lengths
