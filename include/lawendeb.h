@@ -98,25 +98,25 @@ LAWENDEB_ASSERT(sizeof(struct lawendeb_meter) == 20 && offsetof(struct lawendeb_
                     offsetof(struct lawendeb_meter, highest) == 16,
                 "the layout that crates/meter has");
 
-/* The script starts anew: not begun, 0, 0; the services and the highest stay. Nobody else writes `m`
-   meanwhile. */
+/* The script starts anew: not begun, 0, 0; the services and the highest stay. Nobody else writes
+   `m` meanwhile. */
 void lawendeb_begin(struct lawendeb_meter *m);
-
-/* The highest is set to the count of this moment, on any meter, begun or not; nothing else changes.
-   Nobody else writes `m` meanwhile. On an accepted function, a meter that was begun, then reset, and
-   is then lent the run's weights at each feed, holds as highest the largest count that it showed
-   since, which is never above that run's longest. */
-void lawendeb_reset(struct lawendeb_meter *m);
 
 /* The script goes to word `q` of its `n` words. The first word fed makes the count its own weight,
    and so does a step that serves with the word it leads to; another step adds that word's weight.
    The highest becomes the larger of itself and the new count. The answer is 0, or a refusal: 1, 18,
    11 and 10 are tried in this order, and leave the meter as it was. A begun meter is refused by 11
-   if its last word is not below n, or its count is 0 or above 255 times (last + 1); one not begun if
-   last or count is not 0; and both if the highest is below the count. `m` lies apart from words and
-   weights, and nobody else writes it meanwhile. */
+   if its last word is not below n, or its count is 0 or above 255 times (last + 1); one not begun
+   if last or count is not 0; and either if the highest is below the count. `m` lies apart from
+   words and weights, and nobody else writes it meanwhile. */
 struct lawendeb_answer lawendeb_feed(const uint32_t *words, size_t n, const uint8_t *weights,
                                      size_t weights_n, struct lawendeb_meter *m, size_t q);
+
+/* The highest becomes the count of this moment, on any meter, begun or not; nothing else changes.
+   On an accepted function, a meter that was begun, then reset, and is then lent the run's weights
+   at each feed, holds as highest the largest count that it showed since, which is never above that
+   run's longest. Nobody else writes `m` meanwhile. */
+void lawendeb_reset(struct lawendeb_meter *m);
 
 /* ---- steps and the longest run: libexports.a */
 
