@@ -1,4 +1,4 @@
-//! Wrong on purpose: records, a step, runs, feeds and begins that are each a little off must be caught, or the comparison is blind.
+//! Wrong on purpose: records, a step, runs, feeds, a begin and a reset that are each a little off must be caught, or the comparison is blind.
 
 use crate::rng::Rng;
 use crate::{gen, meters, records, runs, weights};
@@ -9,7 +9,7 @@ use sides::{ffi::twin, Side, Successors};
 
 /// Every wrong side with the report that caught it; panics if one was not caught.
 pub fn all(seed: u64) -> Vec<String> {
-    vec![record(seed), past(seed), room(seed), step(seed), stretch(seed), table(seed), taken_along(seed), service(seed), first(seed), zero(seed), forgotten(seed), below(seed)]
+    vec![record(seed), past(seed), room(seed), step(seed), stretch(seed), table(seed), taken_along(seed), service(seed), first(seed), zero(seed), forgotten(seed), cleared(seed), below(seed)]
 }
 
 fn lift(input: &Input, out: &mut [Record]) -> Answer {
@@ -203,6 +203,12 @@ fn forgotten(seed: u64) -> String {
     by_lists(seed, &side)
 }
 
+fn cleared(seed: u64) -> String {
+    // A reset sets the highest to 0.
+    let side = Side { name: "wrong reset", reset: |m| m.highest = 0, ..twin::side() };
+    by_lists(seed, &side)
+}
+
 fn below(seed: u64) -> String {
     // A feed takes a meter with a highest below its count.
     let side = Side {
@@ -229,7 +235,7 @@ fn below(seed: u64) -> String {
     panic!("{} was not caught", side.name);
 }
 
-/// A wrong feed or begin is tried on random lists of calls.
+/// A wrong feed, begin or reset is tried on random lists of calls.
 fn by_lists(seed: u64, side: &Side) -> String {
     let mut rng = Rng::new(seed);
     for _ in 0..1_000_000 {

@@ -194,11 +194,13 @@ module _ (scale : Scale) (sound : Sound scale) where
 
     -- The highest.
 
-    shown-most : (h : Meter) → ((calls : List Call) → meterAfter scale h calls .count ≤ longest) → (calls : List Call) → largest (countsShown scale h calls) ≤ longest
+    shown-most : (h : Meter) → ((calls : List Call) → meterAfter scale h calls .count ≤ longest) → (calls : List Call)
+        → largest (countsShown scale h calls) ≤ longest
     shown-most h below [] = omega arith
     shown-most h below (c ∷ cs) =
         let first : meterCalled scale h c .count ≤ longest = below (c ∷ []) in
-        let later : largest (countsShown scale (meterCalled scale h c) cs) ≤ longest = shown-most (meterCalled scale h c) (λ calls. below (c ∷ calls)) cs in
+        let next : Meter = meterCalled scale h c in
+        let later : largest (countsShown scale next cs) ≤ longest = shown-most next (λ calls. below (c ∷ calls)) cs in
         omega arith
 
     only-feeds : (words : List ℕ) → hasReset (feeds words) ≡ false

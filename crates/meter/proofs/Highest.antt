@@ -57,7 +57,8 @@ module _ (s : Scale) where
   fed-by : (m : Meter) (q : ℕ) → Covers m → RisenBy m (feedOf s m q)
   unfolding feedOf
   fed-by m q c =
-      let stays : (number place : ℕ) → RisenBy m (refusal number place m) = λ number place. record { risen = record { larger = held (m .count) (m .highest) c } } in
+      let still : Risen m m = record { larger = held (m .count) (m .highest) c } in
+      let stays : (number place : ℕ) → RisenBy m (refusal number place m) = λ number place. record { risen = still } in
       either-fed m (ltb mostWords (s .graph .size)) _ _ (stays «TOO_MANY_WORDS» 0)
       (either-fed m (refusesWeights (s .table)) _ _ (stays «WEIGHTS_REFUSED» (weightsPlace (s .table)))
       (either-fed m (isForeign (s .graph .size) m) _ _ (stays «FOREIGN_METER» 0)
@@ -85,10 +86,12 @@ module _ (s : Scale) where
   further : (before count highest largest last : ℕ) → highest ≡ max before count → last ≡ max highest largest → last ≡ max before (max count largest)
   further before count highest largest last e d = omega arith
 
-  pub risen : (m : Meter) → Covers m → (cs : List Call) → hasReset cs ≡ false → meterAfter s m cs .highest ≡ max (m .highest) (largest (countsShown s m cs))
+  pub risen : (m : Meter) → Covers m → (cs : List Call) → hasReset cs ≡ false
+      → meterAfter s m cs .highest ≡ max (m .highest) (largest (countsShown s m cs))
   risen m c [] e = held 0 (m .highest) (omega arith)
   risen m c (begin ∷ cs) e =
-      further (m .highest) (beginOf m .count) (beginOf m .highest) (largest (countsShown s (beginOf m) cs)) _ (begun m .larger) (risen (beginOf m) (called-covers m begin c) cs e)
+      let next : Meter = beginOf m in
+      further (m .highest) (next .count) (next .highest) (largest (countsShown s next cs)) _ (begun m .larger) (risen next (called-covers m begin c) cs e)
   risen m c (feed q ∷ cs) e =
       let next : Meter = feedOf s m q .meter in
       further (m .highest) (next .count) (next .highest) (largest (countsShown s next cs)) _ (fed m q c .larger) (risen next (called-covers m (feed q) c) cs e)

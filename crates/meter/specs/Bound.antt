@@ -41,6 +41,7 @@ pub record Worst (s : Scale) (m : Meter) (longest : ℕ) : Type 0 where
   -- "then fed a course", it refuses none of its words
   pub taken : (words : List ℕ) → Path (s .graph) words → meterAnswers s (fresh m) (feeds words) ≡ replicate (length words) «ACCEPTED»
   -- it "shows as highest the largest count it showed"
-  pub highest : (words : List ℕ) → Path (s .graph) words → meterAfter s (fresh m) (feeds words) .highest ≡ largest (countsShown s (fresh m) (feeds words))
+  pub highest : (words : List ℕ) → Path (s .graph) words
+      → meterAfter s (fresh m) (feeds words) .highest ≡ largest (countsShown s (fresh m) (feeds words))
   -- "never above L"
   pub never : (words : List ℕ) → Path (s .graph) words → meterAfter s (fresh m) (feeds words) .highest ≤ longest

@@ -26,8 +26,8 @@ const HEAVIEST: usize = 255;
 // Document 01, "Meter": services stay at this.
 const CEILING: u32 = 4294967295;
 
-// Four numbers in the order of document 01 and the highest of request C-19, laid out as C lays them out. A number for `begun`, not a bool: a bool of 2 from a C
-// caller would have no meaning, while a number does: 0 is not begun, any other is.
+// Four numbers in the order of document 01 and the highest of request C-19, laid out as C lays them out. A number for `begun`, not a bool:
+// a bool of 2 from a C caller would have no meaning, while a number does: 0 is not begun, any other is.
 #[repr(C)]
 pub struct Meter {
     pub begun: u32,
