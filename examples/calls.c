@@ -226,10 +226,16 @@ static int refuses(struct lawendeb_meter m, const uint32_t *words, size_t n, siz
     return refuses_by(ones, LAWENDEB_WEIGHTS, m, words, n, q, number, 0);
 }
 
+static struct lawendeb_meter meter_of(uint32_t begun, uint32_t last, uint32_t count,
+                                      uint32_t services, uint32_t highest) {
+    struct lawendeb_meter m = {begun, last, count, services, highest};
+    return m;
+}
+
+/* As a reset leaves it. */
 static struct lawendeb_meter meter(uint32_t begun, uint32_t last, uint32_t count,
                                    uint32_t services) {
-    struct lawendeb_meter m = {begun, last, count, services};
-    return m;
+    return meter_of(begun, last, count, services, count);
 }
 
 static void meters(void) {
@@ -304,6 +310,49 @@ static void weighed_meters(void) {
     CHECK(refuses_by(ones, 0, m, many, MANY, 3, LAWENDEB_TOO_MANY_WORDS, 0));
     CHECK(refuses_by(ones, 127, meter(1, 3, 0, 5), sheet, 4, 1, LAWENDEB_WEIGHTS_REFUSED, 0));
     CHECK(refuses_by(ones, 127, m, sheet, 4, 0, LAWENDEB_WEIGHTS_REFUSED, 0));
+}
+
+/* A reset of this meter sets its highest to its count, and nothing else. */
+static int resets(struct lawendeb_meter m) {
+    struct lawendeb_meter before = m;
+    lawendeb_reset(&m);
+    return shows(m, before.begun, before.last, before.count, before.services) &&
+           m.highest == before.count;
+}
+
+/* The highest: raised by feeds, kept by begins and refused feeds, set by resets, below the count. */
+static void worst(void) {
+    struct lawendeb_meter m = meter_of(7, 7, 7, 40, 7777);
+    lawendeb_begin(&m);
+    CHECK(shows(m, 0, 0, 0, 40) && m.highest == 7777);
+    CHECK(feeds(&m, sheet, 4, 0) && shows(m, 1, 0, 1, 40) && m.highest == 7777);
+    lawendeb_begin(&m);
+    lawendeb_reset(&m);
+    CHECK(shows(m, 0, 0, 0, 40) && m.highest == 0);
+    CHECK(feeds_by(others, &m, sheet, 4, 0) && m.highest == 10);
+    CHECK(feeds_by(others, &m, sheet, 4, 1) && m.highest == 30);
+    CHECK(feeds_by(others, &m, sheet, 4, 3) && m.count == 70 && m.highest == 70);
+    CHECK(feeds_by(others, &m, sheet, 4, 1) && m.count == 20 && m.highest == 70);
+    CHECK(refuses(m, sheet, 4, 1, LAWENDEB_NO_STEP));
+    lawendeb_reset(&m);
+    CHECK(shows(m, 1, 1, 20, 41) && m.highest == 20);
+    CHECK(feeds(&m, sheet, 4, 2) && m.highest == 21);
+    lawendeb_begin(&m);
+    CHECK(shows(m, 0, 0, 0, 41) && m.highest == 21);
+    CHECK(feeds(&m, sheet, 4, 0) && m.count == 1 && m.highest == 21);
+    /* any meter whatsoever */
+    CHECK(resets(meter_of(0, 0, 0, 5, UINT32_MAX)));
+    CHECK(resets(meter_of(0, 9, UINT32_MAX, 5, 3)));
+    CHECK(resets(meter_of(UINT32_MAX, UINT32_MAX, UINT32_MAX - 1, UINT32_MAX, UINT32_MAX)));
+    /* 11, after 1 and 18, before 10, begun or not; at the count it passes */
+    CHECK(refuses(meter_of(1, 1, 2, 5, 1), sheet, 4, 3, LAWENDEB_FOREIGN_METER));
+    CHECK(refuses(meter_of(1, 1, 2, 5, 1), sheet, 4, 9, LAWENDEB_FOREIGN_METER));
+    CHECK(refuses(meter_of(0, 0, 2, 5, 1), sheet, 4, 0, LAWENDEB_FOREIGN_METER));
+    CHECK(refuses(meter_of(1, 1, 2, 5, 1), many, MANY, 2, LAWENDEB_TOO_MANY_WORDS));
+    m = meter_of(1, 1, 2, 5, 1);
+    CHECK(refuses_by(ones, 127, m, sheet, 4, 3, LAWENDEB_WEIGHTS_REFUSED, 0));
+    m.highest = 2;
+    CHECK(feeds(&m, sheet, 4, 3) && shows(m, 1, 3, 3, 5) && m.highest == 3);
 }
 
 /* ---- records */
@@ -567,6 +616,7 @@ int main(void) {
     weighed_runs();
     meters();
     weighed_meters();
+    worst();
     records();
     values();
     refusals();

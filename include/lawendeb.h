@@ -2,14 +2,15 @@
    is asked of the caller stands here.
 
    Three archives, to be linked alone or side by side; all are made in target/staticlib/:
-     libmeter.a     begin and feed, for controllers: `rt staticlib meter`. It needs no symbol.
+     libmeter.a     begin, feed and reset, for controllers: `rt staticlib meter`. It needs no
+                    symbol.
      libexports.a   steps, the longest run, records: `rt staticlib exports`. It needs memset.
      libtouches.a   what a word reads and writes: `rt staticlib touches`. It needs memset.
    They write nothing but what a call is lent: no heap, no static data, and as measured less than
    1 kB of stack, but less than 2 kB for what a word touches (docs/BENCHMARKS.md). So every call is
    reentrant, and calls on different memory may run at once, in threads or interrupts. A begin, a
-   feed and what a word touches take a bounded time, whatever the number of words; a run takes time
-   in proportion to the words, a lift to words, constants and names.
+   feed, a reset and what a word touches take a bounded time, whatever the number of words; a run
+   takes time in proportion to the words, a lift to words, constants and names.
 
    Each slice passes as a pointer and a length. The pointer is not null, even where the length is 0,
    and nobody writes the slice meanwhile. Slices that are written lie apart from all others. Any
@@ -30,11 +31,13 @@ extern "C" {
 /* The release of this header. It rises when a function's parameters, a struct or a meaning changes;
    such a function has a new symbol behind its name then, so that an archive of another release
    does not link. */
-#define LAWENDEB_RELEASE 3
+#define LAWENDEB_RELEASE 4
 
 /* Release 2: a call does not serve any more; only a step that does not go forward does.
-   Release 3: a run and a feed are lent weights, and a feed's answer has a place. */
-#define lawendeb_feed lawendeb_feed_3
+   Release 3: a run and a feed are lent weights, and a feed's answer has a place.
+   Release 4: a meter holds the highest count that it has shown, and can be reset. */
+#define lawendeb_begin lawendeb_begin_4
+#define lawendeb_feed lawendeb_feed_4
 #define lawendeb_longest_run lawendeb_longest_run_3
 
 /* ---- answers, by the numbers of documents 01 and 02. The place is 0 unless one is named. */
@@ -49,7 +52,7 @@ extern "C" {
 #define LAWENDEB_NO_WORDS 7          /* there are none */
 #define LAWENDEB_REACHES_INVALID 8   /* control can reach a bad word; place: the lowest such word */
 #define LAWENDEB_NO_STEP 10          /* no step leads to the word fed, or the first is not 0 */
-#define LAWENDEB_FOREIGN_METER 11    /* the meter is not of this function */
+#define LAWENDEB_FOREIGN_METER 11    /* not of this function, or its highest below its count */
 #define LAWENDEB_MALFORMED_LINE 12   /* of a sheet; by the program alone */
 #define LAWENDEB_TOO_MANY_LINES 13   /* of a sheet; by the program alone */
 #define LAWENDEB_WEIGHTS_REFUSED 18  /* not 128 weights; or one is 0, place: the lowest such */
@@ -78,31 +81,43 @@ struct lawendeb_answer {
 
 /* ---- the meter: libmeter.a */
 
-/* One script's meter, held by the caller. Any four numbers are a meter. Zero a new one once: begin
-   keeps the services, so that they count on from one start of the script to the next. */
+/* One script's meter, held by the caller. Any five numbers are a meter. Zero a new one once: begin
+   keeps the services and the highest, so that they go on from one start of the script to the next.
+   A meter stored by an older release must not be lent: it has four numbers, and what lies past them
+   would be read as its highest, and written. Zero a new one, and copy the services alone. */
 struct lawendeb_meter {
     uint32_t begun;    /* 0: not begun; any other number: begun */
     uint32_t last;     /* the last word number fed */
     uint32_t count;    /* weight of the words since service */
     uint32_t services; /* services passed; stays at 4,294,967,295 */
+    uint32_t highest;  /* the highest count shown since the last reset */
 };
 
-LAWENDEB_ASSERT(sizeof(struct lawendeb_meter) == 16 && offsetof(struct lawendeb_meter, last) == 4 &&
+LAWENDEB_ASSERT(sizeof(struct lawendeb_meter) == 20 && offsetof(struct lawendeb_meter, last) == 4 &&
                     offsetof(struct lawendeb_meter, count) == 8 &&
-                    offsetof(struct lawendeb_meter, services) == 12,
+                    offsetof(struct lawendeb_meter, services) == 12 &&
+                    offsetof(struct lawendeb_meter, highest) == 16,
                 "the layout that crates/meter has");
 
-/* The script starts anew: not begun, 0, 0; the services stay. Nobody else writes `m` meanwhile. */
+/* The script starts anew: not begun, 0, 0; the services and the highest stay. Nobody else writes
+   `m` meanwhile. */
 void lawendeb_begin(struct lawendeb_meter *m);
 
 /* The script goes to word `q` of its `n` words. The first word fed makes the count its own weight,
    and so does a step that serves with the word it leads to; another step adds that word's weight.
-   The answer is 0, or a refusal: 1, 18, 11 and 10 are tried in this order, and leave the meter as
-   it was. A begun meter is refused by 11 if its last word is not below n, or its count is 0 or
-   above 255 times (last + 1); one not begun if last or count is not 0. `m` lies apart from words
-   and weights, and nobody else writes it meanwhile. */
+   The highest becomes the larger of itself and the new count. The answer is 0, or a refusal: 1, 18,
+   11 and 10 are tried in this order, and leave the meter as it was. A begun meter is refused by 11
+   if its last word is not below n, or its count is 0 or above 255 times (last + 1); one not begun
+   if last or count is not 0; and either if the highest is below the count. `m` lies apart from
+   words and weights, and nobody else writes it meanwhile. */
 struct lawendeb_answer lawendeb_feed(const uint32_t *words, size_t n, const uint8_t *weights,
                                      size_t weights_n, struct lawendeb_meter *m, size_t q);
+
+/* The highest becomes the count of this moment, on any meter, begun or not; nothing else changes.
+   On an accepted function, a meter that was begun, then reset, and is then lent the run's weights
+   at each feed, holds as highest the largest count that it showed since, which is never above that
+   run's longest. Nobody else writes `m` meanwhile. */
+void lawendeb_reset(struct lawendeb_meter *m);
 
 /* ---- steps and the longest run: libexports.a */
 

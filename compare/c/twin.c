@@ -102,15 +102,23 @@ static inline struct twin_answer answer(uint64_t number) { return (struct twin_a
 
 void twin_begin(struct twin_meter *m) { m->begun = 0; m->last = 0; m->since = 0; }
 
+void twin_reset(struct twin_meter *m) { m->highest = m->since; }
+
+static inline void show(struct twin_meter *m, uint32_t since) {
+    m->since = since;
+    if (since > m->highest) m->highest = since;
+}
+
 struct twin_answer twin_feed(const uint32_t *w, size_t n, const uint8_t *weights, size_t weights_n, struct twin_meter *m,
     size_t q) {
     if (n > TWIN_WORDS) return answer(1);
     if (refuses_weights(weights, weights_n)) return (struct twin_answer){18, weights_place(weights, weights_n)};
+    if (m->highest < m->since) return answer(11);
     if (!m->begun) {
         if (m->last || m->since) return answer(11);
         if (q != 0 || n == 0) return answer(10);
         m->begun = 1;
-        m->since = weights[op(w[0])];
+        show(m, weights[op(w[0])]);
         return answer(0);
     }
     size_t p = m->last;
@@ -118,10 +126,10 @@ struct twin_answer twin_feed(const uint32_t *w, size_t n, const uint8_t *weights
     struct twin_successors s = successors(w, n, p);
     if (!(s.kind >= 2 && s.first == q) && !(s.kind == 3 && s.second == q)) return answer(10);
     if (serves(p, q)) {
-        m->since = weights[op(w[q])];
+        show(m, weights[op(w[q])]);
         if (m->services < UINT32_MAX) m->services++;
     } else
-        m->since += weights[op(w[q])];
+        show(m, m->since + weights[op(w[q])]);
     m->last = (uint32_t)q;
     return answer(0);
 }

@@ -12,7 +12,7 @@ enum { TWIN_WORDS = 32768, TWIN_CONSTANTS = 65536, TWIN_NAMES = 255, TWIN_WEIGHT
 struct twin_successors { uint64_t kind, first, second; };
 struct twin_run { uint64_t number, place, longest, first; };
 struct twin_answer { uint64_t number, place; };
-struct twin_meter { uint32_t begun, last, since, services; };
+struct twin_meter { uint32_t begun, last, since, services, highest; };
 
 /* include/RECORD.md */
 struct twin_slot { uint64_t kind, numbers[3]; };
@@ -32,6 +32,7 @@ struct twin_successors twin_successors(const uint32_t *words, size_t n, size_t p
 struct twin_run twin_longest_run(const uint32_t *words, size_t n, const uint8_t *weights, size_t weights_n, uint8_t *marks,
     size_t marks_n, uint32_t *lengths, size_t lengths_n);
 void twin_begin(struct twin_meter *m);
+void twin_reset(struct twin_meter *m);
 struct twin_answer twin_feed(const uint32_t *words, size_t n, const uint8_t *weights, size_t weights_n, struct twin_meter *m,
     size_t q);
 struct twin_answer twin_lift(const uint32_t *words, size_t n, const uint8_t *tags, size_t tags_n, const uint64_t *payloads,

@@ -68,11 +68,13 @@ fn main() {
     let start = Instant::now();
     let c = meters::all(&sides, seed, lists);
     println!(
-        "meters: {} lists of {} feeds against the feeding book, {} of them against L; {} single calls on any meter, answers by number: {}",
+        "meters: {} lists of {} feeds and {} resets against the feeding book, {} of them against L; {} single calls on any meter, {} of them on one with a highest below its count, answers by number: {}",
         c.lists,
         c.feeds,
+        c.resets,
         c.below,
         c.singles,
+        c.low,
         by_number(&c.answers)
     );
     eprintln!("  {:.1} s", start.elapsed().as_secs_f64());

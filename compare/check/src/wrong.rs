@@ -1,5 +1,5 @@
-//! Wrong on purpose: records, a step, runs, feeds and rules of what may change that are each a little off must be caught, or the
-//! comparison is blind.
+//! Wrong on purpose: records, a step, runs, feeds, a begin, a reset and rules of what may change that are each a little off must be
+//! caught, or the comparison is blind.
 
 use crate::rng::Rng;
 use crate::{gen, meters, patches, records, runs, weights};
@@ -14,7 +14,7 @@ use sides::{
 /// Every wrong side with the report that caught it; panics if one was not caught.
 pub fn all(seed: u64) -> Vec<String> {
     let mut all = vec![record(seed), past(seed), room(seed), step(seed), stretch(seed), table(seed), taken_along(seed)];
-    all.extend([service(seed), first(seed), zero(seed)]);
+    all.extend([service(seed), first(seed), zero(seed), forgotten(seed), cleared(seed), below(seed)]);
     all.extend(patches::wrong(&rattle::side(), seed));
     all
 }
@@ -197,7 +197,52 @@ fn zero(seed: u64) -> String {
     by_lists(seed, &side)
 }
 
-/// A wrong feed is tried on random lists of calls.
+fn forgotten(seed: u64) -> String {
+    // A begin clears the highest.
+    let side = Side {
+        name: "wrong begin",
+        begin: |m| {
+            (twin::side().begin)(m);
+            m.highest = 0;
+        },
+        ..twin::side()
+    };
+    by_lists(seed, &side)
+}
+
+fn cleared(seed: u64) -> String {
+    // A reset sets the highest to 0.
+    let side = Side { name: "wrong reset", reset: |m| m.highest = 0, ..twin::side() };
+    by_lists(seed, &side)
+}
+
+fn below(seed: u64) -> String {
+    // A feed takes a meter with a highest below its count.
+    let side = Side {
+        name: "wrong highest",
+        feed: |words, weights, m, q| {
+            let before = *m;
+            m.highest = m.highest.max(m.since);
+            let answer = (twin::side().feed)(words, weights, m, q);
+            if answer.number != 0 {
+                *m = before;
+            }
+            answer
+        },
+        ..twin::side()
+    };
+    let mut rng = Rng::new(seed);
+    for _ in 0..1_000_000 {
+        let words = gen::function(&mut rng, 14);
+        let case = meters::single_case(&mut rng, words);
+        if meters::compare_single(&side, &case).is_err() {
+            return meters::report(&side, &case, meters::compare_single);
+        }
+    }
+    panic!("{} was not caught", side.name);
+}
+
+/// A wrong feed, begin or reset is tried on random lists of calls.
 fn by_lists(seed: u64, side: &Side) -> String {
     let mut rng = Rng::new(seed);
     for _ in 0..1_000_000 {

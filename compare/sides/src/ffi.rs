@@ -17,13 +17,14 @@ pub struct LentMeter {
     last: u32,
     count: u32,
     services: u32,
+    highest: u32,
 }
 
 /// Lends the meter in that form.
 fn lend<T>(m: &mut Meter, call: impl FnOnce(&mut LentMeter) -> T) -> T {
-    let mut lent = LentMeter { begun: u32::from(m.begun), last: m.last, count: m.since, services: m.services };
+    let mut lent = LentMeter { begun: u32::from(m.begun), last: m.last, count: m.since, services: m.services, highest: m.highest };
     let answer = call(&mut lent);
-    *m = Meter { begun: lent.begun != 0, last: lent.last, since: lent.count, services: lent.services };
+    *m = Meter { begun: lent.begun != 0, last: lent.last, since: lent.count, services: lent.services, highest: lent.highest };
     answer
 }
 
@@ -60,6 +61,7 @@ pub mod twin {
             lengths_n: usize,
         ) -> RunAnswer;
         fn twin_begin(m: *mut LentMeter);
+        fn twin_reset(m: *mut LentMeter);
         fn twin_feed(words: *const u32, n: usize, weights: *const u8, weights_n: usize, m: *mut LentMeter, q: usize) -> Answer;
         fn twin_lift(
             words: *const u32,
@@ -85,6 +87,7 @@ pub mod twin {
                 twin_longest_run(w.as_ptr(), w.len(), t.as_ptr(), t.len(), m.as_mut_ptr(), m.len(), l.as_mut_ptr(), l.len())
             },
             begin: |m| lend(m, |m| unsafe { twin_begin(m) }),
+            reset: |m| lend(m, |m| unsafe { twin_reset(m) }),
             feed: |w, t, m, q| lend(m, |m| unsafe { twin_feed(w.as_ptr(), w.len(), t.as_ptr(), t.len(), m, q) }),
             feed_all: |w, t, m, list| {
                 lend(m, |m| unsafe {
@@ -129,8 +132,9 @@ pub mod rattle {
             lengths: *mut u32,
             lengths_n: usize,
         ) -> RunAnswer;
-        fn lawendeb_begin(m: *mut LentMeter);
-        fn lawendeb_feed_3(words: *const u32, n: usize, weights: *const u8, weights_n: usize, m: *mut LentMeter, q: usize) -> Answer;
+        fn lawendeb_begin_4(m: *mut LentMeter);
+        fn lawendeb_reset(m: *mut LentMeter);
+        fn lawendeb_feed_4(words: *const u32, n: usize, weights: *const u8, weights_n: usize, m: *mut LentMeter, q: usize) -> Answer;
     }
 
     pub fn side() -> Side {
@@ -140,12 +144,13 @@ pub mod rattle {
             run: |w, t, m, l| unsafe {
                 lawendeb_longest_run_3(w.as_ptr(), w.len(), t.as_ptr(), t.len(), m.as_mut_ptr(), m.len(), l.as_mut_ptr(), l.len())
             },
-            begin: |m| lend(m, |m| unsafe { lawendeb_begin(m) }),
-            feed: |w, t, m, q| lend(m, |m| unsafe { lawendeb_feed_3(w.as_ptr(), w.len(), t.as_ptr(), t.len(), m, q) }),
+            begin: |m| lend(m, |m| unsafe { lawendeb_begin_4(m) }),
+            reset: |m| lend(m, |m| unsafe { lawendeb_reset(m) }),
+            feed: |w, t, m, q| lend(m, |m| unsafe { lawendeb_feed_4(w.as_ptr(), w.len(), t.as_ptr(), t.len(), m, q) }),
             feed_all: |w, t, m, list| {
                 lend(m, |m| unsafe {
-                    lawendeb_begin(m);
-                    let refused = |&q: &u32| lawendeb_feed_3(w.as_ptr(), w.len(), t.as_ptr(), t.len(), m, q as usize).number != 0;
+                    lawendeb_begin_4(m);
+                    let refused = |&q: &u32| lawendeb_feed_4(w.as_ptr(), w.len(), t.as_ptr(), t.len(), m, q as usize).number != 0;
                     list.iter().map(refused).map(u64::from).sum()
                 })
             },

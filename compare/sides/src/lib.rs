@@ -21,6 +21,7 @@ pub struct Side {
     /// Words, weights, marks, lengths.
     pub run: fn(&[u32], &[u8], &mut [u8], &mut [u32]) -> RunAnswer,
     pub begin: fn(&mut Meter),
+    pub reset: fn(&mut Meter),
     /// Words, weights, meter, word number.
     pub feed: fn(&[u32], &[u8], &mut Meter, usize) -> Answer,
     /// A begin and a feed of each word of the list; how many were refused.
@@ -44,6 +45,7 @@ pub fn model_side() -> Side {
         },
         run: model::run::run,
         begin: model::meter::begin,
+        reset: model::meter::reset,
         feed: model::meter::feed,
         feed_all: |words, weights, m, list| {
             model::meter::begin(m);

@@ -42,7 +42,7 @@ abbrev pub «REACHES_INVALID» : ℕ
 abbrev pub «NO_STEP» : ℕ
 «NO_STEP» = 10
 
--- "meter not of this function"
+-- "meter not of this function"; "A highest below the count falls under number 11"
 abbrev pub «FOREIGN_METER» : ℕ
 «FOREIGN_METER» = 11
 
