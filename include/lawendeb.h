@@ -52,6 +52,7 @@ extern "C" {
 #define LAWENDEB_MALFORMED_LINE 12   /* of a sheet; by the program alone */
 #define LAWENDEB_TOO_MANY_LINES 13   /* of a sheet; by the program alone */
 #define LAWENDEB_WEIGHTS_REFUSED 18  /* not 128 weights; or one is 0, place: the lowest such */
+#define LAWENDEB_LOW_ABOVE_HIGH 19   /* a low weight above its high one; place: the lowest such */
 
 #define LAWENDEB_MOST_WORDS 32768
 #define LAWENDEB_MOST_CONSTANTS 65536
@@ -130,6 +131,22 @@ struct lawendeb_run {
 struct lawendeb_run lawendeb_longest_run(const uint32_t *words, size_t n, const uint8_t *weights,
                                          size_t weights_n, uint8_t *marks, size_t marks_n,
                                          uint32_t *lengths, size_t lengths_n);
+
+/* The longest run by a table of low weights and by one of high weights, each with the lowest word
+   at which it begins; or a refusal's number and place. */
+struct lawendeb_run_range {
+    uint64_t number, place, low_longest, low_first, high_longest, high_first;
+};
+
+/* Both runs in one call, with one search. By any table between the two, entry by entry, the longest
+   run is at least low_longest and at most high_longest, and it is accepted if these are; where it
+   begins may be anywhere. Marks and lengths end as the run by the high table leaves them. Refusals
+   are 1, 6, 18 of the low table, 18 of the high one, 19, 7 and 8, tried in this order; they leave
+   what those of a run leave. */
+struct lawendeb_run_range lawendeb_longest_runs(const uint32_t *words, size_t n, const uint8_t *low,
+                                                size_t low_n, const uint8_t *high, size_t high_n,
+                                                uint8_t *marks, size_t marks_n, uint32_t *lengths,
+                                                size_t lengths_n);
 
 /* ---- records: libexports.a */
 

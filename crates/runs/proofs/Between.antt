@@ -28,7 +28,9 @@ use Rattle.runs.proofs.BothTables.{Ranges, checks, run-checked, runs-ch
 
 -- tables that pass
 ranges-of : (low high : List ℕ) → refusesRange low high ≡ false → Ranges low high
-ranges-of low high e = let g = go (refusesWeights low) (refusesWeights high) (ltb (lowestAbove low high) weightCount) e in record { low-weighs = g .0; high-weighs = g .1 .0; ordered = g .1 .1 }
+ranges-of low high e =
+    let g = go (refusesWeights low) (refusesWeights high) (ltb (lowestAbove low high) weightCount) e in
+    record { low-weighs = g .0; high-weighs = g .1 .0; ordered = g .1 .1 }
   where
     go : (t u v : Bool) → t || (u || v) ≡ false → (t ≡ false) × ((u ≡ false) × (v ≡ false))
     go true u v e = absurd (true≢false e)
@@ -39,7 +41,8 @@ ranges-of low high e = let g = go (refusesWeights low) (refusesWeights high) (lt
 passes : (table : List ℕ) → length table ≡ weightCount → ((i : ℕ) → i < weightCount → 0 < getD table i 0) → refusesWeights table ≡ false
 unfolding refusesWeights lowestZero
 passes table e some =
-    let n : weightCount ≡ lowestFrom (isZeroAt table) 0 weightCount = lowest-laws .nowhere (isZeroAt table) weightCount (λ p h. ne-eqb (getD table p 0) 0 (λ z. omega (arith, z, some p h))) in
+    let n : weightCount ≡ lowestFrom (isZeroAt table) 0 weightCount =
+    lowest-laws .nowhere (isZeroAt table) weightCount (λ p h. ne-eqb (getD table p 0) 0 (λ z. omega (arith, z, some p h))) in
     rw (eq-eqb (length table) weightCount e, ← n)
 
 -- an answer's L lies between those of two others that are given or refused alike
@@ -83,11 +86,14 @@ module _ (ws low high : List ℕ) (a b : ℕ) (r : Ranges low high) where
     weighed : refusesWeights table ≡ false
     weighed = passes table (k .count) (λ i h. omega (arith, k .above-low i h, weight-laws low (r .low-weighs) .each i h))
 
-    alike : ((numberOf (runOf ws table a b) ≡ numberOf (lowRun (runsOf ws low high a b))) × (placeOf (runOf ws table a b) ≡ placeOf (lowRun (runsOf ws low high a b))))
-        × ((longestOf (lowRun (runsOf ws low high a b)) ≤ longestOf (runOf ws table a b)) × (longestOf (runOf ws table a b) ≤ longestOf (highRun (runsOf ws low high a b))))
+    alike : ((numberOf (runOf ws table a b) ≡ numberOf (lowRun (runsOf ws low high a b)))
+        × (placeOf (runOf ws table a b) ≡ placeOf (lowRun (runsOf ws low high a b))))
+        × ((longestOf (lowRun (runsOf ws low high a b)) ≤ longestOf (runOf ws table a b))
+        × (longestOf (runOf ws table a b) ≤ longestOf (highRun (runsOf ws low high a b))))
     alike =
         rw (runs-checked ws a b low high r, run-checked ws a b table weighed)
-        (agree (lowestInvalid ws) (ltb mostWords (length ws)) (ltb a (length ws) || ltb b (length ws)) (eqb (length ws) 0) (ltb (lowestInvalid ws) (length ws)) (L low) (F low) (L high) (F high) (L table) (F table)
+        (agree (lowestInvalid ws) (ltb mostWords (length ws)) (ltb a (length ws) || ltb b (length ws)) (eqb (length ws) 0) (ltb (lowestInvalid ws) (length ws))
+        (L low) (F low) (L high) (F high) (L table) (F table)
         (heavier low table (k .above-low)) (heavier table high (k .below-high)))
 
     between : RunBetween ws low high a b table
@@ -98,7 +104,8 @@ module _ (ws low high : List ℕ) (a b : ℕ) (r : Ranges low high) where
   reached : (runOf ws low a b ≡ lowRun (runsOf ws low high a b)) × (runOf ws high a b ≡ highRun (runsOf ws low high a b))
   reached =
       rw (runs-checked ws a b low high r, run-checked ws a b low (r .low-weighs), run-checked ws a b high (r .high-weighs))
-      (ends-of (lowestInvalid ws) (ltb mostWords (length ws)) (ltb a (length ws) || ltb b (length ws)) (eqb (length ws) 0) (ltb (lowestInvalid ws) (length ws)) (L low) (F low) (L high) (F high))
+      (ends-of (lowestInvalid ws) (ltb mostWords (length ws)) (ltb a (length ws) || ltb b (length ws)) (eqb (length ws) 0) (ltb (lowestInvalid ws) (length ws))
+      (L low) (F low) (L high) (F high))
 
 pub ends : (ws low high : List ℕ) (marks lengths : ℕ) → refusesRange low high ≡ false → Ends ws low high marks lengths
 ends ws low high a b e =

@@ -110,9 +110,13 @@ module _ (ws : List ℕ) (a b : ℕ) where
 
       module _ (h : length ws ≤ a) (k : length ws ≤ b) where
         -- those of the tables
-        pub runs-refused : (rangeRefusal low high .number ≡ «ACCEPTED» → ⊥) → runsOf ws low high a b ≡ Refused (rangeRefusal low high .number) (rangeRefusal low high .place)
+        pub runs-refused : (rangeRefusal low high .number ≡ «ACCEPTED» → ⊥)
+            → runsOf ws low high a b ≡ Refused (rangeRefusal low high .number) (rangeRefusal low high .place)
         unfolding runsOf
-        runs-refused n = rw (le-ltb mostWords (length ws) few, le-ltb a (length ws) h, le-ltb b (length ws) k) (tables-refuse (refusesWeights low) (refusesWeights high) (ltb (lowestAbove low high) weightCount) (weightsPlace low) (weightsPlace high) (lowestAbove low high) _ n)
+        runs-refused n =
+            rw (le-ltb mostWords (length ws) few, le-ltb a (length ws) h, le-ltb b (length ws) k)
+            (tables-refuse (refusesWeights low) (refusesWeights high) (ltb (lowestAbove low high) weightCount)
+            (weightsPlace low) (weightsPlace high) (lowestAbove low high) _ n)
 
         -- and those after them
         pub runs-none : Ranges low high → length ws ≡ 0 → runsOf ws low high a b ≡ Refused «NO_WORDS» 0
@@ -140,15 +144,22 @@ module _ (low high : List ℕ) where
 -- tables that pass, and tables that do not
 module _ (low high : List ℕ) where
   pub ranges-passed : rangeRefusal low high .number ≡ «ACCEPTED» → Ranges low high
-  ranges-passed n = let g = tables-passed (refusesWeights low) (refusesWeights high) (ltb (lowestAbove low high) weightCount) (weightsPlace low) (weightsPlace high) (lowestAbove low high) n in record { low-weighs = g .0; high-weighs = g .1 .0; ordered = g .1 .1 }
+  ranges-passed n =
+      let g =
+      tables-passed (refusesWeights low) (refusesWeights high) (ltb (lowestAbove low high) weightCount)
+      (weightsPlace low) (weightsPlace high) (lowestAbove low high) n in
+      record { low-weighs = g .0; high-weighs = g .1 .0; ordered = g .1 .1 }
 
   ranges-refused : (rangeRefusal low high .number ≡ «ACCEPTED» → ⊥) → refusesRange low high ≡ true
-  ranges-refused n = tables-refused (refusesWeights low) (refusesWeights high) (ltb (lowestAbove low high) weightCount) (weightsPlace low) (weightsPlace high) (lowestAbove low high) n
+  ranges-refused n =
+      tables-refused (refusesWeights low) (refusesWeights high) (ltb (lowestAbove low high) weightCount)
+      (weightsPlace low) (weightsPlace high) (lowestAbove low high) n
 
   ranges-false : Ranges low high → refusesRange low high ≡ false
   ranges-false r = rw (r .low-weighs, r .high-weighs, r .ordered)
 
-pub decided-both : {ws low high : List ℕ} {r s : Run} {t : RunRange} {m k l : List ℕ} → Decided ws low r m k → Decided ws high s m l → t ≡ bothOf r s → DecidedBoth ws low high t m l
+pub decided-both : {ws low high : List ℕ} {r s : Run} {t : RunRange} {m k l : List ℕ}
+    → Decided ws low r m k → Decided ws high s m l → t ≡ bothOf r s → DecidedBoth ws low high t m l
 decided-both {ws} {low} {high} {r} {s} {t} {m} {k} {l} d e b =
     record { answer = b ∙ ap₂ bothOf (d .answer) (e .answer); high-run = subst (λ (x : Run). Decided ws high x m l) (e .answer) e }
 
@@ -158,16 +169,20 @@ module _ (ws low high m l : List ℕ) where
   Outcomes r m′ l′ = (r ≡ runsOf ws low high (length m) (length l)) × ((m′ ≡ marksAfterBoth ws low high m l) × (l′ ≡ lengthsAfterBoth ws low high m l))
 
   -- refused as the high table's run is, which keeps the slices
-  pub outcomes-kept : (number : ℕ) → runsOf ws low high (length m) (length l) ≡ Refused number 0 → runOf ws high (length m) (length l) ≡ One.Refused number 0 → untouched number ≡ true → Outcomes (Refused number 0) m l
+  pub outcomes-kept : (number : ℕ) → runsOf ws low high (length m) (length l) ≡ Refused number 0
+      → runOf ws high (length m) (length l) ≡ One.Refused number 0 → untouched number ≡ true → Outcomes (Refused number 0) m l
   unfolding marksAfterBoth lengthsAfterBoth
-  outcomes-kept number e d u = let k = outcome-kept ws high m l number d u in (sym e, (kept (refusesRange low high) (k .1 .0), kept (refusesRange low high) (k .1 .1)))
+  outcomes-kept number e d u =
+      let k = outcome-kept ws high m l number d u in
+      (sym e, (kept (refusesRange low high) (k .1 .0), kept (refusesRange low high) (k .1 .1)))
     where
       kept : (t : Bool) {x y : List ℕ} → x ≡ y → x ≡ cond t x y
       kept true e = refl
       kept false e = e
 
   -- refused for the tables
-  pub outcomes-refused : {r : Answer} → r ≡ rangeRefusal low high → (r .number ≡ «ACCEPTED» → ⊥) → length ws ≤ mostWords → length ws ≤ length m → length ws ≤ length l → Outcomes (Refused (r .number) (r .place)) m l
+  pub outcomes-refused : {r : Answer} → r ≡ rangeRefusal low high → (r .number ≡ «ACCEPTED» → ⊥)
+      → length ws ≤ mostWords → length ws ≤ length m → length ws ≤ length l → Outcomes (Refused (r .number) (r .place)) m l
   unfolding marksAfterBoth lengthsAfterBoth
   outcomes-refused {r} e n few h k =
       let n′ : rangeRefusal low high .number ≡ «ACCEPTED» → ⊥ = λ z. n (ap (λ (x : Answer). x .number) e ∙ z) in

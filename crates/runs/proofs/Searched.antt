@@ -2,7 +2,6 @@
 use mathlib.Core.Path.{_≡_, refl, sym, ap, subst, _∙_}
 use mathlib.Core.List.{List, _++_, append-nil}
 use Prim.Native.Nat.{ℕ, _≤_, _<_}
-use native.Mathlib.Omega.{arith}
 use lib.Dec.{eqb}
 use lib.ListN.{length, drop, replicate}
 use lib.Seq.{drop-length}
@@ -48,7 +47,8 @@ module _ (ws l : List ℕ) (s : Settled (length ws) (successorsOf ws) (entries l
         }
 
 -- the marks stay where the entries are settled anew
-pub searched-again : (ws : List ℕ) {m l l′ : List ℕ} → Searched ws m l → Settled (length ws) (successorsOf ws) (entries l′) → length l′ ≡ length l → Searched ws m l′
+pub searched-again : (ws : List ℕ) {m l l′ : List ℕ} → Searched ws m l
+    → Settled (length ws) (successorsOf ws) (entries l′) → length l′ ≡ length l → Searched ws m l′
 searched-again ws s e n =
     let k = s .lent in
     record { lent = record { some = k .some; few = k .few; m-same = k .m-same; l-same = n ∙ k .l-same }; settled = e; marked = s .marked }
@@ -89,10 +89,12 @@ module _ (ws : List ℕ) {m l : List ℕ} (s : Searched ws m l) where
         let d : drop (length ws) l′ ≡ drop (length l′) l′ = ap (λ (n : ℕ). drop n l′) (sym filled-length) in
         e ∙ ap (λ (x : List ℕ). replicate (length ws) 0 ++ x) (d ∙ drop-length l′) ∙ append-nil (replicate (length ws) 0) ∙ over-laws .zeros 0 (length ws)
 
-    pub measured-invalid : {c : List ℕ} → i < length ws → c ≡ replicate (length ws) 0 ++ drop (length ws) l′ → Decided ws weights (Refused «REACHES_INVALID» i) m c
+    pub measured-invalid : {c : List ℕ} → i < length ws → c ≡ replicate (length ws) 0 ++ drop (length ws) l′
+        → Decided ws weights (Refused «REACHES_INVALID» i) m c
     measured-invalid h e = decided-invalid ws weights marks-are lowest h (cleared e)
 
-    pub measured-accepted : {v a : ℕ} → length ws ≤ i → v ≡ most (at l′) (length ws) → a ≡ lowestFrom (λ p. eqb (at l′ p) v) 0 (length ws) → Decided ws weights (Accepted v a) m l′
+    pub measured-accepted : {v a : ℕ} → length ws ≤ i → v ≡ most (at l′) (length ws) → a ≡ lowestFrom (λ p. eqb (at l′ p) v) 0 (length ws)
+        → Decided ws weights (Accepted v a) m l′
     measured-accepted {v} h e d =
         let found = e ∙ passing .longest-found (at l′) each in
         decided-accepted ws weights marks-are (subst (λ (x : ℕ). length ws ≤ x) lowest h) found

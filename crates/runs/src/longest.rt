@@ -23,12 +23,7 @@ pub enum Run {
 }
 
 // The entries of the words, in the lengths, and the marks.
-pub(crate) fn search_words(
-    table: &[u8; 512],
-    words: &[u32],
-    marks: &mut [u8],
-    lengths: &mut [u32],
-)
+pub(crate) fn search_words(table: &[u8; 512], words: &[u32], marks: &mut [u8], lengths: &mut [u32])
     requires { ⌜ (now table ≡ opcodeTable) × Lent (length (now words)) (now marks) (now lengths) ⌝ }
     ensures { λ _. ⌜ Searched (now (words .entry)) (now (marks .exit)) (now (lengths .exit)) ⌝ }
 {
@@ -37,12 +32,7 @@ pub(crate) fn search_words(
 }
 
 // The run by a table of weights, of words that are searched: their lengths take the place of their entries.
-pub(crate) fn measure_run(
-    words: &[u32],
-    weights: &[u8],
-    marks: &[u8],
-    lengths: &mut [u32],
-) -> Run
+pub(crate) fn measure_run(words: &[u32], weights: &[u8], marks: &[u8], lengths: &mut [u32]) -> Run
     requires { ⌜ Searched (now words) (now marks) (now lengths) × (length (now weights) ≡ weightCount) ⌝ }
     ensures { λ r. ⌜ Decided (now (words .entry)) (now (weights .entry)) r (now (marks .entry)) (now (lengths .exit)) ⌝ }
 {

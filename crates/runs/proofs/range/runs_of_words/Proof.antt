@@ -1,4 +1,5 @@
 use mathlib.Core.Path.{_∙_}
+use native.Mathlib.Omega.{arith}
 use borrow.Author.Needs.{needs}
 use Rattle.runs.specs.Outcome.{Searched}
 use Rattle.runs.proofs.Searched.{searched-again}
@@ -19,7 +20,9 @@ module _ (c : tie.After-settle-edges) where
   sought = low-run .before .before .before .before .before .before .before
 
   again : Searched (start sought .args .words .now) (sought .search-words .last .1 .1 .0) (c .settle-edges .last .1 .1 .0)
-  again = searched-again (start sought .args .words .now) (sought .search-words .ensures) (c .settle-edges .ensures) (c .settle-edges .kept .1 .1 .0 ∙ low-run .measure-run .kept .1 .1 .1 .0)
+  again =
+      searched-again (start sought .args .words .now) (sought .search-words .ensures) (c .settle-edges .ensures)
+      (c .settle-edges .kept .1 .1 .0 ∙ low-run .measure-run .kept .1 .1 .1 .0)
 
 returns : tie.Need-returns
 returns c =
@@ -33,9 +36,9 @@ runs-of-words-spec =
     (tie.spec
     (λ c κs. search needs)
     (λ c κs. (c .before .before .before .table .ensures, c .before .before .before .before .before .before .before .before .before .pre .0))
-    (λ c κs. let s = c .before .before .before .before .before .before in (s .search-words .ensures, start s .pre .1 .0))
+    (λ c κs. let s = c .before .before .before .before .before .before in (s .search-words .ensures, omega (arith, start s .pre .1 .0, start s .pre .1 .1)))
     (λ c κs. search needs)
-    (λ c κs. let s = c .before .before .before .before in (again s, start (sought s) .pre .1 .1))
+    (λ c κs. let s = c .before .before .before .before in (again s, omega (arith, start (sought s) .pre .1 .0, start (sought s) .pre .1 .1)))
     (λ c κs. search needs)
     (λ c. search needs)
     (λ c. search needs)
