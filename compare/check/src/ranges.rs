@@ -77,9 +77,15 @@ pub fn compare(side: &Side, r: &Range, spare: Spare) -> Result<(RangeAnswer, u64
     Ok((answer, between))
 }
 
-/// With fewer or plainer words; the tables stay, since one made plainer need not be between the others.
+/// With fewer or plainer words, or with a weight made 1 in every table at once, so that what is between stays so.
 fn smaller(r: &Range) -> Vec<Range> {
-    smaller_words(&r.words).into_iter().map(|words| Range { words, ..r.clone() }).collect()
+    let mut all: Vec<Range> = smaller_words(&r.words).into_iter().map(|words| Range { words, ..r.clone() }).collect();
+    all.extend((0..r.low.0.len().max(r.high.0.len())).map(|i| {
+        let plain = |w: &Weights| weights::plain(w, |j| i == j);
+        Range { words: r.words.clone(), low: plain(&r.low), high: plain(&r.high), between: r.between.iter().map(plain).collect() }
+    }));
+    all.retain(|s| s.words != r.words || s.low != r.low || s.high != r.high);
+    all
 }
 
 pub fn report(side: &str, r: &Range, spare: Spare, test: impl Fn(&Range, Spare) -> Result<(), String>) -> String {
