@@ -1,9 +1,10 @@
 /* Lawendeb for C and C++, on x86-64 Linux (System V calls). What the functions do is proved; what
    is asked of the caller stands here.
 
-   Two archives, to be linked alone or side by side; both are made in target/staticlib/:
+   Three archives, to be linked alone or side by side; all are made in target/staticlib/:
      libmeter.a     begin and feed, for controllers: `rt staticlib meter`. It needs no symbol.
      libexports.a   steps, the longest run, records: `rt staticlib exports`. It needs memset.
+     libranges.a    the longest run by two tables: `rt staticlib ranges`. It needs memset.
    They write nothing but what a call is lent: no heap, no static data, and as measured less than
    1 kB of stack (docs/BENCHMARKS.md). So every call is reentrant, and calls on different memory may
    run at once, in threads or interrupts. A begin and a feed take a bounded time, whatever the
@@ -131,6 +132,8 @@ struct lawendeb_run {
 struct lawendeb_run lawendeb_longest_run(const uint32_t *words, size_t n, const uint8_t *weights,
                                          size_t weights_n, uint8_t *marks, size_t marks_n,
                                          uint32_t *lengths, size_t lengths_n);
+
+/* ---- the longest run by two tables of weights: libranges.a */
 
 /* The longest run by a table of low weights and by one of high weights, each with the lowest word
    at which it begins; or a refusal's number and place. */

@@ -4,11 +4,8 @@ use Rattle.runs.specs.declared.edges.Successors.{Successors}
 use Rattle.runs.specs.declared.edges.Successors.the-variants.{Invalid, Stop, One, Two}
 use Rattle.runs.specs.declared.longest.Run.{Run}
 use Rattle.runs.specs.declared.longest.Run.the-variants.{Accepted, Refused}
-use Rattle.runs.specs.declared.range.RunRange.{RunRange}
-use Rattle.runs.specs.declared.range.RunRange.the-variants as Both
 use Rattle.exports.specs.declared.FlatSuccessors.{FlatSuccessors}
 use Rattle.exports.specs.declared.FlatRun.{FlatRun}
-use Rattle.exports.specs.declared.FlatRange.{FlatRange}
 
 -- kind 0 invalid, 1 stop, 2 one, 3 two; a number that a kind does not use is 0
 abbrev pub flatSuccessors : Successors → FlatSuccessors
@@ -21,8 +18,3 @@ flatSuccessors (Two q r) = record { kind = 3; first = q; second = r }
 abbrev pub flatRun : Run → FlatRun
 flatRun (Accepted l f) = record { number = 0; place = 0; longest = l; first = f }
 flatRun (Refused k p) = record { number = k; place = p; longest = 0; first = 0 }
-
--- request C-18: the same of the low table and of the high one. "On refusal L and its first word are 0"
-abbrev pub flatRange : RunRange → FlatRange
-flatRange (Both.Accepted l f l′ f′) = record { number = 0; place = 0; «low_longest» = l; «low_first» = f; «high_longest» = l′; «high_first» = f′ }
-flatRange (Both.Refused k p) = record { number = k; place = p; «low_longest» = 0; «low_first» = 0; «high_longest» = 0; «high_first» = 0 }

@@ -3,10 +3,8 @@ ghost use mathlib.Core.Path.{_≡_};
 ghost use lib.ListN.{length};
 ghost use Rattle.runs.specs.Successors.{successorsOf};
 ghost use Rattle.runs.specs.Run.{runOf, marksAfter, lengthsAfter};
-ghost use Rattle.runs.specs.Range.{runsOf, marksAfterBoth, lengthsAfterBoth};
-ghost use Rattle.exports.specs.Flat.{flatSuccessors, flatRun, flatRange};
+ghost use Rattle.exports.specs.Flat.{flatSuccessors, flatRun};
 use runs::Run;
-use runs::RunRange;
 use runs::edges::Successors;
 
 pub mod lifted;
@@ -26,16 +24,6 @@ pub struct FlatRun {
     pub place: u64,
     pub longest: u64,
     pub first: u64,
-}
-
-#[repr(C)]
-pub struct FlatRange {
-    pub number: u64,
-    pub place: u64,
-    pub low_longest: u64,
-    pub low_first: u64,
-    pub high_longest: u64,
-    pub high_first: u64,
 }
 
 fn flat_successors(s: Successors) -> FlatSuccessors
@@ -84,34 +72,6 @@ fn flat_run(run: Run) -> FlatRun
     }
 }
 
-fn flat_range(runs: RunRange) -> FlatRange
-    ensures { λ r. ⌜ r ≡ flatRange runs ⌝ }
-{
-    match runs {
-        RunRange::Accepted {
-            low_longest,
-            low_first,
-            high_longest,
-            high_first,
-        } => FlatRange {
-            number: 0,
-            place: 0,
-            low_longest: low_longest as u64,
-            low_first: low_first as u64,
-            high_longest: high_longest as u64,
-            high_first: high_first as u64,
-        },
-        RunRange::Refused { number, place } => FlatRange {
-            number: number as u64,
-            place: place as u64,
-            low_longest: 0,
-            low_first: 0,
-            high_longest: 0,
-            high_first: 0,
-        },
-    }
-}
-
 #[no_mangle]
 pub extern "C" fn lawendeb_successors(words: &[u32], p: usize) -> FlatSuccessors
     ensures { λ r. ⌜ r ≡ flatSuccessors (successorsOf (now (words .entry)) p) ⌝ }
@@ -131,19 +91,4 @@ pub extern "C" fn lawendeb_longest_run_3(
     ensures { λ _. ⌜ now (lengths .exit) ≡ lengthsAfter (now (words .entry)) (now (weights .entry)) (now (marks .entry)) (now (lengths .entry)) ⌝ }
 {
     flat_run(runs::longest_run(words, weights, marks, lengths))
-}
-
-#[no_mangle]
-pub extern "C" fn lawendeb_longest_runs(
-    words: &[u32],
-    low: &[u8],
-    high: &[u8],
-    marks: &mut [u8],
-    lengths: &mut [u32],
-) -> FlatRange
-    ensures { λ r. ⌜ r ≡ flatRange (runsOf (now (words .entry)) (now (low .entry)) (now (high .entry)) (length (now (marks .entry))) (length (now (lengths .entry)))) ⌝ }
-    ensures { λ _. ⌜ now (marks .exit) ≡ marksAfterBoth (now (words .entry)) (now (low .entry)) (now (high .entry)) (now (marks .entry)) (now (lengths .entry)) ⌝ }
-    ensures { λ _. ⌜ now (lengths .exit) ≡ lengthsAfterBoth (now (words .entry)) (now (low .entry)) (now (high .entry)) (now (marks .entry)) (now (lengths .entry)) ⌝ }
-{
-    flat_range(runs::longest_runs(words, low, high, marks, lengths))
 }
