@@ -1,5 +1,5 @@
 // The C interface of runs by two tables of weights. It makes an archive of its own: beside a second caller of the settling pass the compiler would
-// not put that pass into `lawendeb_longest_run` any more, which then takes a fifth more time.
+// not put that pass into `lawendeb_longest_run` any more, which then takes about a fifth more time.
 ghost use mathlib.Core.Path.{_≡_};
 ghost use lib.ListN.{length};
 ghost use Rattle.runs.specs.Range.{runsOf, marksAfterBoth, lengthsAfterBoth};

@@ -73,12 +73,13 @@ fn accepted(mv: u32, ret: u32) {
         b"the heaviest segments elsewhere",
         &[over, mv, ret, into],
         &but_one(OP_JMP as usize, 3),
-        &but_one_of([3u8; 128], OP_MOVE as usize, 8),
+        &but_one_of(3, OP_MOVE as usize, 8),
     );
 }
 
-// The weights, but for one.
-fn but_one_of(mut weights: [u8; 128], opcode: usize, weight: u8) -> [u8; 128] {
+// All weights the same, but for one.
+fn but_one_of(rest: u8, opcode: usize, weight: u8) -> [u8; 128] {
+    let mut weights = [rest; 128];
     if opcode < 128 {
         weights[opcode] = weight;
     }
@@ -89,13 +90,13 @@ fn refused(mv: u32, ret: u32) {
     let ones = [1u8; 128];
     let twos = [2u8; 128];
     let words = [mv, mv, ret];
-    show(b"19 at 0", &words, &but_one_of(twos, 0, 3), &twos);
-    show(b"19 at 127", &words, &but_one_of(twos, 127, 3), &twos);
+    show(b"19 at 0", &words, &but_one_of(2, 0, 3), &twos);
+    show(b"19 at 127", &words, &but_one_of(2, 127, 3), &twos);
     show(b"19 at the lowest", &words, &twos, &ones);
     show(
         b"18 of the low table, of the high one, and 19",
         &words,
-        &but_one_of(twos, 9, 0),
+        &but_one_of(2, 9, 0),
         &but_one(7, 0),
     );
     show(
@@ -106,14 +107,9 @@ fn refused(mv: u32, ret: u32) {
     );
     show(b"no low weights", &words, &[], &ones);
     show(b"129 high weights", &words, &ones, &[1u8; 129]);
-    show(b"no words, and 19", &[], &twos, &but_one_of(twos, 5, 1));
+    show(b"no words, and 19", &[], &twos, &but_one_of(2, 5, 1));
     show(b"no words, both tables", &[], &ones, &twos);
-    show(
-        b"a bad word, and 19",
-        &[83],
-        &twos,
-        &but_one_of(twos, 83, 1),
-    );
+    show(b"a bad word, and 19", &[83], &twos, &but_one_of(2, 83, 1));
     show(b"a bad word, both tables", &[mv, 83, ret], &ones, &twos);
     show_lent(
         b"marks one short, and 18",
