@@ -192,6 +192,67 @@ static void weighed_runs(void) {
     others[82] = others[127] = 255;
 }
 
+/* Both runs, with so many weights of each table, and slices of 4 elements. */
+static struct lawendeb_run_range runs_by(const uint8_t *low, size_t low_n, const uint8_t *high,
+                                         size_t high_n, const uint32_t *words, size_t n) {
+    return lawendeb_longest_runs(words, n, low, low_n, high, high_n, marks, 4, lengths, 4);
+}
+
+static int ran_both(struct lawendeb_run_range r, uint64_t low_longest, uint64_t low_first,
+                    uint64_t high_longest, uint64_t high_first) {
+    return r.number == LAWENDEB_ACCEPTED && r.place == 0 && r.low_longest == low_longest &&
+           r.low_first == low_first && r.high_longest == high_longest && r.high_first == high_first;
+}
+
+static int refused_both(struct lawendeb_run_range r, uint64_t number, uint64_t place) {
+    return r.number == number && r.place == place && r.low_longest == 0 && r.low_first == 0 &&
+           r.high_longest == 0 && r.high_first == 0;
+}
+
+/* Runs by a low and by a high table: request C-18. */
+static void ranges(void) {
+    enum { W = LAWENDEB_WEIGHTS };
+    const uint32_t sums[4] = {100, 90, 70, 40};
+    /* a jump to a jump back to word 1, a MOVE and a return */
+    const uint32_t elsewhere[4] = {word_jump(2), 0, RETURN0, word_jump(-3)};
+    uint8_t low[W], high[W];
+    size_t i;
+    lend();
+    CHECK(ran_both(runs_by(ones, W, others, W, sheet, 4), 4, 0, 100, 0));
+    for (i = 0; i < 4; i++)
+        CHECK(marks[i] == 1 && lengths[i] == sums[i]);
+    CHECK(lent_from(4));
+    CHECK(ran_both(runs_by(others, W, others, W, sheet, 4), 100, 0, 100, 0));
+    memset(low, 1, W), memset(high, 3, W);
+    low[56] = 3, high[0] = 8;
+    CHECK(ran_both(runs_by(low, W, high, W, elsewhere, 4), 6, 0, 11, 1));
+
+    lend();
+    for (i = 0; i < W; i++) {
+        high[i] = 0;
+        CHECK(refused_both(runs_by(ones, W, high, W, sheet, 4), LAWENDEB_WEIGHTS_REFUSED, i));
+        high[i] = 1, low[i] = 4;
+        CHECK(refused_both(runs_by(low, W, high, W, sheet, 4), LAWENDEB_LOW_ABOVE_HIGH, i));
+        high[i] = 4;
+    }
+    /* 1 and 6 before 18, 18 of the low table before that of the high one, both before 19 */
+    high[3] = 1, high[9] = 0;
+    CHECK(refused_both(runs_by(low, W - 1, high, W, many, MANY), LAWENDEB_TOO_MANY_WORDS, 0));
+    CHECK(refused_both(runs_by(low, W - 1, high, W, many, 5), LAWENDEB_SHORT_SLICE, 0));
+    CHECK(refused_both(runs_by(low, W - 1, high, W, sheet, 4), LAWENDEB_WEIGHTS_REFUSED, 0));
+    CHECK(refused_both(runs_by(low, W, high, W, sheet, 4), LAWENDEB_WEIGHTS_REFUSED, 9));
+    CHECK(refused_both(runs_by(low, W, high, W - 1, sheet, 4), LAWENDEB_WEIGHTS_REFUSED, 0));
+    /* 19 before 7 and 8 */
+    high[9] = 4;
+    CHECK(refused_both(runs_by(low, W, high, W, sheet, 4), LAWENDEB_LOW_ABOVE_HIGH, 3));
+    CHECK(refused_both(runs_by(low, W, high, W, sheet, 0), LAWENDEB_LOW_ABOVE_HIGH, 3));
+    CHECK(refused_both(runs_by(low, W, high, W, unknown, 1), LAWENDEB_LOW_ABOVE_HIGH, 3));
+    CHECK(refused_both(runs_by(ones, W, others, W, sheet, 0), LAWENDEB_NO_WORDS, 0));
+    CHECK(lent_from(0));
+    CHECK(refused_both(runs_by(ones, W, others, W, unknown, 1), LAWENDEB_REACHES_INVALID, 0));
+    CHECK(marks[0] == 1 && lengths[0] == 0 && lent_from(1));
+}
+
 /* ---- the meter */
 
 static int answered(struct lawendeb_answer a, uint64_t number, uint64_t place) {
@@ -614,6 +675,7 @@ int main(void) {
     steps();
     runs();
     weighed_runs();
+    ranges();
     meters();
     weighed_meters();
     worst();

@@ -1,10 +1,11 @@
 /* Lawendeb for C and C++, on x86-64 Linux (System V calls). What the functions do is proved; what
    is asked of the caller stands here.
 
-   Three archives, to be linked alone or side by side; all are made in target/staticlib/:
+   Four archives, to be linked alone or side by side; all are made in target/staticlib/:
      libmeter.a     begin, feed and reset, for controllers: `rt staticlib meter`. It needs no
                     symbol.
      libexports.a   steps, the longest run, records: `rt staticlib exports`. It needs memset.
+     libranges.a    the longest run by two tables: `rt staticlib ranges`. It needs memset.
      libtouches.a   what a word reads and writes: `rt staticlib touches`. It needs memset.
    They write nothing but what a call is lent: no heap, no static data, and as measured less than
    1 kB of stack, but less than 2 kB for what a word touches (docs/BENCHMARKS.md). So every call is
@@ -56,6 +57,7 @@ extern "C" {
 #define LAWENDEB_MALFORMED_LINE 12   /* of a sheet; by the program alone */
 #define LAWENDEB_TOO_MANY_LINES 13   /* of a sheet; by the program alone */
 #define LAWENDEB_WEIGHTS_REFUSED 18  /* not 128 weights; or one is 0, place: the lowest such */
+#define LAWENDEB_LOW_ABOVE_HIGH 19   /* a low weight above its high one; place: the opcode */
 
 #define LAWENDEB_MOST_WORDS 32768
 #define LAWENDEB_MOST_CONSTANTS 65536
@@ -146,6 +148,24 @@ struct lawendeb_run {
 struct lawendeb_run lawendeb_longest_run(const uint32_t *words, size_t n, const uint8_t *weights,
                                          size_t weights_n, uint8_t *marks, size_t marks_n,
                                          uint32_t *lengths, size_t lengths_n);
+
+/* ---- the longest run by two tables of weights: libranges.a */
+
+/* The longest run by a table of low weights and by one of high weights, each with the lowest word
+   at which it begins; or a refusal's number and place. */
+struct lawendeb_run_range {
+    uint64_t number, place, low_longest, low_first, high_longest, high_first;
+};
+
+/* Both runs in one call, with one search. By any table between the two, entry by entry, the longest
+   run is at least low_longest and at most high_longest, accepted exactly if these are and else
+   refused alike; where it begins may be anywhere. Marks and lengths end as the run by the high
+   table leaves them. Refusals are 1, 6, 18 of the low table, 18 of the high one, 19, 7 and 8, tried
+   in this order; 8 leaves the marks and n zero lengths, the others alter nothing. */
+struct lawendeb_run_range lawendeb_longest_runs(const uint32_t *words, size_t n, const uint8_t *low,
+                                                size_t low_n, const uint8_t *high, size_t high_n,
+                                                uint8_t *marks, size_t marks_n, uint32_t *lengths,
+                                                size_t lengths_n);
 
 /* ---- records: libexports.a */
 

@@ -75,15 +75,8 @@ static size_t weights_place(const uint8_t *weights, size_t weights_n) {
 static inline uint32_t on(const uint32_t *lengths, size_t p, size_t q) {
     return serves(p, q) ? 0 : lengths[q];
 }
-struct twin_run twin_longest_run(const uint32_t *w, size_t n, const uint8_t *weights, size_t weights_n, uint8_t *marks,
-    size_t marks_n, uint32_t *lengths, size_t lengths_n) {
-    if (n > TWIN_WORDS) return (struct twin_run){1, 0, 0, 0};
-    if (marks_n < n || lengths_n < n) return (struct twin_run){6, 0, 0, 0};
-    if (refuses_weights(weights, weights_n)) return (struct twin_run){18, weights_place(weights, weights_n), 0, 0};
-    if (n == 0) return (struct twin_run){7, 0, 0, 0};
-    size_t lowest = mark(w, n, marks, lengths);
-    memset(lengths, 0, n * sizeof *lengths);
-    if (lowest < n) return (struct twin_run){8, lowest, 0, 0};
+/* The lengths of what is marked, by a table of weights, over zeros; where the largest stands first. */
+static inline size_t measure(const uint32_t *w, size_t n, const uint8_t *weights, const uint8_t *marks, uint32_t *lengths) {
     for (size_t p = n; p-- > 0;) {
         if (!marks[p]) continue;
         struct twin_successors s = successors(w, n, p);
@@ -95,7 +88,40 @@ struct twin_run twin_longest_run(const uint32_t *w, size_t n, const uint8_t *wei
     size_t first = 0;
     for (size_t p = 1; p < n; p++)
         if (lengths[p] > lengths[first]) first = p;
+    return first;
+}
+struct twin_run twin_longest_run(const uint32_t *w, size_t n, const uint8_t *weights, size_t weights_n, uint8_t *marks,
+    size_t marks_n, uint32_t *lengths, size_t lengths_n) {
+    if (n > TWIN_WORDS) return (struct twin_run){1, 0, 0, 0};
+    if (marks_n < n || lengths_n < n) return (struct twin_run){6, 0, 0, 0};
+    if (refuses_weights(weights, weights_n)) return (struct twin_run){18, weights_place(weights, weights_n), 0, 0};
+    if (n == 0) return (struct twin_run){7, 0, 0, 0};
+    size_t lowest = mark(w, n, marks, lengths);
+    memset(lengths, 0, n * sizeof *lengths);
+    if (lowest < n) return (struct twin_run){8, lowest, 0, 0};
+    size_t first = measure(w, n, weights, marks, lengths);
     return (struct twin_run){0, 0, lengths[first], first};
+}
+/* Both tables, with one search. What is not marked stays 0, and what is marked is measured anew from the end: nothing is
+   cleared between the two. */
+struct twin_range twin_longest_runs(const uint32_t *w, size_t n, const uint8_t *low, size_t low_n, const uint8_t *high,
+    size_t high_n, uint8_t *marks, size_t marks_n, uint32_t *lengths, size_t lengths_n) {
+    struct twin_range r = {0};
+    if (n > TWIN_WORDS) { r.number = 1; return r; }
+    if (marks_n < n || lengths_n < n) { r.number = 6; return r; }
+    if (refuses_weights(low, low_n)) { r.number = 18; r.place = weights_place(low, low_n); return r; }
+    if (refuses_weights(high, high_n)) { r.number = 18; r.place = weights_place(high, high_n); return r; }
+    for (size_t i = 0; i < TWIN_WEIGHTS; i++)
+        if (low[i] > high[i]) { r.number = 19; r.place = i; return r; }
+    if (n == 0) { r.number = 7; return r; }
+    size_t lowest = mark(w, n, marks, lengths);
+    memset(lengths, 0, n * sizeof *lengths);
+    if (lowest < n) { r.number = 8; r.place = lowest; return r; }
+    r.low_first = measure(w, n, low, marks, lengths);
+    r.low_longest = lengths[r.low_first];
+    r.high_first = measure(w, n, high, marks, lengths);
+    r.high_longest = lengths[r.high_first];
+    return r;
 }
 
 static inline struct twin_answer answer(uint64_t number) { return (struct twin_answer){number, 0}; }

@@ -5,6 +5,7 @@
 mod gen;
 mod meters;
 mod patches;
+mod ranges;
 mod records;
 mod rng;
 mod runs;
@@ -54,6 +55,14 @@ fn main() {
     println!(
         "runs: {} functions of {} words, {} steps, each side against the model; {} functions against the definitions by brute force; answers by number: {}",
         c.functions, c.words, c.edges, c.brute, by_number(&c.answers)
+    );
+    eprintln!("  {:.1} s", start.elapsed().as_secs_f64());
+
+    let start = Instant::now();
+    let c = ranges::all(&sides, seed, functions / 4);
+    println!(
+        "ranges: {} functions by a low and a high table, each side against the model; {} runs by tables between them; {} begin at other words by the two; answers by number: {}",
+        c.functions, c.between, c.elsewhere, by_number(&c.answers)
     );
     eprintln!("  {:.1} s", start.elapsed().as_secs_f64());
 

@@ -1,10 +1,11 @@
-//! Wrong on purpose: records, a step, runs, feeds, a begin, a reset and rules of what may change that are each a little off must be
-//! caught, or the comparison is blind.
+//! Wrong on purpose: records, a step, runs, ranges, feeds, a begin, a reset and rules of what may change that are each a little off
+//! must be caught, or the comparison is blind.
 
 use crate::rng::Rng;
-use crate::{gen, meters, patches, records, runs, weights};
+use crate::{gen, meters, patches, ranges, records, runs, weights};
 use model::flat::Record;
 use model::input::Input;
+use model::range::RangeAnswer;
 use model::Answer;
 use sides::{
     ffi::{rattle, twin},
@@ -13,10 +14,14 @@ use sides::{
 
 /// Every wrong side with the report that caught it; panics if one was not caught.
 pub fn all(seed: u64) -> Vec<String> {
-    let mut all = vec![record(seed), past(seed), room(seed), step(seed), stretch(seed), table(seed), taken_along(seed)];
-    all.extend([service(seed), first(seed), zero(seed), forgotten(seed), cleared(seed), below(seed)]);
-    all.extend(patches::wrong(&rattle::side(), seed));
-    all
+    let of_records = [record, past, room];
+    let of_runs = [step, stretch, table, taken_along];
+    let of_ranges = [twice, low_lengths, order_of_tables];
+    let of_meters = [service, first, zero, forgotten, cleared, below];
+    let all: [&[fn(u64) -> String]; 4] = [&of_records, &of_runs, &of_ranges, &of_meters];
+    let mut caught: Vec<String> = all.iter().flat_map(|group| group.iter()).map(|wrong| wrong(seed)).collect();
+    caught.extend(patches::wrong(&rattle::side(), seed));
+    caught
 }
 
 fn lift(input: &Input, out: &mut [Record]) -> Answer {
@@ -148,6 +153,64 @@ fn by_runs(seed: u64, side: &Side) -> String {
         let function = runs::Function { words, weights: weights::any(&mut rng) };
         if runs::compare(side, &function, (0, 0)).is_err() {
             return runs::report(side.name, &function, |f| runs::compare(side, f, (0, 0)).map(|_| ()));
+        }
+    }
+    panic!("{} was not caught", side.name);
+}
+
+fn twice(seed: u64) -> String {
+    // The high table's report stands for both.
+    let side = Side {
+        name: "wrong low report",
+        runs: |words, low, high, marks, lengths| {
+            let r = (twin::side().runs)(words, low, high, marks, lengths);
+            RangeAnswer { low_longest: r.high_longest, low_first: r.high_first, ..r }
+        },
+        ..twin::side()
+    };
+    by_ranges(seed, &side)
+}
+
+fn low_lengths(seed: u64) -> String {
+    // The slices end as the low table's run leaves them.
+    let side = Side {
+        name: "wrong lengths",
+        runs: |words, low, high, marks, lengths| {
+            let r = (twin::side().runs)(words, low, high, marks, lengths);
+            if r.number == 0 {
+                (twin::side().run)(words, low, marks, lengths);
+            }
+            r
+        },
+        ..twin::side()
+    };
+    by_ranges(seed, &side)
+}
+
+fn order_of_tables(seed: u64) -> String {
+    // 19 is looked for before 18.
+    let side = Side {
+        name: "wrong order",
+        runs: |words, low, high, marks, lengths| {
+            let r = (twin::side().runs)(words, low, high, marks, lengths);
+            match low.iter().zip(high).position(|(l, h)| l > h) {
+                Some(place) if r.number == 18 => RangeAnswer { number: 19, place: place as u64, ..r },
+                _ => r,
+            }
+        },
+        ..twin::side()
+    };
+    by_ranges(seed, &side)
+}
+
+/// Wrong runs by two tables are tried on random functions and ranges.
+fn by_ranges(seed: u64, side: &Side) -> String {
+    let mut rng = Rng::new(seed);
+    for _ in 0..1_000_000 {
+        let words = gen::function(&mut rng, 24);
+        let range = ranges::range(&mut rng, words);
+        if ranges::compare(side, &range, (0, 0)).is_err() {
+            return ranges::report(side.name, &range, (0, 0), |r, spare| ranges::compare(side, r, spare).map(|_| ()));
         }
     }
     panic!("{} was not caught", side.name);

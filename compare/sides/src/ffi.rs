@@ -7,6 +7,7 @@ use crate::{Side, Successors};
 use model::flat::Record;
 use model::input::Input;
 use model::meter::Meter;
+use model::range::RangeAnswer;
 use model::run::RunAnswer;
 use model::Answer;
 
@@ -60,6 +61,18 @@ pub mod twin {
             lengths: *mut u32,
             lengths_n: usize,
         ) -> RunAnswer;
+        fn twin_longest_runs(
+            words: *const u32,
+            n: usize,
+            low: *const u8,
+            low_n: usize,
+            high: *const u8,
+            high_n: usize,
+            marks: *mut u8,
+            marks_n: usize,
+            lengths: *mut u32,
+            lengths_n: usize,
+        ) -> RangeAnswer;
         fn twin_begin(m: *mut LentMeter);
         fn twin_reset(m: *mut LentMeter);
         fn twin_feed(words: *const u32, n: usize, weights: *const u8, weights_n: usize, m: *mut LentMeter, q: usize) -> Answer;
@@ -85,6 +98,10 @@ pub mod twin {
             successors: |w, p| unsafe { twin_successors(w.as_ptr(), w.len(), p) }.into(),
             run: |w, t, m, l| unsafe {
                 twin_longest_run(w.as_ptr(), w.len(), t.as_ptr(), t.len(), m.as_mut_ptr(), m.len(), l.as_mut_ptr(), l.len())
+            },
+            runs: |w, a, b, m, l| unsafe {
+                let (marks, lengths) = (m.as_mut_ptr(), l.as_mut_ptr());
+                twin_longest_runs(w.as_ptr(), w.len(), a.as_ptr(), a.len(), b.as_ptr(), b.len(), marks, m.len(), lengths, l.len())
             },
             begin: |m| lend(m, |m| unsafe { twin_begin(m) }),
             reset: |m| lend(m, |m| unsafe { twin_reset(m) }),
@@ -132,6 +149,18 @@ pub mod rattle {
             lengths: *mut u32,
             lengths_n: usize,
         ) -> RunAnswer;
+        fn lawendeb_longest_runs(
+            words: *const u32,
+            n: usize,
+            low: *const u8,
+            low_n: usize,
+            high: *const u8,
+            high_n: usize,
+            marks: *mut u8,
+            marks_n: usize,
+            lengths: *mut u32,
+            lengths_n: usize,
+        ) -> RangeAnswer;
         fn lawendeb_begin_4(m: *mut LentMeter);
         fn lawendeb_reset(m: *mut LentMeter);
         fn lawendeb_feed_4(words: *const u32, n: usize, weights: *const u8, weights_n: usize, m: *mut LentMeter, q: usize) -> Answer;
@@ -143,6 +172,10 @@ pub mod rattle {
             successors: |w, p| unsafe { lawendeb_successors(w.as_ptr(), w.len(), p) }.into(),
             run: |w, t, m, l| unsafe {
                 lawendeb_longest_run_3(w.as_ptr(), w.len(), t.as_ptr(), t.len(), m.as_mut_ptr(), m.len(), l.as_mut_ptr(), l.len())
+            },
+            runs: |w, a, b, m, l| unsafe {
+                let (marks, lengths) = (m.as_mut_ptr(), l.as_mut_ptr());
+                lawendeb_longest_runs(w.as_ptr(), w.len(), a.as_ptr(), a.len(), b.as_ptr(), b.len(), marks, m.len(), lengths, l.len())
             },
             begin: |m| lend(m, |m| unsafe { lawendeb_begin_4(m) }),
             reset: |m| lend(m, |m| unsafe { lawendeb_reset(m) }),

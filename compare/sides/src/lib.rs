@@ -3,6 +3,7 @@
 use model::flat::Record;
 use model::input::Input;
 use model::meter::Meter;
+use model::range::RangeAnswer;
 use model::run::RunAnswer;
 use model::Answer;
 
@@ -20,6 +21,8 @@ pub struct Side {
     pub successors: fn(&[u32], usize) -> Successors,
     /// Words, weights, marks, lengths.
     pub run: fn(&[u32], &[u8], &mut [u8], &mut [u32]) -> RunAnswer,
+    /// Words, low and high weights, marks, lengths.
+    pub runs: fn(&[u32], &[u8], &[u8], &mut [u8], &mut [u32]) -> RangeAnswer,
     pub begin: fn(&mut Meter),
     pub reset: fn(&mut Meter),
     /// Words, weights, meter, word number.
@@ -44,6 +47,7 @@ pub fn model_side() -> Side {
             Successors { bad: s.bad, list: [s.list().first().copied(), s.list().get(1).copied()] }
         },
         run: model::run::run,
+        runs: model::range::runs,
         begin: model::meter::begin,
         reset: model::meter::reset,
         feed: model::meter::feed,

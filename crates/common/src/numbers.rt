@@ -40,3 +40,6 @@ pub const TOO_MANY_LINES: u8 = 13;
 
 // Request C-17: a weight count other than 128, or a weight of 0.
 pub const WEIGHTS_REFUSED: u8 = 18;
+
+// Request C-18: a low weight above its high.
+pub const LOW_ABOVE_HIGH: u8 = 19;
