@@ -1,0 +1,5 @@
+pub mod Near
+pub mod Cross
+pub mod Slices
+pub mod Writing
+pub mod Outcome

@@ -1,0 +1,3 @@
+-- Request C-22: the distance to service, and crossing edges.
+pub mod Questions
+pub mod Pass
