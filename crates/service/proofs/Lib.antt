@@ -3,3 +3,6 @@ pub mod Cross
 pub mod Slices
 pub mod Writing
 pub mod Outcome
+pub mod Nearest
+pub mod ListedWords
+pub mod Crossings

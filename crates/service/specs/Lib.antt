@@ -1,3 +1,6 @@
 -- Request C-22: the distance to service, and crossing edges.
 pub mod Questions
+pub mod Nearest
+pub mod ListedWords
+pub mod Crossings
 pub mod Pass
