@@ -3,4 +3,5 @@ pub mod Questions
 pub mod Nearest
 pub mod ListedWords
 pub mod Crossings
+pub mod Flat
 pub mod Pass

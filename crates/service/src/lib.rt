@@ -2,6 +2,7 @@
 mod counted;
 pub mod crossing;
 pub mod distance;
+pub mod exported;
 mod pass;
 pub mod within;
 
