@@ -1,5 +1,5 @@
 //! check [SEED [RECORDS [FUNCTIONS [LISTS]]]]: the differential tests, counted, with this many random records, functions and
-//! lists of calls beside the systematic ones. Ends with status 1 at the first mismatch. Times go to standard error: what
+//! lists of calls beside the systematic ones, and a tenth as many functions for nearest service. Ends with status 1 at the first mismatch. Times go to standard error: what
 //! stands on standard output is the same at every run with the same numbers.
 
 mod gen;
@@ -7,6 +7,7 @@ mod meters;
 mod records;
 mod rng;
 mod runs;
+mod services;
 mod shrink;
 mod weights;
 mod wrong;
@@ -53,6 +54,17 @@ fn main() {
     println!(
         "runs: {} functions of {} words, {} steps, each side against the model; {} functions against the definitions by brute force; answers by number: {}",
         c.functions, c.words, c.edges, c.brute, by_number(&c.answers)
+    );
+    eprintln!("  {:.1} s", start.elapsed().as_secs_f64());
+
+    let start = Instant::now();
+    let c = services::all(&sides, seed, functions / 10);
+    println!(
+        "services: {} questions of {} functions, each side against the model; {} functions against every stretch; answers of the lists by number: {}",
+        c.questions,
+        c.functions,
+        c.brute,
+        by_number(&c.answers)
     );
     eprintln!("  {:.1} s", start.elapsed().as_secs_f64());
 

@@ -1,7 +1,8 @@
-//! Wrong on purpose: records, a step, runs and feeds that are each a little off must be caught, or the comparison is blind.
+//! Wrong on purpose: records, a step, runs, answers on nearest service and feeds that are each a little off must be caught, or the comparison is
+//! blind.
 
 use crate::rng::Rng;
-use crate::{gen, meters, records, runs, weights};
+use crate::{gen, meters, records, runs, services, weights};
 use model::flat::Record;
 use model::input::Input;
 use model::Answer;
@@ -9,7 +10,10 @@ use sides::{ffi::twin, Side, Successors};
 
 /// Every wrong side with the report that caught it; panics if one was not caught.
 pub fn all(seed: u64) -> Vec<String> {
-    vec![record(seed), past(seed), room(seed), step(seed), stretch(seed), table(seed), taken_along(seed), service(seed), first(seed), zero(seed)]
+    let mut all = vec![record(seed), past(seed), room(seed), step(seed), stretch(seed), table(seed), taken_along(seed)];
+    all.extend([itself(seed), beside(seed), unreachable(seed), left(seed)]);
+    all.extend([service(seed), first(seed), zero(seed)]);
+    all
 }
 
 fn lift(input: &Input, out: &mut [Record]) -> Answer {
@@ -141,6 +145,83 @@ fn by_runs(seed: u64, side: &Side) -> String {
         let function = runs::Function { words, weights: weights::any(&mut rng) };
         if runs::compare(side, &function, (0, 0)).is_err() {
             return runs::report(side.name, &function, |f| runs::compare(side, f, (0, 0)).map(|_| ()));
+        }
+    }
+    panic!("{} was not caught", side.name);
+}
+
+fn itself(seed: u64) -> String {
+    // The word itself is not counted.
+    let side = Side {
+        name: "wrong fewest",
+        nearest: |words, w, marks, lengths| {
+            let mut answer = (twin::side().nearest)(words, w, marks, lengths);
+            answer.fewest -= answer.found;
+            answer
+        },
+        ..twin::side()
+    };
+    by_services(seed, &side)
+}
+
+fn beside(seed: u64) -> String {
+    // A step from a word or to it passes over it.
+    let side = Side {
+        name: "wrong crossing",
+        crossed: |words, w, marks, lengths| {
+            let mut answer = (twin::side().crossed)(words, w, marks, lengths);
+            if answer.number == 0 && w < words.len() && marks[w] == 1 {
+                answer.count += (twin::side().successors)(words, w).list.iter().flatten().count() as u64;
+            }
+            answer
+        },
+        ..twin::side()
+    };
+    by_services(seed, &side)
+}
+
+fn unreachable(seed: u64) -> String {
+    // Words that are not reachable are listed, where everything is near enough.
+    let side = Side {
+        name: "wrong list",
+        within: |words, d, marks, lengths, list| {
+            let answer = (twin::side().within)(words, d, marks, lengths, list);
+            if answer.number == 0 && d > words.len() {
+                list[..words.len()].fill(1);
+            }
+            answer
+        },
+        ..twin::side()
+    };
+    by_services(seed, &side)
+}
+
+fn left(seed: u64) -> String {
+    // The lengths are left as distances.
+    let side = Side {
+        name: "wrong lengths",
+        within: |words, d, marks, lengths, list| {
+            let answer = (twin::side().within)(words, d, marks, lengths, list);
+            if answer.number == 0 {
+                for p in (0..words.len()).filter(|&p| marks[p] == 1) {
+                    let (mut m, mut l) = (marks.to_vec(), lengths.to_vec());
+                    lengths[p] = (twin::side().nearest)(words, p, &mut m, &mut l).fewest as u32;
+                }
+            }
+            answer
+        },
+        ..twin::side()
+    };
+    by_services(seed, &side)
+}
+
+/// A wrong answer is tried on random functions.
+fn by_services(seed: u64, side: &Side) -> String {
+    let mut rng = Rng::new(seed);
+    for _ in 0..1_000_000 {
+        let case = services::case(&mut rng, 24);
+        if services::compare(side, &case).is_err() {
+            return services::report(side.name, &case, |c| services::compare(side, c).map(|_| ()));
         }
     }
     panic!("{} was not caught", side.name);

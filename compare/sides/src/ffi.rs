@@ -8,6 +8,7 @@ use model::flat::Record;
 use model::input::Input;
 use model::meter::Meter;
 use model::run::RunAnswer;
+use model::service::{Crossed, Nearest};
 use model::Answer;
 
 /// The meter as it is lent: include/lawendeb.h. begun is 0, or any other number.
@@ -59,6 +60,35 @@ pub mod twin {
             lengths: *mut u32,
             lengths_n: usize,
         ) -> RunAnswer;
+        fn twin_distance_to_service(
+            words: *const u32,
+            n: usize,
+            w: usize,
+            marks: *mut u8,
+            marks_n: usize,
+            lengths: *mut u32,
+            lengths_n: usize,
+        ) -> Nearest;
+        fn twin_list_within(
+            words: *const u32,
+            n: usize,
+            d: usize,
+            marks: *mut u8,
+            marks_n: usize,
+            lengths: *mut u32,
+            lengths_n: usize,
+            list: *mut u8,
+            list_n: usize,
+        ) -> Answer;
+        fn twin_crossing_edges(
+            words: *const u32,
+            n: usize,
+            w: usize,
+            marks: *mut u8,
+            marks_n: usize,
+            lengths: *mut u32,
+            lengths_n: usize,
+        ) -> Crossed;
         fn twin_begin(m: *mut LentMeter);
         fn twin_feed(words: *const u32, n: usize, weights: *const u8, weights_n: usize, m: *mut LentMeter, q: usize) -> Answer;
         fn twin_lift(
@@ -83,6 +113,15 @@ pub mod twin {
             successors: |w, p| unsafe { twin_successors(w.as_ptr(), w.len(), p) }.into(),
             run: |w, t, m, l| unsafe {
                 twin_longest_run(w.as_ptr(), w.len(), t.as_ptr(), t.len(), m.as_mut_ptr(), m.len(), l.as_mut_ptr(), l.len())
+            },
+            nearest: |w, p, m, l| unsafe {
+                twin_distance_to_service(w.as_ptr(), w.len(), p, m.as_mut_ptr(), m.len(), l.as_mut_ptr(), l.len())
+            },
+            within: |w, d, m, l, s| unsafe {
+                twin_list_within(w.as_ptr(), w.len(), d, m.as_mut_ptr(), m.len(), l.as_mut_ptr(), l.len(), s.as_mut_ptr(), s.len())
+            },
+            crossed: |w, p, m, l| unsafe {
+                twin_crossing_edges(w.as_ptr(), w.len(), p, m.as_mut_ptr(), m.len(), l.as_mut_ptr(), l.len())
             },
             begin: |m| lend(m, |m| unsafe { twin_begin(m) }),
             feed: |w, t, m, q| lend(m, |m| unsafe { twin_feed(w.as_ptr(), w.len(), t.as_ptr(), t.len(), m, q) }),
@@ -129,6 +168,35 @@ pub mod rattle {
             lengths: *mut u32,
             lengths_n: usize,
         ) -> RunAnswer;
+        fn lawendeb_distance_to_service(
+            words: *const u32,
+            n: usize,
+            w: usize,
+            marks: *mut u8,
+            marks_n: usize,
+            lengths: *mut u32,
+            lengths_n: usize,
+        ) -> Nearest;
+        fn lawendeb_list_within(
+            words: *const u32,
+            n: usize,
+            d: usize,
+            marks: *mut u8,
+            marks_n: usize,
+            lengths: *mut u32,
+            lengths_n: usize,
+            list: *mut u8,
+            list_n: usize,
+        ) -> Answer;
+        fn lawendeb_crossing_edges(
+            words: *const u32,
+            n: usize,
+            w: usize,
+            marks: *mut u8,
+            marks_n: usize,
+            lengths: *mut u32,
+            lengths_n: usize,
+        ) -> Crossed;
         fn lawendeb_begin(m: *mut LentMeter);
         fn lawendeb_feed_3(words: *const u32, n: usize, weights: *const u8, weights_n: usize, m: *mut LentMeter, q: usize) -> Answer;
     }
@@ -139,6 +207,15 @@ pub mod rattle {
             successors: |w, p| unsafe { lawendeb_successors(w.as_ptr(), w.len(), p) }.into(),
             run: |w, t, m, l| unsafe {
                 lawendeb_longest_run_3(w.as_ptr(), w.len(), t.as_ptr(), t.len(), m.as_mut_ptr(), m.len(), l.as_mut_ptr(), l.len())
+            },
+            nearest: |w, p, m, l| unsafe {
+                lawendeb_distance_to_service(w.as_ptr(), w.len(), p, m.as_mut_ptr(), m.len(), l.as_mut_ptr(), l.len())
+            },
+            within: |w, d, m, l, s| unsafe {
+                lawendeb_list_within(w.as_ptr(), w.len(), d, m.as_mut_ptr(), m.len(), l.as_mut_ptr(), l.len(), s.as_mut_ptr(), s.len())
+            },
+            crossed: |w, p, m, l| unsafe {
+                lawendeb_crossing_edges(w.as_ptr(), w.len(), p, m.as_mut_ptr(), m.len(), l.as_mut_ptr(), l.len())
             },
             begin: |m| lend(m, |m| unsafe { lawendeb_begin(m) }),
             feed: |w, t, m, q| lend(m, |m| unsafe { lawendeb_feed_3(w.as_ptr(), w.len(), t.as_ptr(), t.len(), m, q) }),

@@ -4,6 +4,7 @@ use model::flat::Record;
 use model::input::Input;
 use model::meter::Meter;
 use model::run::RunAnswer;
+use model::service::{Crossed, Nearest};
 use model::Answer;
 
 pub mod ffi;
@@ -20,6 +21,12 @@ pub struct Side {
     pub successors: fn(&[u32], usize) -> Successors,
     /// Words, weights, marks, lengths.
     pub run: fn(&[u32], &[u8], &mut [u8], &mut [u32]) -> RunAnswer,
+    /// Words, word number, marks, lengths.
+    pub nearest: fn(&[u32], usize, &mut [u8], &mut [u32]) -> Nearest,
+    /// Words, d, marks, lengths, list.
+    pub within: fn(&[u32], usize, &mut [u8], &mut [u32], &mut [u8]) -> Answer,
+    /// Words, word number, marks, lengths.
+    pub crossed: fn(&[u32], usize, &mut [u8], &mut [u32]) -> Crossed,
     pub begin: fn(&mut Meter),
     /// Words, weights, meter, word number.
     pub feed: fn(&[u32], &[u8], &mut Meter, usize) -> Answer,
@@ -43,6 +50,9 @@ pub fn model_side() -> Side {
             Successors { bad: s.bad, list: [s.list().first().copied(), s.list().get(1).copied()] }
         },
         run: model::run::run,
+        nearest: model::service::nearest,
+        within: model::service::within,
+        crossed: model::service::crossed,
         begin: model::meter::begin,
         feed: model::meter::feed,
         feed_all: |words, weights, m, list| {

@@ -59,11 +59,11 @@ module _ (ws : List ℕ) (w a b : ℕ) where
   crossing-count =
       record {
         count =
-          λ r. (
-            crossingEdges (graphOf ws) w,
-            record { all = edges .listed; once = edges .once (λ p. different (length ws) (successorsOf ws p) (laws .below ws p)) },
-            by-accepted r ∙ ap Crossed.Count counts,
-          );
+            λ r. (
+              crossingEdges (graphOf ws) w,
+              record { all = edges .listed; once = edges .once (λ p. different (length ws) (successorsOf ws p) (laws .below ws p)) },
+              by-accepted r ∙ ap Crossed.Count counts,
+            );
         past-end = λ r h. by-accepted r ∙ ap Crossed.Count (edges .past-end h);
         refused = λ n p. (refused-by n p, by-refused n p);
       }

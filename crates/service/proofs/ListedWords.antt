@@ -90,16 +90,16 @@ module _ (ws : List ℕ) (d : ℕ) (m l list : List ℕ) where
           answered = answer-is;
           listed = λ p h. (λ e. within-of p h (sym (at p h) ∙ e), λ i. at p h ∙ of-within p i);
           others =
-            λ p h. (
-              λ e i. let z : _≡_ {A = ℕ} 1 0 = sym (of-within p i) ∙ sym (at p h) ∙ e in omega arith,
-              λ n. at p h ∙ listed-bit d (markOf (graphOf ws) p) (distanceOf (graphOf ws) p) (λ e. n (within-of p h e)),
-            );
+              λ p h. (
+                λ e i. let z : _≡_ {A = ℕ} 1 0 = sym (of-within p i) ∙ sym (at p h) ∙ e in omega arith,
+                λ n. at p h ∙ listed-bit d (markOf (graphOf ws) p) (distanceOf (graphOf ws) p) (λ e. n (within-of p h e)),
+              );
           nothing = λ z p h. at p h ∙ none-within z p h;
           kept =
-            record {
-              size = ap length list-is ∙ over-laws .length-over (listedAt (graphOf ws) d) (length ws) list long;
-              past = ap (drop (length ws)) list-is ∙ over-laws .past (listedAt (graphOf ws) d) (length ws) list;
-            };
+              record {
+                size = ap length list-is ∙ over-laws .length-over (listedAt (graphOf ws) d) (length ws) list long;
+                past = ap (drop (length ws)) list-is ∙ over-laws .past (listedAt (graphOf ws) d) (length ws) list;
+              };
         }
 
   refusal : length ws ≤ length list → (n p : ℕ) → unitRun ws (length m) (length l) ≡ Run.Refused n p → withinOf ws (length m) (length l) (length list) ≡ answer n p

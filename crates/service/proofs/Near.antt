@@ -85,9 +85,9 @@ module _ (ws l₀ : List ℕ) where
       record {
         long = omega (arith, f .fits .long, f .same);
         low =
-          λ q a b.
-          let d = distances (graphOf ws) (laws .lawful ws) .few q b in
-          omega (arith, f .from q (omega arith) b, d, f .fits .few);
+            λ q a b.
+            let d = distances (graphOf ws) (laws .lawful ws) .few q b in
+            omega (arith, f .from q (omega arith) b, d, f .fits .few);
       }
 
   pub filling-more : (l : List ℕ) (p v : ℕ) → Filling ws l₀ l (p + 1) → v ≡ nearer (graphOf ws) (at l) p → Filling ws l₀ (set l p v) p
@@ -97,8 +97,8 @@ module _ (ws l₀ : List ℕ) where
         same = simp length-set (f .same);
         upto = omega (arith, f .upto);
         from =
-          λ q a b.
-          ⊎-elim (λ w. w .1 ∙ e ∙ sym turn ∙ ap (distanceOf (graphOf ws)) (sym (w .0))) (λ w. w .1 ∙ f .from q (above q a (w .0)) b) (at-set l p v q inside);
+            λ q a b.
+            ⊎-elim (λ w. w .1 ∙ e ∙ sym turn ∙ ap (distanceOf (graphOf ws)) (sym (w .0))) (λ w. w .1 ∙ f .from q (above q a (w .0)) b) (at-set l p v q inside);
         past = drop-set-lt (length ws) l p v (omega (arith, f .upto)) ∙ f .past;
       }
     where

@@ -169,10 +169,10 @@ module _ (ws : List ℕ) (w a b : ℕ) where
       record {
         fewest = λ r s. (distanceOf (graphOf ws) w, by-accepted r ∙ sym (fewest-found ws w (reach-below ws w s) (reach-mark ws w s) refl), fewest-words ws a b r w s);
         exact =
-          λ k e.
-          let r = by-fewest k e in
-          let f = found-is ws w k (sym (by-accepted r) ∙ e) in
-          (f .0, subst (λ (x : ℕ). FewestWords ws w x) (f .1) (fewest-words ws a b r w (f .0)));
+            λ k e.
+            let r = by-fewest k e in
+            let f = found-is ws w k (sym (by-accepted r) ∙ e) in
+            (f .0, subst (λ (x : ℕ). FewestWords ws w x) (f .1) (fewest-words ws a b r w (f .0)));
         unreachable = λ r. (λ n. by-accepted r ∙ sym (not-reached ws w n), λ e s. nowhere-not r e s);
         past-end = λ r h. by-accepted r ∙ sym (fewest-past ws w h);
         refused = λ n p. (refused-by n p, by-refused n p);

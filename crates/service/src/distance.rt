@@ -40,7 +40,12 @@ fn try_distance(words: &[u32], w: usize, marks: usize, lengths: &mut [u32]) -> u
 
 // The fewest words from word w, or the run's refusal with all weights 1. The slices get what that run leaves. The distance is found
 // before it, so that the run need not be made again for the lengths.
-pub fn distance_to_service(words: &[u32], w: usize, marks: &mut [u8], lengths: &mut [u32]) -> Nearest
+pub fn distance_to_service(
+    words: &[u32],
+    w: usize,
+    marks: &mut [u8],
+    lengths: &mut [u32],
+) -> Nearest
     ensures { λ r. ⌜ r ≡ nearestOf (now (words .entry)) w (length (now (marks .entry))) (length (now (lengths .entry))) ⌝ }
     ensures { λ _. ⌜ now (marks .exit) ≡ marksAfter (now (words .entry)) ones (now (marks .entry)) (now (lengths .entry)) ⌝ }
     ensures { λ _. ⌜ now (lengths .exit) ≡ lengthsAfter (now (words .entry)) ones (now (marks .entry)) (now (lengths .entry)) ⌝ }
