@@ -138,8 +138,8 @@ struct lawendeb_run lawendeb_longest_run(const uint32_t *words, size_t n, const 
    Marks and lengths need n places at least, and get what that run leaves in them. Refusals are that
    run's: 1, 6, 7 and 8, tried in this order. */
 
-/* The fewest words from word `w` on, itself counted, to a return or a word with a serving step: 1 if
-   it is one. found is 0, and fewest too, if the word is not reachable or past the end. */
+/* The fewest words from word `w` on, itself counted, to a return or a word with a serving step: 1
+   if it is one. found is 0, and fewest too, if the word is not reachable or past the end. */
 struct lawendeb_nearest {
     uint64_t number, place, found, fewest;
 };
@@ -148,9 +148,10 @@ struct lawendeb_nearest lawendeb_distance_to_service(const uint32_t *words, size
                                                      uint8_t *marks, size_t marks_n,
                                                      uint32_t *lengths, size_t lengths_n);
 
-/* Lists the reachable words whose fewest is at most `d`: the list needs n places at least, too, and
-   gets 1 for a listed word, else 0. What lies past n stays as it was, and all of it on a refusal. A
-   list that is too short is refused by 6, which leaves marks and lengths as they were. */
+/* Lists the reachable words whose fewest is at most `d`: the list needs n places at least, too,
+   and gets 1 for a listed word, else 0. What lies past n stays as it was, and all of it on a
+   refusal. A list that is too short is refused by 6, which leaves marks and lengths as they
+   were. */
 struct lawendeb_answer lawendeb_list_within(const uint32_t *words, size_t n, size_t d,
                                             uint8_t *marks, size_t marks_n, uint32_t *lengths,
                                             size_t lengths_n, uint8_t *list, size_t list_n);

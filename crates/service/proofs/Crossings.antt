@@ -1,8 +1,8 @@
 -- The crossing edges of a function's words are those that the request names. Assumes nothing.
-use mathlib.Core.Path.{_≡_, refl, sym, ap, subst, _∙_}
-use mathlib.Core.Logic.{_↔_, inl, inr, ⊎-elim}
-use mathlib.Core.List.{List, [], _∷_}
-use Prim.Native.Nat.{ℕ, _≤_, _<_}
+use mathlib.Core.Path.{_≡_, refl, ap, _∙_}
+use mathlib.Core.Logic.{⊎-elim}
+use mathlib.Core.List.{List}
+use Prim.Native.Nat.{ℕ, _<_}
 use native.Mathlib.Omega.{arith}
 use lib.ListN.{length}
 use Rattle.graph.specs.Crossing.{crossingEdges, crossingOf, Different, Crossing}
@@ -19,7 +19,7 @@ use Rattle.service.specs.declared.crossing.Crossed.{Crossed}
 use Rattle.service.specs.declared.crossing.Crossed.the-variants as Crossed
 use Rattle.service.specs.Questions.{unitRun, crossedBy, crossedOf}
 use Rattle.service.specs.Nearest.{AcceptedRun}
-use Rattle.service.specs.Crossings.{CrossingSteps, CrossingCount}
+use Rattle.service.specs.Crossings.{CrossingCount}
 
 -- two steps of a word differ
 different : (n : ℕ) (s : Successors) → Below n s → Different (listOf s)

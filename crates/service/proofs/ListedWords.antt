@@ -1,6 +1,6 @@
 -- What is listed, and what the slices then hold. Assumes nothing.
 use mathlib.Core.Path.{_≡_, refl, sym, ap, _∙_}
-use mathlib.Core.Logic.{_↔_, ⊎-elim}
+use mathlib.Core.Logic.{⊎-elim}
 use mathlib.Core.Bool.{Bool, true, false, cond, _&&_}
 use mathlib.Core.List.{List}
 use Prim.Native.Nat.{ℕ, _≤_, _<_}
@@ -14,9 +14,8 @@ use Rattle.common.specs.Chain.{refuseIf, answer, accepted}
 use Rattle.common.specs.Lists.{over}
 use Rattle.common.proofs.Order.{split}
 use Rattle.common.proofs.Over.{over-laws}
-use Rattle.graph.specs.Graph.{Reachable}
 use Rattle.graph.specs.Marks.{markOf}
-use Rattle.graph.specs.Distance.{distanceOf, Distance}
+use Rattle.graph.specs.Distance.{distanceOf}
 use Rattle.graph.proofs.Distance.{distances}
 use Rattle.runs.specs.declared.longest.Run.the-variants as Run
 use Rattle.runs.specs.Instance.{graphOf}
@@ -24,10 +23,10 @@ use Rattle.runs.specs.Run.{numberOf, marksAfter, lengthsAfter}
 use Rattle.runs.specs.Counted.{ones}
 use Rattle.runs.proofs.Laws.{laws}
 use Rattle.service.specs.Questions.{unitRun, listedOf, listedAt, withinOf, marksWithin, lengthsWithin, listWithin}
-use Rattle.service.specs.Nearest.{FewestWords, AcceptedRun}
-use Rattle.service.specs.ListedWords.{IsWithin, Listed, ListWithin}
+use Rattle.service.specs.Nearest.{AcceptedRun}
+use Rattle.service.specs.ListedWords.{IsWithin, WordsListed, ListWithin}
 use Rattle.service.proofs.Slices.{run-many}
-use Rattle.service.proofs.Nearest.{fewest-words, fewest-one, reach-mark, reach-below, mark-reach}
+use Rattle.service.proofs.Nearest.{fewest-words, fewest-one, reach-mark, mark-reach}
 use Rattle.service.proofs.Outcome.{within-many, within-short, within-refused, within-accepted}
 
 -- the number of a listed word
@@ -84,7 +83,7 @@ module _ (ws : List ℕ) (d : ℕ) (m l list : List ℕ) where
         let s = distances (graphOf ws) (laws .lawful ws) .some p (mark-reach ws p h (o .0)) in
         omega (arith, o .1))
 
-    listed-all : Listed ws d m l list
+    listed-all : WordsListed ws d m l list
     listed-all =
         record {
           answered = answer-is;

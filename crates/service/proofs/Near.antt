@@ -1,6 +1,6 @@
 -- The pass over the distances: one word's from those above it, and all of them. Assumes nothing.
 use mathlib.Core.Path.{_≡_, refl, sym, ap, subst, _∙_}
-use mathlib.Core.Logic.{_⊎_, inl, inr, ⊎-elim}
+use mathlib.Core.Logic.{_⊎_, ⊎-elim}
 use mathlib.Core.Bool.{true, false, cond}
 use mathlib.Core.List.{List}
 use Prim.Native.Nat.{ℕ, _+_, _≤_, _<_, min}
@@ -14,7 +14,7 @@ use Rattle.common.proofs.Stores.{at-set}
 use Rattle.graph.specs.Distance.{endsBy, leastOf, nearer, distanceOf}
 use Rattle.graph.proofs.Distance.{distances}
 use Rattle.runs.specs.declared.edges.Successors.{Successors}
-use Rattle.runs.specs.declared.edges.Successors.the-variants.{Invalid, Stop, One, Two}
+use Rattle.runs.specs.declared.edges.Successors.the-variants.{One, Two}
 use Rattle.runs.specs.Steps.{listOf, servesOf, Below}
 use Rattle.runs.specs.Successors.{successorsOf}
 use Rattle.runs.specs.Instance.{graphOf}

@@ -1,6 +1,6 @@
 -- The distance to service is what the request says of stretches. Assumes nothing.
 use mathlib.Core.Path.{_≡_, refl, sym, ap, subst, _∙_}
-use mathlib.Core.Logic.{_⊎_, _↔_, inl, inr, ⊎-elim}
+use mathlib.Core.Logic.{_⊎_, inl, inr, ⊎-elim}
 use mathlib.Core.Bool.{Bool, true, false, cond, _&&_}
 use mathlib.Core.List.{List, [], _∷_, _++_}
 use Prim.Native.Nat.{ℕ, zero, suc, _≤_, _<_}
@@ -9,21 +9,20 @@ use lib.Dec.{ltb, eqb}
 use lib.ListN.{length, getD, replicate}
 use borrow.Author.Tests.{ltb-true, eqb-true}
 use Rattle.common.specs.Numbers.{«ACCEPTED», «REACHES_INVALID»}
-use Rattle.common.proofs.Order.{split, same-or-not}
+use Rattle.common.proofs.Order.{split}
 use Rattle.graph.specs.Graph.{Graph, In, Reachable, Segment}
 use Rattle.graph.specs.Marks.{markOf}
-use Rattle.graph.specs.Distance.{Ends, lastOf, distanceOf, Distance}
+use Rattle.graph.specs.Distance.{Ends, lastOf, distanceOf}
 use Rattle.graph.proofs.Distance.{distances}
 use Rattle.graph.proofs.Laws.{laws as graph-laws}
 use Rattle.runs.specs.declared.longest.Run.{Run}
 use Rattle.runs.specs.declared.longest.Run.the-variants as Run
-use Rattle.runs.specs.Steps.{isInvalid, listOf}
+use Rattle.runs.specs.Steps.{isInvalid}
 use Rattle.runs.specs.Successors.{successorsOf}
 use Rattle.runs.specs.Instance.{graphOf}
 use Rattle.runs.specs.Weights.{heaviestWeight}
 use Rattle.runs.specs.Run.{runOf, numberOf}
 use Rattle.runs.specs.Counted.{ones}
-use Rattle.runs.specs.Demand.{MeetsInvalid, Demand}
 use Rattle.runs.proofs.Laws.{laws}
 use Rattle.service.specs.declared.distance.Nearest.{Nearest}
 use Rattle.service.specs.declared.distance.Nearest.the-variants as Nearest

@@ -1,10 +1,10 @@
 -- The whole outcome of each question from that of the run. Assumes nothing.
 use mathlib.Core.Path.{_≡_, refl, sym, ap, subst, _∙_}
-use mathlib.Core.Bool.{Bool, true, false, cond, false≢true}
+use mathlib.Core.Bool.{Bool, true, false}
 use mathlib.Core.List.{List}
 use Prim.Native.Nat.{ℕ, _≤_, _<_}
 use native.Mathlib.Omega.{arith}
-use lib.Dec.{ltb, leb, eqb}
+use lib.Dec.{ltb}
 use lib.ListN.{length, getD, drop}
 use borrow.Author.Tests.{lt-ltb, le-ltb, eq-eqb, ne-eqb}
 use Rattle.common.specs.Limits.{mostWords}
@@ -19,7 +19,7 @@ use Rattle.graph.specs.Crossing.{crossingOf}
 use Rattle.runs.specs.declared.longest.Run.{Run}
 use Rattle.runs.specs.declared.longest.Run.the-variants as Run
 use Rattle.runs.specs.Instance.{graphOf}
-use Rattle.runs.specs.Run.{runOf, numberOf, untouched, numberIs, marksAfter, lengthsAfter}
+use Rattle.runs.specs.Run.{runOf, numberOf, numberIs, marksAfter, lengthsAfter}
 use Rattle.runs.specs.Counted.{ones}
 use Rattle.runs.proofs.Laws.{laws}
 use Rattle.service.specs.declared.distance.Nearest.{Nearest}
@@ -27,7 +27,7 @@ use Rattle.service.specs.declared.distance.Nearest.the-variants as Neare
 use Rattle.service.specs.declared.crossing.Crossed.{Crossed}
 use Rattle.service.specs.declared.crossing.Crossed.the-variants as Crossed
 use Rattle.service.specs.Questions.{fewestOf, nearestBy, nearestOf, crossedBy, crossedOf, listedAt, withinOf, marksWithin, lengthsWithin, listWithin}
-use Rattle.service.specs.Pass.{Fits, Tried, listedBy, Marked, ListAsks}
+use Rattle.service.specs.Pass.{Tried, listedBy, Marked}
 use Rattle.service.proofs.Slices.{run-many, many-marks, many-lengths, touched, lengths-same, marks-same}
 
 -- the answer of a run that is accepted, or refused

@@ -33,7 +33,7 @@ module _ (ws : List ℕ) (d : ℕ) (marks lengths list : List ℕ) where
   run number place = unitRun ws (length marks) (length lengths) ≡ Run.Refused number place
 
   -- an accepted function, and a list with a place for each word
-  pub record Listed : Type 0 where
+  pub record WordsListed : Type 0 where
     pub answered : withinOf ws (length marks) (length lengths) (length list) ≡ accepted
     -- "list which reachable words have one within d words", "1 for a listed word"
     pub listed : (p : ℕ) → p < length ws → (getD after p 0 ≡ 1) ↔ IsWithin ws d p
@@ -45,7 +45,7 @@ module _ (ws : List ℕ) (d : ℕ) (marks lengths list : List ℕ) where
     pub kept : Kept (length ws) list after
 
   pub record ListWithin : Type 0 where
-    pub accepted-run : AcceptedRun ws (length marks) (length lengths) → length ws ≤ length list → Listed
+    pub accepted-run : AcceptedRun ws (length marks) (length lengths) → length ws ≤ length list → WordsListed
     -- "A refused function gets the longest run's refusal with all weights 1"
     pub refused : length ws ≤ length list → (number place : ℕ) → run number place → withinOf ws (length marks) (length lengths) (length list) ≡ answer number place
     -- "The list is a lent slice, .. under number 6": after number 1, and before the others

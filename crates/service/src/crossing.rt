@@ -9,7 +9,7 @@ ghost use Rattle.runs.specs.Counted.{ones};
 ghost use Rattle.runs.specs.Instance.{graphOf};
 ghost use Rattle.service.specs.Questions.{crossedOf};
 ghost use Rattle.service.specs.Pass.{CrossesFrom, Marked};
-use crate::counted::counted_run;
+use crate::unit::unit_run;
 use runs::Run;
 use runs::edges::Successors;
 use runs::successors::successors;
@@ -82,7 +82,7 @@ pub fn crossing_edges(words: &[u32], w: usize, marks: &mut [u8], lengths: &mut [
     ensures { λ _. ⌜ now (marks .exit) ≡ marksAfter (now (words .entry)) ones (now (marks .entry)) (now (lengths .entry)) ⌝ }
     ensures { λ _. ⌜ now (lengths .exit) ≡ lengthsAfter (now (words .entry)) ones (now (marks .entry)) (now (lengths .entry)) ⌝ }
 {
-    let run = counted_run(words, marks, lengths);
+    let run = unit_run(words, marks, lengths);
     match run {
         Run::Refused { number, place } => {
             return Crossed::Refused { number, place };

@@ -5,8 +5,8 @@ ghost use Rattle.runs.specs.Run.{marksAfter, lengthsAfter};
 ghost use Rattle.runs.specs.Counted.{ones};
 ghost use Rattle.service.specs.Questions.{nearestOf};
 ghost use Rattle.service.specs.Pass.{Tried};
-use crate::counted::counted_run;
 use crate::pass::fill_distances;
+use crate::unit::unit_run;
 use common::limits::MOST_WORDS;
 use runs::Run;
 
@@ -51,7 +51,7 @@ pub fn distance_to_service(
     ensures { λ _. ⌜ now (lengths .exit) ≡ lengthsAfter (now (words .entry)) ones (now (marks .entry)) (now (lengths .entry)) ⌝ }
 {
     let fewest = try_distance(words, w, marks.len(), lengths);
-    let run = counted_run(words, marks, lengths);
+    let run = unit_run(words, marks, lengths);
     match run {
         Run::Refused { number, place } => {
             return Nearest::Refused { number, place };

@@ -1,9 +1,9 @@
 // Over runs, by its public functions: how far each word is from a service, and how many edges pass over a word (request C-22).
-mod counted;
 pub mod crossing;
 pub mod distance;
 pub mod exported;
 mod pass;
+mod unit;
 pub mod within;
 
 pub use crossing::Crossed;

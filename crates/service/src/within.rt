@@ -8,8 +8,8 @@ ghost use Rattle.runs.specs.Run.{marksAfter, lengthsAfter};
 ghost use Rattle.runs.specs.Counted.{ones};
 ghost use Rattle.service.specs.Questions.{listedOf, listedAt, withinOf, marksWithin, lengthsWithin, listWithin};
 ghost use Rattle.service.specs.Pass.{listedBy, ListAsks};
-use crate::counted::counted_run;
 use crate::pass::fill_distances;
+use crate::unit::unit_run;
 use common::Answer;
 use common::limits::MOST_WORDS;
 use common::numbers::*;
@@ -50,7 +50,7 @@ fn list_accepted(words: &[u32], d: usize, marks: &mut [u8], lengths: &mut [u32],
 {
     fill_distances(words, lengths);
     write_list(words.len(), d, marks, lengths, list);
-    counted_run(words, marks, lengths);
+    unit_run(words, marks, lengths);
 }
 
 // Which reachable words have a service within d words: 1 for a listed word, else 0. The slices get what the run with all weights 1
@@ -80,7 +80,7 @@ pub fn list_within(
             place: 0,
         };
     }
-    let run = counted_run(words, marks, lengths);
+    let run = unit_run(words, marks, lengths);
     match run {
         Run::Refused { number, place } => {
             return Answer { number, place };

@@ -1,11 +1,8 @@
 use mathlib.Core.Path.{_≡_, sym, _∙_}
-use Prim.Native.Nat.{_<_}
 use native.Mathlib.Omega.{arith}
-use lib.ListN.{length, getD}
+use lib.ListN.{length}
 use borrow.Author.Needs.{needs}
 use Rattle.common.specs.Numbers.{«ACCEPTED»}
-use Rattle.graph.specs.Marks.{markOf}
-use Rattle.runs.specs.Instance.{graphOf}
 use Rattle.runs.specs.Run.{numberIs}
 use Rattle.runs.specs.Counted.{ones}
 use Rattle.service.specs.Pass.{Marked, Tried}
@@ -16,12 +13,12 @@ use Rattle.service.proofs.distance.distance_to_service.Tie as tie
 
 returns : tie.Need-returns
 returns c =
-    let r = c .before .before .before .before .before .before .before .counted-run .ensures in
+    let r = c .before .before .before .before .before .before .before .unit-run .ensures in
     nearest-refused _ _ _ _ _ (c .before .before .before .before .before .before .before .before .before .before .before .before .try-distance .ensures) (r .0) (c .before .run .given .1) (r .1 .0) (r .1 .1)
 
 -- the run accepts, and its marks are there
 module _ (c : tie.After-known-told2) where
-  abbrev run-at : tie.After-counted-run
+  abbrev run-at : tie.After-unit-run
   run-at = c .before .before .before .before .before .before .before
 
   abbrev start : tie.Start
@@ -31,28 +28,28 @@ module _ (c : tie.After-known-told2) where
   tried = c .before .before .before .before .before .before .before .before .before .before .before .before .try-distance .ensures
 
   accepted : numberIs (start .args .words .now) ones (start .args .marks .now) (start .args .lengths .now) ≡ «ACCEPTED»
-  accepted = run-accepted (start .args .words .now) (start .args .marks .now) (start .args .lengths .now) (run-is _ _ (start .args .marks .now) (start .args .lengths .now) _ tried (run-at .counted-run .ensures .0)) (c .before .run2 .given .1)
+  accepted = run-accepted (start .args .words .now) (start .args .marks .now) (start .args .lengths .now) (run-is _ _ (start .args .marks .now) (start .args .lengths .now) _ tried (run-at .unit-run .ensures .0)) (c .before .run2 .given .1)
 
-  marked : Marked (start .args .words .now) (run-at .counted-run .last .1 .0)
-  marked = marked-by (start .args .words .now) (start .args .marks .now) (c .before .before .before .before .before .before .before .before .before .before .before .before .try-distance .last .1 .1 .1 .0) (run-accepted (start .args .words .now) (start .args .marks .now) (c .before .before .before .before .before .before .before .before .before .before .before .before .try-distance .last .1 .1 .1 .0) (run-at .counted-run .ensures .0) (c .before .run2 .given .1)) _ (run-at .counted-run .ensures .1 .0) (run-at .counted-run .kept .1 .0)
+  marked : Marked (start .args .words .now) (run-at .unit-run .last .1 .0)
+  marked = marked-by (start .args .words .now) (start .args .marks .now) (c .before .before .before .before .before .before .before .before .before .before .before .before .try-distance .last .1 .1 .1 .0) (run-accepted (start .args .words .now) (start .args .marks .now) (c .before .before .before .before .before .before .before .before .before .before .before .before .try-distance .last .1 .1 .1 .0) (run-at .unit-run .ensures .0) (c .before .run2 .given .1)) _ (run-at .unit-run .ensures .1 .0) (run-at .unit-run .kept .1 .0)
 
 returns-2 : tie.Need-returns-2
 returns-2 c =
     let d = c .before in
-    let r = run-at d .counted-run .ensures in
+    let r = run-at d .unit-run .ensures in
     nearest-accepted _ _ _ _ _ (tried d) (r .0) (d .before .run2 .given .1) (r .1 .0) (r .1 .1) (fewest-past _ _ (c .if1 .taken))
 
 returns-3 : tie.Need-returns-3
 returns-3 c =
     let d = c .before .before .before in
-    let r = run-at d .counted-run .ensures in
+    let r = run-at d .unit-run .ensures in
     let h = c .before .before .if1 .left in
     nearest-accepted _ _ _ _ _ (tried d) (r .0) (d .before .run2 .given .1) (r .1 .0) (r .1 .1) (fewest-found _ _ h (sym (marked d .marks _ h) ∙ c .if2 .taken) (tried d .fewest (accepted d) h))
 
 returns-4 : tie.Need-returns-4
 returns-4 c =
     let d = c .before .before .before in
-    let r = run-at d .counted-run .ensures in
+    let r = run-at d .unit-run .ensures in
     let h = c .before .before .if1 .left in
     nearest-accepted _ _ _ _ _ (tried d) (r .0) (d .before .run2 .given .1) (r .1 .0) (r .1 .1) (fewest-not _ _ h (λ e. c .if2 .left (marked d .marks _ h ∙ e)))
 

@@ -21,7 +21,7 @@ returns : tie.Need-returns
 returns c =
     let s = c .before .before .before .before .before .before .before .before .before .before .before .before .before .before .before .before .before .before .before .before .before in
     let f = c .before .before .before .before .before .before .before .before .before .before .before .before .before .before .before .fill-distances in
-    let r = c .before .before .before .before .counted-run .ensures in (
+    let r = c .before .before .before .before .unit-run .ensures in (
       r .1 .0 ∙ marks-same (s .args .words .now) (s .args .marks .now) (s .args .lengths .now) (f .last .1 .0) (f .kept .1 .0),
       (
         r .1 .1 ∙ again-lengths (s .args .words .now) (s .args .marks .now) (s .args .lengths .now) (s .args .marks .now) (f .last .1 .0) (s .pre .accepted) refl (f .kept .1 .0) (distances-past (s .args .words .now) (s .args .d) (s .args .marks .now) (s .args .lengths .now) (s .args .list .now) (f .last .1 .0) (f .ensures)),

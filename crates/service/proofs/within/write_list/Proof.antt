@@ -1,7 +1,5 @@
-use Prim.Native.Nat.{ℕ, _-_, _≤_, _<_}
-use mathlib.Core.Path.{_≡_, refl, sym, ap, _∙_}
+use Prim.Native.Nat.{_-_}
 use native.Mathlib.Omega.{arith}
-use lib.ListN.{length}
 use borrow.Author.Needs.{needs}
 use Rattle.service.specs.Pass.{listedBy}
 use Rattle.service.proofs.Writing.{Writing, writing-none, writing-more, writing-done}

@@ -7,7 +7,7 @@ use runs::Run;
 use runs::weighing::WEIGHTS;
 
 // The longest run with all weights 1.
-pub(crate) fn counted_run(words: &[u32], marks: &mut [u8], lengths: &mut [u32]) -> Run
+pub(crate) fn unit_run(words: &[u32], marks: &mut [u8], lengths: &mut [u32]) -> Run
     ensures { λ r. ⌜ r ≡ runOf (now (words .entry)) ones (length (now (marks .entry))) (length (now (lengths .entry))) ⌝ }
     ensures { λ _. ⌜ now (marks .exit) ≡ marksAfter (now (words .entry)) ones (now (marks .entry)) (now (lengths .entry)) ⌝ }
     ensures { λ _. ⌜ now (lengths .exit) ≡ lengthsAfter (now (words .entry)) ones (now (marks .entry)) (now (lengths .entry)) ⌝ }
