@@ -116,15 +116,12 @@ fn fail(side: &str, c: &Case, test: impl Fn(&Case) -> Result<(), String>) -> ! {
 }
 
 fn hold(sides: &[Side], c: &Case, counts: &mut Counts) {
+    let mut all = (0, Answer::default());
     for side in sides {
-        match compare(side, c) {
-            Ok((asked, answer)) => {
-                counts.questions += asked;
-                *counts.answers.entry(answer.number).or_default() += 1;
-            }
-            Err(_) => fail(side.name, c, |c| compare(side, c).map(|_| ())),
-        }
+        all = compare(side, c).unwrap_or_else(|_| fail(side.name, c, |c| compare(side, c).map(|_| ())));
     }
+    counts.questions += all.0;
+    *counts.answers.entry(all.1.number).or_default() += 1;
     if c.words.len() <= 12 {
         counts.brute += 1;
         if compare_brute(c).is_err() {
