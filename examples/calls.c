@@ -95,6 +95,10 @@ static int ran(struct lawendeb_run r, uint64_t number, uint64_t place, uint64_t 
     return r.number == number && r.place == place && r.longest == longest && r.first == first;
 }
 
+static int answered(struct lawendeb_answer a, uint64_t number, uint64_t place) {
+    return a.number == number && a.place == place;
+}
+
 /* Weights of 1, and others: LOADI 10, ADDI 20, MMBINI 30, JMP 40, the unknown 83 50, the rest 255;
    with a place more, to lend one too many. */
 static uint8_t ones[LAWENDEB_WEIGHTS], others[LAWENDEB_WEIGHTS + 1];
@@ -253,11 +257,91 @@ static void ranges(void) {
     CHECK(marks[0] == 1 && lengths[0] == 0 && lent_from(1));
 }
 
-/* ---- the meter */
+/* ---- nearest service and crossing steps */
 
-static int answered(struct lawendeb_answer a, uint64_t number, uint64_t place) {
-    return a.number == number && a.place == place;
+static uint8_t list[MANY];
+
+static int nearest_is(struct lawendeb_nearest a, uint64_t number, uint64_t place, uint64_t found,
+                      uint64_t fewest) {
+    return a.number == number && a.place == place && a.found == found && a.fewest == fewest;
 }
+
+static int crossed_is(struct lawendeb_crossed a, uint64_t number, uint64_t place, uint64_t count) {
+    return a.number == number && a.place == place && a.count == count;
+}
+
+static struct lawendeb_nearest nearest(const uint32_t *words, size_t n, size_t w) {
+    return lawendeb_distance_to_service(words, n, w, marks, n, lengths, n);
+}
+
+static struct lawendeb_crossed crossed(const uint32_t *words, size_t n, size_t w) {
+    return lawendeb_crossing_edges(words, n, w, marks, n, lengths, n);
+}
+
+/* The list of the first four words within d, lent anew, as a number of four bits, the first highest;
+   99 if it is not of 0s and 1s with its rest as lent. */
+static unsigned listed(const uint32_t *words, size_t n, size_t d) {
+    unsigned bits = 0;
+    size_t i;
+    memset(list, 165, sizeof list);
+    if (!answered(lawendeb_list_within(words, n, d, marks, n, lengths, n, list, n + 1), 0, 0))
+        return 99;
+    for (i = 0; i < 4; i++) {
+        if (i < n ? list[i] > 1 : list[i] != 165)
+            return 99;
+        bits = 2 * bits + (i < n ? list[i] : 0);
+    }
+    return list[n] == 165 ? bits : 99;
+}
+
+static void services(void) {
+    const uint32_t skips[4] = {word_jump(1), 83, 0, RETURN0};
+    const uint64_t fewest[4] = {3, 2, 2, 1};
+    size_t i;
+    lend();
+    for (i = 0; i < 4; i++)
+        CHECK(nearest_is(nearest(sheet, 4, i), LAWENDEB_ACCEPTED, 0, 1, fewest[i]));
+    CHECK(nearest_is(nearest(sheet, 4, 4), LAWENDEB_ACCEPTED, 0, 0, 0));
+    CHECK(nearest_is(nearest(sheet, 4, SIZE_MAX), LAWENDEB_ACCEPTED, 0, 0, 0));
+    CHECK(crossed_is(crossed(sheet, 4, 2), LAWENDEB_ACCEPTED, 0, 2));
+    CHECK(crossed_is(crossed(sheet, 4, 1), LAWENDEB_ACCEPTED, 0, 0));
+    CHECK(crossed_is(crossed(sheet, 4, 4), LAWENDEB_ACCEPTED, 0, 0));
+    CHECK(listed(sheet, 4, 0) == 0 && listed(sheet, 4, 1) == 1 && listed(sheet, 4, 2) == 7);
+    CHECK(listed(sheet, 4, 3) == 15 && listed(sheet, 4, SIZE_MAX) == 15);
+    /* the slices are the run's */
+    for (i = 0; i < 4; i++)
+        CHECK(marks[i] == 1 && lengths[i] == 4 - i);
+    CHECK(lent_from(4));
+
+    /* an unreachable word has none, and steps over it count */
+    CHECK(nearest_is(nearest(skips, 4, 0), LAWENDEB_ACCEPTED, 0, 1, 3));
+    CHECK(nearest_is(nearest(skips, 4, 1), LAWENDEB_ACCEPTED, 0, 0, 0));
+    CHECK(crossed_is(crossed(skips, 4, 1), LAWENDEB_ACCEPTED, 0, 1));
+    CHECK(listed(skips, 4, SIZE_MAX) == 11);
+    CHECK(marks[1] == 0 && lengths[0] == 3 && lengths[1] == 0 && lent_from(4));
+
+    /* refusals: 1, 6, 7, 8 in this order, the list under 6 */
+    lend();
+    memset(list, 165, sizeof list);
+    CHECK(nearest_is(lawendeb_distance_to_service(many, MANY, 0, marks, 0, lengths, 0),
+                     LAWENDEB_TOO_MANY_WORDS, 0, 0, 0));
+    CHECK(crossed_is(lawendeb_crossing_edges(sheet, 4, 0, marks, 3, lengths, 4),
+                     LAWENDEB_SHORT_SLICE, 0, 0));
+    CHECK(crossed_is(crossed(sheet, 0, 0), LAWENDEB_NO_WORDS, 0, 0));
+    CHECK(answered(lawendeb_list_within(many, MANY, 1, marks, 0, lengths, 0, list, 0),
+                   LAWENDEB_TOO_MANY_WORDS, 0));
+    CHECK(answered(lawendeb_list_within(unknown, 1, 1, marks, 1, lengths, 1, list, 0),
+                   LAWENDEB_SHORT_SLICE, 0));
+    CHECK(lent_from(0) && list[0] == 165);
+    CHECK(answered(lawendeb_list_within(unknown, 1, 1, marks, 1, lengths, 1, list, 1),
+                   LAWENDEB_REACHES_INVALID, 0));
+    CHECK(marks[0] == 1 && lengths[0] == 0 && lent_from(1) && list[0] == 165);
+    lend();
+    CHECK(nearest_is(nearest(unknown, 1, 0), LAWENDEB_REACHES_INVALID, 0, 0, 0));
+    CHECK(marks[0] == 1 && lengths[0] == 0 && lent_from(1));
+}
+
+/* ---- the meter */
 
 static int shows(struct lawendeb_meter m, uint32_t begun, uint32_t last, uint32_t count,
                  uint32_t services) {
@@ -676,6 +760,7 @@ int main(void) {
     runs();
     weighed_runs();
     ranges();
+    services();
     meters();
     weighed_meters();
     worst();

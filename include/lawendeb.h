@@ -1,17 +1,19 @@
 /* Lawendeb for C and C++, on x86-64 Linux (System V calls). What the functions do is proved; what
    is asked of the caller stands here.
 
-   Four archives, to be linked alone or side by side; all are made in target/staticlib/:
+   Five archives, to be linked alone or side by side; all are made in target/staticlib/:
      libmeter.a     begin, feed and reset, for controllers: `rt staticlib meter`. It needs no
                     symbol.
      libexports.a   steps, the longest run, records: `rt staticlib exports`. It needs memset.
      libranges.a    the longest run by two tables: `rt staticlib ranges`. It needs memset.
+     libservice.a   nearest service, crossing steps: `rt staticlib service`. It needs memset.
      libtouches.a   what a word reads and writes: `rt staticlib touches`. It needs memset.
    They write nothing but what a call is lent: no heap, no static data, and as measured less than
    1 kB of stack, but less than 2 kB for what a word touches (docs/BENCHMARKS.md). So every call is
    reentrant, and calls on different memory may run at once, in threads or interrupts. A begin, a
    feed, a reset and what a word touches take a bounded time, whatever the number of words; a run
-   takes time in proportion to the words, a lift to words, constants and names.
+   and a question about services take time in proportion to the words, a lift to words, constants
+   and names.
 
    Each slice passes as a pointer and a length. The pointer is not null, even where the length is 0,
    and nobody writes the slice meanwhile. Slices that are written lie apart from all others. Any
@@ -164,6 +166,40 @@ struct lawendeb_run_range {
    in this order; 8 leaves the marks and n zero lengths, the others alter nothing. */
 struct lawendeb_run_range lawendeb_longest_runs(const uint32_t *words, size_t n, const uint8_t *low,
                                                 size_t low_n, const uint8_t *high, size_t high_n,
+                                                uint8_t *marks, size_t marks_n, uint32_t *lengths,
+                                                size_t lengths_n);
+
+/* ---- nearest service and crossing steps: libservice.a
+
+   Questions about a function, of which a run with all weights 1 decides whether it is accepted.
+   Marks and lengths need n places at least, and get what that run leaves in them. Refusals are that
+   run's: 1, 6, 7 and 8, tried in this order. */
+
+/* The fewest words from word `w` on, itself counted, to a return or a word with a serving step: 1
+   if it is one. found is 0, and fewest too, if the word is not reachable or past the end. */
+struct lawendeb_nearest {
+    uint64_t number, place, found, fewest;
+};
+
+struct lawendeb_nearest lawendeb_distance_to_service(const uint32_t *words, size_t n, size_t w,
+                                                     uint8_t *marks, size_t marks_n,
+                                                     uint32_t *lengths, size_t lengths_n);
+
+/* Lists the reachable words whose fewest is at most `d`: the list needs n places at least, too,
+   and gets 1 for a listed word, else 0. What lies past n stays as it was, and all of it on a
+   refusal. A list that is too short is refused by 6, which leaves marks and lengths as they
+   were. */
+struct lawendeb_answer lawendeb_list_within(const uint32_t *words, size_t n, size_t d,
+                                            uint8_t *marks, size_t marks_n, uint32_t *lengths,
+                                            size_t lengths_n, uint8_t *list, size_t list_n);
+
+/* How many steps from reachable words pass strictly over word `w`, forward or back; 0 if it is past
+   the end. */
+struct lawendeb_crossed {
+    uint64_t number, place, count;
+};
+
+struct lawendeb_crossed lawendeb_crossing_edges(const uint32_t *words, size_t n, size_t w,
                                                 uint8_t *marks, size_t marks_n, uint32_t *lengths,
                                                 size_t lengths_n);
 

@@ -1,4 +1,5 @@
-/* Successors by the table, breadth-first search with its queue in the lengths, backward pass, scan; the meter. */
+/* Successors by the table, breadth-first search with its queue in the lengths, backward pass, scan; distances and crossing
+   edges; the meter. */
 #include "twin.h"
 #include "table.h"
 #include <string.h>
@@ -122,6 +123,60 @@ struct twin_range twin_longest_runs(const uint32_t *w, size_t n, const uint8_t *
     r.high_first = measure(w, n, high, marks, lengths);
     r.high_longest = lengths[r.high_first];
     return r;
+}
+
+/* The distance to service of every word, from the highest down. */
+static void fill_distances(const uint32_t *w, size_t n, uint32_t *lengths) {
+    for (size_t p = n; p-- > 0;) {
+        struct twin_successors s = successors(w, n, p);
+        uint32_t least = 0;
+        if (s.kind >= 2 && !serves(p, s.first)) {
+            least = lengths[s.first];
+            if (s.kind == 3 && lengths[s.second] < least) least = lengths[s.second];
+        }
+        lengths[p] = least + 1;
+    }
+}
+static struct twin_run counted_run(const uint32_t *w, size_t n, uint8_t *marks, size_t marks_n, uint32_t *lengths,
+    size_t lengths_n) {
+    uint8_t ones[TWIN_WEIGHTS];
+    memset(ones, 1, sizeof ones);
+    return twin_longest_run(w, n, ones, TWIN_WEIGHTS, marks, marks_n, lengths, lengths_n);
+}
+struct twin_nearest twin_distance_to_service(const uint32_t *w, size_t n, size_t word, uint8_t *marks, size_t marks_n,
+    uint32_t *lengths, size_t lengths_n) {
+    uint32_t fewest = 0;
+    if (n <= TWIN_WORDS && marks_n >= n && lengths_n >= n) {
+        fill_distances(w, n, lengths);
+        if (word < n) fewest = lengths[word];
+    }
+    struct twin_run r = counted_run(w, n, marks, marks_n, lengths, lengths_n);
+    if (r.number || word >= n || !marks[word]) return (struct twin_nearest){r.number, r.place, 0, 0};
+    return (struct twin_nearest){0, 0, 1, fewest};
+}
+struct twin_answer twin_list_within(const uint32_t *w, size_t n, size_t d, uint8_t *marks, size_t marks_n, uint32_t *lengths,
+    size_t lengths_n, uint8_t *list, size_t list_n) {
+    if (n <= TWIN_WORDS && list_n < n) return (struct twin_answer){6, 0};
+    struct twin_run r = counted_run(w, n, marks, marks_n, lengths, lengths_n);
+    if (r.number) return (struct twin_answer){r.number, r.place};
+    fill_distances(w, n, lengths);
+    for (size_t p = 0; p < n; p++) list[p] = marks[p] && lengths[p] <= d;
+    counted_run(w, n, marks, marks_n, lengths, lengths_n);
+    return (struct twin_answer){0, 0};
+}
+static inline size_t over(size_t w, size_t p, size_t q) { return (p < w && w < q) || (q < w && w < p); }
+struct twin_crossed twin_crossing_edges(const uint32_t *w, size_t n, size_t word, uint8_t *marks, size_t marks_n,
+    uint32_t *lengths, size_t lengths_n) {
+    struct twin_run r = counted_run(w, n, marks, marks_n, lengths, lengths_n);
+    if (r.number) return (struct twin_crossed){r.number, r.place, 0};
+    size_t count = 0;
+    for (size_t p = 0; p < n; p++) {
+        if (!marks[p]) continue;
+        struct twin_successors s = successors(w, n, p);
+        if (s.kind >= 2) count += over(word, p, s.first);
+        if (s.kind == 3) count += over(word, p, s.second);
+    }
+    return (struct twin_crossed){0, 0, count};
 }
 
 static inline struct twin_answer answer(uint64_t number) { return (struct twin_answer){number, 0}; }

@@ -192,6 +192,36 @@ fn range_rows(columns: &Columns, sides: &[Side], rounds: usize, (name, make): Ki
     columns.flat_row(&rows);
 }
 
+/// The three questions of request C-22: of the middle word, and of d 8.
+fn service_rows(columns: &Columns, sides: &[Side], rounds: usize, (name, make): Kind) {
+    type Ask = fn(&Side, &[u32], &mut [u8], &mut [u32], &mut [u8]) -> u64;
+    let questions: [(&str, Ask); 3] = [
+        ("distance to service", |side, words, marks, lengths, _| (side.nearest)(words, words.len() / 2, marks, lengths).number),
+        ("list within 8", |side, words, marks, lengths, list| (side.within)(words, 8, marks, lengths, list).number),
+        ("crossing edges", |side, words, marks, lengths, _| (side.crossed)(words, words.len() / 2, marks, lengths).number),
+    ];
+    for (what, ask) in questions {
+        let mut rows = vec![];
+        for n in SIZES {
+            let words = make(n);
+            let repeat = 65_536 / n;
+            let work = sides.iter().map(|_| (vec![0u8; n], vec![0u32; n], vec![0u8; n]));
+            let mut calls: Vec<Box<dyn FnMut()>> = vec![];
+            for (side, (mut marks, mut lengths, mut list)) in sides.iter().zip(work) {
+                let words = &words;
+                calls.push(Box::new(move || {
+                    for _ in 0..repeat {
+                        assert_eq!(ask(side, black_box(words), &mut marks, &mut lengths, &mut list), 0);
+                    }
+                }));
+            }
+            let times = best(rounds, &mut calls);
+            rows.push(columns.row(what, name, n, &times, (repeat * n) as f64));
+        }
+        columns.flat_row(&rows);
+    }
+}
+
 fn feed_rows(columns: &Columns, sides: &[Side], rounds: usize, (name, make): Kind) {
     for (weighed, weights) in &tables_of_weights() {
         let mut rows = vec![];
@@ -296,6 +326,9 @@ fn main() {
     columns.head();
     for kind in KINDS {
         run_rows(&columns, &sides, rounds, kind);
+    }
+    for kind in KINDS {
+        service_rows(&columns, &sides, rounds, kind);
     }
     for kind in KINDS {
         feed_rows(&columns, &sides, rounds, kind);

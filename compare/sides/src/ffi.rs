@@ -9,6 +9,7 @@ use model::input::Input;
 use model::meter::Meter;
 use model::range::RangeAnswer;
 use model::run::RunAnswer;
+use model::service::{Crossed, Nearest};
 use model::Answer;
 
 /// The meter as it is lent: include/lawendeb.h. begun is 0, or any other number.
@@ -73,6 +74,35 @@ pub mod twin {
             lengths: *mut u32,
             lengths_n: usize,
         ) -> RangeAnswer;
+        fn twin_distance_to_service(
+            words: *const u32,
+            n: usize,
+            w: usize,
+            marks: *mut u8,
+            marks_n: usize,
+            lengths: *mut u32,
+            lengths_n: usize,
+        ) -> Nearest;
+        fn twin_list_within(
+            words: *const u32,
+            n: usize,
+            d: usize,
+            marks: *mut u8,
+            marks_n: usize,
+            lengths: *mut u32,
+            lengths_n: usize,
+            list: *mut u8,
+            list_n: usize,
+        ) -> Answer;
+        fn twin_crossing_edges(
+            words: *const u32,
+            n: usize,
+            w: usize,
+            marks: *mut u8,
+            marks_n: usize,
+            lengths: *mut u32,
+            lengths_n: usize,
+        ) -> Crossed;
         fn twin_begin(m: *mut LentMeter);
         fn twin_reset(m: *mut LentMeter);
         fn twin_feed(words: *const u32, n: usize, weights: *const u8, weights_n: usize, m: *mut LentMeter, q: usize) -> Answer;
@@ -102,6 +132,15 @@ pub mod twin {
             runs: |w, a, b, m, l| unsafe {
                 let (marks, lengths) = (m.as_mut_ptr(), l.as_mut_ptr());
                 twin_longest_runs(w.as_ptr(), w.len(), a.as_ptr(), a.len(), b.as_ptr(), b.len(), marks, m.len(), lengths, l.len())
+            },
+            nearest: |w, p, m, l| unsafe {
+                twin_distance_to_service(w.as_ptr(), w.len(), p, m.as_mut_ptr(), m.len(), l.as_mut_ptr(), l.len())
+            },
+            within: |w, d, m, l, s| unsafe {
+                twin_list_within(w.as_ptr(), w.len(), d, m.as_mut_ptr(), m.len(), l.as_mut_ptr(), l.len(), s.as_mut_ptr(), s.len())
+            },
+            crossed: |w, p, m, l| unsafe {
+                twin_crossing_edges(w.as_ptr(), w.len(), p, m.as_mut_ptr(), m.len(), l.as_mut_ptr(), l.len())
             },
             begin: |m| lend(m, |m| unsafe { twin_begin(m) }),
             reset: |m| lend(m, |m| unsafe { twin_reset(m) }),
@@ -161,6 +200,35 @@ pub mod rattle {
             lengths: *mut u32,
             lengths_n: usize,
         ) -> RangeAnswer;
+        fn lawendeb_distance_to_service(
+            words: *const u32,
+            n: usize,
+            w: usize,
+            marks: *mut u8,
+            marks_n: usize,
+            lengths: *mut u32,
+            lengths_n: usize,
+        ) -> Nearest;
+        fn lawendeb_list_within(
+            words: *const u32,
+            n: usize,
+            d: usize,
+            marks: *mut u8,
+            marks_n: usize,
+            lengths: *mut u32,
+            lengths_n: usize,
+            list: *mut u8,
+            list_n: usize,
+        ) -> Answer;
+        fn lawendeb_crossing_edges(
+            words: *const u32,
+            n: usize,
+            w: usize,
+            marks: *mut u8,
+            marks_n: usize,
+            lengths: *mut u32,
+            lengths_n: usize,
+        ) -> Crossed;
         fn lawendeb_begin_4(m: *mut LentMeter);
         fn lawendeb_reset(m: *mut LentMeter);
         fn lawendeb_feed_4(words: *const u32, n: usize, weights: *const u8, weights_n: usize, m: *mut LentMeter, q: usize) -> Answer;
@@ -176,6 +244,15 @@ pub mod rattle {
             runs: |w, a, b, m, l| unsafe {
                 let (marks, lengths) = (m.as_mut_ptr(), l.as_mut_ptr());
                 lawendeb_longest_runs(w.as_ptr(), w.len(), a.as_ptr(), a.len(), b.as_ptr(), b.len(), marks, m.len(), lengths, l.len())
+            },
+            nearest: |w, p, m, l| unsafe {
+                lawendeb_distance_to_service(w.as_ptr(), w.len(), p, m.as_mut_ptr(), m.len(), l.as_mut_ptr(), l.len())
+            },
+            within: |w, d, m, l, s| unsafe {
+                lawendeb_list_within(w.as_ptr(), w.len(), d, m.as_mut_ptr(), m.len(), l.as_mut_ptr(), l.len(), s.as_mut_ptr(), s.len())
+            },
+            crossed: |w, p, m, l| unsafe {
+                lawendeb_crossing_edges(w.as_ptr(), w.len(), p, m.as_mut_ptr(), m.len(), l.as_mut_ptr(), l.len())
             },
             begin: |m| lend(m, |m| unsafe { lawendeb_begin_4(m) }),
             reset: |m| lend(m, |m| unsafe { lawendeb_reset(m) }),
