@@ -9,11 +9,11 @@
      libservice.a   nearest service, crossing steps: `rt staticlib service`. It needs memset.
      libtouches.a   what a word reads and writes: `rt staticlib touches`. It needs memset.
    They write nothing but what a call is lent: no heap, no static data, and as measured less than
-   1 kB of stack, but less than 2 kB for what a word touches (docs/BENCHMARKS.md). So every call is
-   reentrant, and calls on different memory may run at once, in threads or interrupts. A begin, a
-   feed, a reset and what a word touches take a bounded time, whatever the number of words; a run
-   and a question about services take time in proportion to the words, a lift to words, constants
-   and names.
+   1 kB of stack, but less than 2 kB for what a word touches and for a question about services
+   (docs/BENCHMARKS.md). So every call is reentrant, and calls on different memory may run at once,
+   in threads or interrupts. A begin, a feed, a reset and what a word touches take a bounded time,
+   whatever the number of words; a run and a question about services take time in proportion to the
+   words, a lift to words, constants and names.
 
    Each slice passes as a pointer and a length. The pointer is not null, even where the length is 0,
    and nobody writes the slice meanwhile. Slices that are written lie apart from all others. Any
