@@ -54,6 +54,19 @@ abbrev pub «MALFORMED_LINE» : ℕ
 abbrev pub «TOO_MANY_LINES» : ℕ
 «TOO_MANY_LINES» = 13
 
+-- request C-11: "a header byte that differs"
+abbrev pub «HEADER_DIFFERS» : ℕ
+«HEADER_DIFFERS» = 14
+
+-- request C-11: "the bytes end early, a word, constant or upvalue count exceeds 01's limits, a number overflows lundump.c's own limit, a
+-- constant string is absent, the chunk passes 4,294,967,295 bytes or the chosen function does not exist"
+abbrev pub «MALFORMED_CHUNK» : ℕ
+«MALFORMED_CHUNK» = 15
+
+-- request C-11: "a level 33, met at the count that needs it"
+abbrev pub «TOO_DEEP» : ℕ
+«TOO_DEEP» = 16
+
 -- request C-17: "a weight count other than 128, or a weight of 0"
 abbrev pub «WEIGHTS_REFUSED» : ℕ
 «WEIGHTS_REFUSED» = 18

@@ -38,5 +38,14 @@ pub const MALFORMED_LINE: u8 = 12;
 // Line 4,097 exists.
 pub const TOO_MANY_LINES: u8 = 13;
 
+// Request C-11: a header byte of a chunk differs.
+pub const HEADER_DIFFERS: u8 = 14;
+
+// Request C-11: a chunk ends early, or has a count or a number over its limit, an absent constant string, too many bytes or no such function.
+pub const MALFORMED_CHUNK: u8 = 15;
+
+// Request C-11: a chunk's functions need a level 33.
+pub const TOO_DEEP: u8 = 16;
+
 // Request C-17: a weight count other than 128, or a weight of 0.
 pub const WEIGHTS_REFUSED: u8 = 18;

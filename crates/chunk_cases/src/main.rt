@@ -1,0 +1,39 @@
+// Cases at the edges of request C-11. What is printed is held to the stored output.
+mod chunks;
+mod names;
+mod passes;
+mod print;
+
+fn refused(bytes: &[u8]) {
+    passes::changed(b"14, the first byte", bytes, 0, 28);
+    passes::changed(b"14, the last byte of the header", bytes, 30, 65);
+    passes::changed(b"the byte after the header", bytes, 31, 99);
+    passes::changed(b"3, constant 1", bytes, 109, 99);
+    passes::changed(b"15, a constant string that is absent", bytes, 107, 128);
+    passes::cut(b"15, no bytes", bytes, 0);
+    passes::cut(b"15, the header cut", bytes, 30);
+    passes::cut(b"15, nothing after the header", bytes, 31);
+    passes::cut(b"15, the last byte missing", bytes, 274);
+    passes::count(b"15, function 2 of two", bytes, 2);
+    passes::count(b"15, the largest number", bytes, 18446744073709551615);
+}
+
+fn main() {
+    let plain = chunks::plain();
+    let stripped = chunks::stripped();
+    let few = chunks::levels_32();
+    let many = chunks::levels_33();
+    passes::count(b"main", &plain, 0);
+    passes::count(b"f", &plain, 1);
+    passes::fill(b"main", &plain, 0);
+    passes::fill(b"f", &plain, 1);
+    passes::fill(b"main, stripped", &stripped, 0);
+    passes::fill(b"f, stripped", &stripped, 1);
+    passes::fill(b"15, not there", &plain, 2);
+    passes::short_words(b"6, words", &plain);
+    passes::short_names(b"6, names", &plain);
+    refused(&plain);
+    passes::count(b"32 levels, the last", &few, 31);
+    passes::count(b"16, 33 levels", &many, 0);
+    names::all();
+}

@@ -1,0 +1,2 @@
+-- The program that lists the functions of a compiled script, from bytes to bytes.
+pub mod Lines
