@@ -9,16 +9,11 @@ use lib.ListN.{length, take, drop}
 use lib.Seq.{take-at, drop-at}
 use borrow.Author.Tests.{le-leb}
 use Rattle.chunk.specs.declared.reading.Refusal.{Refusal}
-use Rattle.chunk.specs.declared.reading.Refusal.the-variants.{Header, Malformed, TooDeep, UnknownTag, Short}
 use Rattle.chunk.specs.declared.counts.Counts.{Counts}
-use Rattle.common.specs.Limits.{mostWords, mostConstants, mostNames}
-use Rattle.chunk.specs.Numbers.{numberOf}
 use Rattle.chunk.specs.Reading.{Result, done, refused, bind}
 use Rattle.chunk.specs.Lundump.{Function}
-use Rattle.chunk.specs.Chunk.{chosen, tagOf, payloadOf, nameNumber, valuesOf, countsOf, Rooms, roomsOf, fits, roomFor, filled, after, wordsRoom, wordsOf, tagsOf, payloadsOf, namesOf}
+use Rattle.chunk.specs.Chunk.{chosen, tagOf, payloadOf, nameNumber, valuesOf, countsOf, Rooms, roomsOf, fits, roomFor, filled, after, wordsOf, tagsOf, payloadsOf, namesOf}
 use Rattle.chunk.specs.Claims.{counted, result, Room, FilledAsCounted}
-use Rattle.chunk.specs.Stands.{OneRead}
-use Rattle.chunk.proofs.Standing.{chosen-stands}
 use Rattle.chunk.proofs.Stores.{values-count}
 
 -- ---- a slice after the second pass
@@ -98,37 +93,3 @@ module _ (k : ℕ) (bytes words tags payloads names : List ℕ) where
         names-past = past namesOf (λ c. c .names) names names-many no-names (result k bytes words tags payloads names);
         short = λ f at h e. as-chosen (done f at) h ∙ rw e;
       }
-
--- with room for the most of each the second pass gives what was chosen
-module _ (k : ℕ) (bytes : List ℕ) where
-  whole : (X : Result Function) → OneRead bytes X → bind X (roomFor (wordsRoom mostWords)) ≡ X
-  unfolding fits
-  whole (done f at) s = rw (le-leb _ _ (s .few-words), le-leb _ _ (s .few-constants), le-leb _ _ (s .few-names))
-  whole (refused e) s = refl
-
-  pub room-for-all : filled k bytes (wordsRoom mostWords) ≡ chosen k bytes
-  unfolding filled
-  room-for-all = whole (chosen k bytes) (chosen-stands bytes k)
-
-  -- an answer's numbers: a refusal's is at most 16, and the counts are within the limits
-  numbers : (X : Result Function) → OneRead bytes X
-      → (countsOf X .number ≤ 16) × ((countsOf X .words ≤ mostWords) × ((countsOf X .constants ≤ mostConstants) × (countsOf X .names ≤ mostNames)))
-  unfolding countsOf
-  numbers (done f at) s = (omega arith, (s .few-words, (s .few-constants, s .few-names)))
-  numbers (refused e) s = (small e, (omega arith, (omega arith, omega arith)))
-    where
-      small : (e : Refusal) → numberOf e ≤ 16
-      small Header = omega arith
-      small Malformed = omega arith
-      small TooDeep = omega arith
-      small (UnknownTag i) = omega arith
-      small Short = omega arith
-
-  pub within-limits : (countsOf (chosen k bytes) .number ≤ 16)
-      × ((countsOf (chosen k bytes) .words ≤ mostWords) × ((countsOf (chosen k bytes) .constants ≤ mostConstants) × (countsOf (chosen k bytes) .names ≤ mostNames)))
-  within-limits = numbers (chosen k bytes) (chosen-stands bytes k)
-
-  pub there-words : (out : List ℕ) (f : Function) (at : ℕ) → chosen k bytes ≡ done f at
-      → take (length (f .words)) (after wordsOf (filled k bytes (wordsRoom mostWords)) out) ≡ f .words
-  unfolding after
-  there-words out f at h = rw (room-for-all ∙ h) (take-at (f .words) (drop (length (f .words)) out) (length (f .words)) refl)

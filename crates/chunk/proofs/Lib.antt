@@ -15,3 +15,4 @@ pub mod Shows
 pub mod Passes
 pub mod Claims
 pub mod Example
+pub mod Laws

@@ -10,3 +10,4 @@ pub mod Cursors
 pub mod Search
 pub mod Filling
 pub mod Claims
+pub mod Laws
