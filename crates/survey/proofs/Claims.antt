@@ -19,20 +19,20 @@ use Rattle.chunk.specs.Laws.{Numbered}
 use Rattle.chunk.proofs.Laws.{laws}
 use Rattle.survey.specs.Lines.{headOf, tailOf, onlyOf, textOf, runIn, lineOf}
 use Rattle.survey.specs.Claims.{lineLength, Listed, OneLine, Claims, Counted}
-use Rattle.survey.proofs.Lines.{length-head, length-tail, length-only}
+use Rattle.survey.proofs.Columns.{length-head, length-tail, length-only}
 
 length-done : (k : ℕ) (f : Function) (at : ℕ) → length (textOf k (done f at)) ≡ 24 + length (tailOf (runIn (f .words)))
 unfolding textOf
 length-done k f at =
     length-append (headOf k (countsOf (done f at))) (tailOf (runIn (f .words))) ∙ ap (λ (n : ℕ). n + length (tailOf (runIn (f .words)))) (length-head k (countsOf (done f at)))
 
+length-refusal : (k : ℕ) (e : Refusal) → length (textOf k (refused e)) ≤ lineLength
+unfolding textOf
+length-refusal k e = omega (arith, length-only k (numberOf e) (placeOf e))
+
 length-text : (k : ℕ) (X : Result Function) → length (textOf k X) ≤ lineLength
 length-text k (done f at) = omega (arith, length-done k f at, length-tail (runIn (f .words)))
 length-text k (refused e) = length-refusal k e
-  where
-    length-refusal : (k : ℕ) (e : Refusal) → length (textOf k (refused e)) ≤ lineLength
-    unfolding textOf
-    length-refusal k e = omega (arith, length-only k (numberOf e) (placeOf e))
 
 fits : (k : ℕ) (bytes : List ℕ) → length (lineOf k bytes) ≤ lineLength
 unfolding lineOf
