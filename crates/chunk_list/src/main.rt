@@ -3,16 +3,25 @@
 use libc::STDIN_FILENO;
 use libc::STDOUT_FILENO;
 
+// Writes the line of function k, and answers its length.
+fn write_line(bytes: &[u8], k: usize) -> usize {
+    let mut page = survey::page();
+    let r = survey::line(bytes, k, &mut page);
+    io::write_all(STDOUT_FILENO, &page[..r]);
+    r
+}
+
+// The first line that is empty ends the list. Each function has bytes of its own, so that there are fewer than the buffer has bytes.
+fn write_lines(bytes: &[u8]) {
+    for k in 0..262144 {
+        if write_line(bytes, k) == 0 {
+            return;
+        }
+    }
+}
+
 fn main() {
     let mut buffer = survey::buffer();
     let n = io::read_full(STDIN_FILENO, &mut buffer);
-    let mut page = survey::page();
-    // Each function takes bytes of its own, so that there are fewer than the buffer has.
-    for k in 0..262144 {
-        let r = survey::line(&buffer[..n], k, &mut page);
-        if r == 0 {
-            return;
-        }
-        io::write_all(STDOUT_FILENO, &page[..r]);
-    }
+    write_lines(&buffer[..n]);
 }
