@@ -2,14 +2,17 @@
 mod chunks;
 mod names;
 mod passes;
-mod print;
 
 fn refused(bytes: &[u8]) {
-    passes::changed(b"14, the first byte", bytes, 0, 28);
-    passes::changed(b"14, the last byte of the header", bytes, 30, 65);
-    passes::changed(b"the byte after the header", bytes, 31, 99);
-    passes::changed(b"3, constant 1", bytes, 109, 99);
-    passes::changed(b"15, a constant string that is absent", bytes, 107, 128);
+    passes::changed(b"14, the first byte", bytes, 0, 28, 275);
+    passes::changed(b"14, the last byte of the header", bytes, 30, 65, 275);
+    passes::changed(b"14, the first byte, and cut after it", bytes, 0, 28, 1);
+    passes::changed(b"15, cut before a byte that differs", bytes, 30, 65, 30);
+    passes::changed(b"the byte after the header", bytes, 31, 99, 275);
+    passes::changed(b"a byte behind the chunk", bytes, 275, 99, 276);
+    passes::changed(b"a count of 5 names for 1 upvalue", bytes, 269, 133, 275);
+    passes::changed(b"3, constant 1", bytes, 109, 99, 275);
+    passes::changed(b"15, a constant string that is absent", bytes, 107, 128, 275);
     passes::cut(b"15, no bytes", bytes, 0);
     passes::cut(b"15, the header cut", bytes, 30);
     passes::cut(b"15, nothing after the header", bytes, 31);

@@ -1,20 +1,18 @@
 // Names shown: number, place, in the chunk (1) or the list (0), start, size; then the bytes.
-use crate::print;
-
-const UNNAMED: u64 = 18446744073709551615;
+use values::lookup::UNNAMED;
 
 fn show<'a>(label: &[u8], bytes: &'a [u8], own: &[u64], list: &'a [u8], other: &[u64], i: usize) {
-    print::text(label);
+    print_cases::text(label);
     let s = chunk::lawendeb_upvalue_name(bytes, own, list, other, i);
-    print::number(s.number);
-    print::number(s.place);
-    print::number(s.in_chunk);
-    print::number(s.start);
-    print::number(s.size);
-    print::text(b" '");
-    print::text(chunk::upvalue_name(bytes, own, list, other, i));
-    print::text(b"'");
-    print::end();
+    print_cases::number(s.number);
+    print_cases::number(s.place);
+    print_cases::number(s.in_chunk);
+    print_cases::number(s.start);
+    print_cases::number(s.size);
+    print_cases::text(b" '");
+    print_cases::text(chunk::upvalue_name(bytes, own, list, other, i));
+    print_cases::text(b"'");
+    print_cases::end();
 }
 
 pub fn all() {

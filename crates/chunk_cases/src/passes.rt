@@ -1,25 +1,33 @@
 // Both passes: what is counted, and what stands in the slices after the second. Each element was 9.
-use crate::print;
+
+// Number, place, words, constants, names.
+fn counts(c: chunk::Counts) {
+    print_cases::number(c.number);
+    print_cases::number(c.place);
+    print_cases::number(c.words);
+    print_cases::number(c.constants);
+    print_cases::number(c.names);
+}
 
 pub fn count(label: &[u8], bytes: &[u8], k: usize) {
-    print::text(label);
-    print::counts(chunk::lawendeb_chunk_count(bytes, k));
-    print::end();
+    print_cases::text(label);
+    counts(chunk::lawendeb_chunk_count(bytes, k));
+    print_cases::end();
 }
 
 fn show(words: &[u32], tags: &[u8], payloads: &[u64], names: &[u64]) {
-    print::text(b"  words");
-    print::words(words);
-    print::end();
-    print::text(b"  tags");
-    print::bytes(tags);
-    print::end();
-    print::text(b"  payloads");
-    print::longs(payloads);
-    print::end();
-    print::text(b"  names");
-    print::longs(names);
-    print::end();
+    print_cases::text(b"  words");
+    print_cases::numbers(words);
+    print_cases::end();
+    print_cases::text(b"  tags");
+    print_cases::bytes(tags);
+    print_cases::end();
+    print_cases::text(b"  payloads");
+    print_cases::longs(payloads);
+    print_cases::end();
+    print_cases::text(b"  names");
+    print_cases::longs(names);
+    print_cases::end();
 }
 
 // Slices with a place or more to spare.
@@ -28,7 +36,7 @@ pub fn fill(label: &[u8], bytes: &[u8], k: usize) {
     let mut tags = [9u8; 6];
     let mut payloads = [9u64; 7];
     let mut names = [9u64; 3];
-    print::text(label);
+    print_cases::text(label);
     let c = chunk::lawendeb_chunk_fill(
         bytes,
         k,
@@ -37,8 +45,8 @@ pub fn fill(label: &[u8], bytes: &[u8], k: usize) {
         &mut payloads,
         &mut names,
     );
-    print::counts(c);
-    print::end();
+    counts(c);
+    print_cases::end();
     show(&words, &tags, &payloads, &names);
 }
 
@@ -48,7 +56,7 @@ pub fn short_words(label: &[u8], bytes: &[u8]) {
     let mut tags = [9u8; 6];
     let mut payloads = [9u64; 6];
     let mut names = [9u64; 2];
-    print::text(label);
+    print_cases::text(label);
     let c = chunk::lawendeb_chunk_fill(
         bytes,
         0,
@@ -57,8 +65,8 @@ pub fn short_words(label: &[u8], bytes: &[u8]) {
         &mut payloads,
         &mut names,
     );
-    print::counts(c);
-    print::end();
+    counts(c);
+    print_cases::end();
     show(&words, &tags, &payloads, &names);
 }
 
@@ -68,7 +76,7 @@ pub fn short_names(label: &[u8], bytes: &[u8]) {
     let mut tags = [9u8; 6];
     let mut payloads = [9u64; 6];
     let mut names = [9u64; 0];
-    print::text(label);
+    print_cases::text(label);
     let c = chunk::lawendeb_chunk_fill(
         bytes,
         0,
@@ -77,13 +85,13 @@ pub fn short_names(label: &[u8], bytes: &[u8]) {
         &mut payloads,
         &mut names,
     );
-    print::counts(c);
-    print::end();
+    counts(c);
+    print_cases::end();
     show(&words, &tags, &payloads, &names);
 }
 
-// Function 0 of a chunk with the byte at an index changed.
-pub fn changed(label: &[u8], bytes: &[u8], at: usize, to: u8) {
+// Function 0 of the first n bytes of a chunk in which the byte at an index is changed. Bytes past its end are 0.
+pub fn changed(label: &[u8], bytes: &[u8], at: usize, to: u8, n: usize) {
     let mut other = [0u8; 512];
     let mut i: usize = 0;
     while i < bytes.len() {
@@ -95,8 +103,7 @@ pub fn changed(label: &[u8], bytes: &[u8], at: usize, to: u8) {
     if at < 512 {
         other[at] = to;
     }
-    if bytes.len() <= 512 {
-        let n = bytes.len();
+    if n <= 512 {
         count(label, &other[..n], 0);
     }
 }
