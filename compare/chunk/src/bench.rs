@@ -1,5 +1,8 @@
 //! Time a byte of both passes beside Lua's own loader, on the same bytes: best of the rounds, the sides in turns.
 
+#[path = "../../bench/src/stack.rs"]
+mod stack;
+
 use crate::{corpus, ffi};
 use std::hint::black_box;
 use std::time::Instant;
@@ -40,5 +43,12 @@ pub fn run(scripts: &[Vec<u8>]) {
         unsafe { ffi::real::real_close(state) };
         let n = bytes.len() as f64;
         println!("| {name} | {} | {functions} | {:.2} | {:.2} | {:.2} | {:.2} |", bytes.len(), times[0] / n, times[1] / n, times[2] / n, times[1] / times[2]);
+    }
+    for levels in [1, 32] {
+        let bytes = corpus::bare_levels(levels);
+        let depth = stack::used(|| assert_eq!(ffi::count(&bytes, 0).number, 0));
+        println!("stack bytes of the first pass, {levels} levels: {depth}");
+        let depth = stack::used(|| assert_eq!(ffi::fill(&bytes, 0, &mut words, &mut tags, &mut payloads, &mut names).number, 0));
+        println!("stack bytes of the second pass, {levels} levels: {depth}");
     }
 }
