@@ -8,9 +8,9 @@
      libchunk.a     compiled scripts: `rt staticlib chunk`. @@CHUNKNEEDS@@
    They write nothing but what a call is lent: no heap, no static data, and as measured less than
    1 kB of stack, but less than 2 kB for what a word touches, and less than @@STACK@@ for a pass
-   over a chunk, which goes down with its functions, 32 levels at most (docs/BENCHMARKS.md). So every
-   call is reentrant, and calls on different memory may run at once, in threads or interrupts. A
-   begin, a feed and what a word touches take a bounded time, whatever the number of words; a run
+   over a chunk, which goes down with its functions, 32 levels at most (docs/BENCHMARKS.md). So
+   every call is reentrant, and calls on different memory may run at once, in threads or interrupts.
+   A begin, a feed and what a word touches take a bounded time, whatever the number of words; a run
    takes time in proportion to the words, a lift to words, constants and names, a pass to the
    chunk's bytes.
 
