@@ -87,10 +87,12 @@ module _ (bytes : List ℕ) where
       by-block : (n start : ℕ) (X : Result (Unit {0})) → bind X (λ _ at₂. done (record { start = start; count = n }) at₂) ≡ done v next → v .count ≡ n
       by-block n start (done u at₂) h = let e : record { start = start; count = n } ≡ v = cc in rw (← e)
       by-block n start (refused x) h = absurd (let z : _≡_ {A = ℕ} 0 1 = cc in omega arith)
+
       by-limit : (n start : ℕ) (b : Bool) → leb n most ≡ b
           → only b (bind (loadBlock (each * n) bytes start) (λ _ at₂. done (record { start = start; count = n }) at₂)) ≡ done v next → v .count ≤ most
       by-limit n start true e h = let c = by-block n start (loadBlock (each * n) bytes start) h in omega (arith, leb-true n most e)
       by-limit n start false e h = absurd (let z : _≡_ {A = ℕ} 0 1 = cc in omega arith)
+
       by-count : (X : Result ℕ) → bind X (λ n at₁. only (leb n most) (bind (loadBlock (each * n) bytes at₁) (λ _ at₂. done (record { start = at₁; count = n }) at₂))) ≡ done v next
           → v .count ≤ most
       by-count (done n start) h = by-limit n start (leb n most) refl h
@@ -122,6 +124,7 @@ module _ (bytes : List ℕ) where
       by-limit : (n start : ℕ) (b : Bool) → leb n most ≡ b → only b (repeat r 0 n bytes start) ≡ done xs next → length xs ≤ most
       by-limit n start true e h = let c = repeat-length r bytes n 0 start xs next h in omega (arith, leb-true n most e)
       by-limit n start false e h = absurd (let z : _≡_ {A = ℕ} 0 1 = cc in omega arith)
+
       by-count : (X : Result ℕ) → bind X (λ n at₁. only (leb n most) (repeat r 0 n bytes at₁)) ≡ done xs next → length xs ≤ most
       by-count (done n start) h = by-limit n start (leb n most) refl h
       by-count (refused x) h = absurd (let z : _≡_ {A = ℕ} 0 1 = cc in omega arith)

@@ -12,7 +12,13 @@ fn refused(bytes: &[u8]) {
     passes::changed(b"a byte behind the chunk", bytes, 275, 99, 276);
     passes::changed(b"a count of 5 names for 1 upvalue", bytes, 269, 133, 275);
     passes::changed(b"3, constant 1", bytes, 109, 99, 275);
-    passes::changed(b"15, a constant string that is absent", bytes, 107, 128, 275);
+    passes::changed(
+        b"15, a constant string that is absent",
+        bytes,
+        107,
+        128,
+        275,
+    );
     passes::cut(b"15, no bytes", bytes, 0);
     passes::cut(b"15, the header cut", bytes, 30);
     passes::cut(b"15, nothing after the header", bytes, 31);

@@ -37,14 +37,7 @@ pub fn fill(label: &[u8], bytes: &[u8], k: usize) {
     let mut payloads = [9u64; 7];
     let mut names = [9u64; 3];
     print_cases::text(label);
-    let c = chunk::lawendeb_chunk_fill(
-        bytes,
-        k,
-        &mut words,
-        &mut tags,
-        &mut payloads,
-        &mut names,
-    );
+    let c = chunk::lawendeb_chunk_fill(bytes, k, &mut words, &mut tags, &mut payloads, &mut names);
     counts(c);
     print_cases::end();
     show(&words, &tags, &payloads, &names);
@@ -57,14 +50,7 @@ pub fn short_words(label: &[u8], bytes: &[u8]) {
     let mut payloads = [9u64; 6];
     let mut names = [9u64; 2];
     print_cases::text(label);
-    let c = chunk::lawendeb_chunk_fill(
-        bytes,
-        0,
-        &mut words,
-        &mut tags,
-        &mut payloads,
-        &mut names,
-    );
+    let c = chunk::lawendeb_chunk_fill(bytes, 0, &mut words, &mut tags, &mut payloads, &mut names);
     counts(c);
     print_cases::end();
     show(&words, &tags, &payloads, &names);
@@ -77,14 +63,7 @@ pub fn short_names(label: &[u8], bytes: &[u8]) {
     let mut payloads = [9u64; 6];
     let mut names = [9u64; 0];
     print_cases::text(label);
-    let c = chunk::lawendeb_chunk_fill(
-        bytes,
-        0,
-        &mut words,
-        &mut tags,
-        &mut payloads,
-        &mut names,
-    );
+    let c = chunk::lawendeb_chunk_fill(bytes, 0, &mut words, &mut tags, &mut payloads, &mut names);
     counts(c);
     print_cases::end();
     show(&words, &tags, &payloads, &names);

@@ -153,9 +153,9 @@ module _ (k : ℕ) (bytes : List ℕ) (table words : List ℕ) (c : Counts)
       let g = got z in
       let t : take (c .words) words ≡ g .function .words = words-are g in
       let m : headOf k c ++ tailOf run ≡ textOf k (chosen k bytes) =
-          ap (λ (x : Counts). headOf k x ++ tailOf run) (g .counts)
-          ∙ ap (λ (x : Run). headOf k (countsOf (done (g .function) (g .at))) ++ tailOf x) (er ∙ ap runIn t)
-          ∙ ap (textOf k) (sym (g .is)) in
+      ap (λ (x : Counts). headOf k x ++ tailOf run) (g .counts)
+      ∙ ap (λ (x : Run). headOf k (countsOf (done (g .function) (g .at))) ++ tailOf x) (er ∙ ap runIn t)
+      ∙ ap (textOf k) (sym (g .is)) in
       let s : length (headOf k c ++ tailOf run) ≡ 24 + length (tailOf run) = length-both (headOf k c) (tailOf run) 24 (length (tailOf run)) (24 + length (tailOf run)) (length-head k c) refl refl in
       let v = length-tail run in
       let p : o′ ≡ put page 0 (headOf k c ++ tailOf run) = put-laws .and-then page o o′ 0 24 (headOf k c) (tailOf run) eo (length-head k c) (omega arith) eo′ in

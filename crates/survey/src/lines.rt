@@ -61,7 +61,11 @@ fn put_only(page: &mut [u8], k: usize, c: Counts) -> usize
     if k != 0 {
         return 0;
     }
-    put_text(page, 0, &sheet::refusal_line(c.number as u8, c.place as usize));
+    put_text(
+        page,
+        0,
+        &sheet::refusal_line(c.number as u8, c.place as usize),
+    );
     13
 }
 

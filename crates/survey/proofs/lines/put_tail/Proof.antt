@@ -12,9 +12,10 @@ returns c =
     let a = c .before .before in
     let given = a .before .before .before .before .before .run .given in
     let s = a .before .before .before .before .before .before .before .before in
-    rw (given .1)
-    (sym (ap (λ (n : ℕ). 24 + n) (length-accepted (given .0 .0) (given .0 .1 .0))),
-    tail-accepted (s .args .page .now) _ (given .0 .0) (given .0 .1 .0) (rw (a .before .before .last-line .ensures) at (a .put-text .ensures)))
+    rw (given .1) (
+      sym (ap (λ (n : ℕ). 24 + n) (length-accepted (given .0 .0) (given .0 .1 .0))),
+      tail-accepted (s .args .page .now) _ (given .0 .0) (given .0 .1 .0) (rw (a .before .before .last-line .ensures) at (a .put-text .ensures)),
+    )
 
 returns-2 : tie.Need-returns-2
 returns-2 c =
@@ -23,9 +24,10 @@ returns-2 c =
     let first = second .before .before .before .before in
     let given = first .before .before .before .run2 .given in
     let s = first .before .before .before .before .before .before in
-    rw (given .1)
-    (sym (ap (λ (n : ℕ). 24 + n) (length-refused (given .0 .0) (given .0 .1 .0))),
-    tail-refused (s .args .page .now) _ _ _ (given .0 .0) (given .0 .1 .0) (s .pre) (first .put-cell .ensures) (second .put-cell2 .ensures) (rw (a .before .before .refusal-line .ensures) at (a .put-text2 .ensures)))
+    rw (given .1) (
+      sym (ap (λ (n : ℕ). 24 + n) (length-refused (given .0 .0) (given .0 .1 .0))),
+      tail-refused (s .args .page .now) _ _ _ (given .0 .0) (given .0 .1 .0) (s .pre) (first .put-cell .ensures) (second .put-cell2 .ensures) (rw (a .before .before .refusal-line .ensures) at (a .put-text2 .ensures)),
+    )
 
 pub put-tail-spec : {M : Type 1} → statement M
 put-tail-spec =
