@@ -57,3 +57,15 @@ abbrev pub «TOO_MANY_LINES» : ℕ
 -- request C-17: "a weight count other than 128, or a weight of 0"
 abbrev pub «WEIGHTS_REFUSED» : ℕ
 «WEIGHTS_REFUSED» = 18
+
+-- request C-20: "a script number above 3"
+abbrev pub «NO_SCRIPT» : ℕ
+«NO_SCRIPT» = 20
+
+-- request C-20: "an S out of range"
+abbrev pub «BUDGET_RANGE» : ℕ
+«BUDGET_RANGE» = 21
+
+-- request C-20: "a feed after which the sum would be above S"
+abbrev pub «OVER_BUDGET» : ℕ
+«OVER_BUDGET» = 22

@@ -40,3 +40,12 @@ pub const TOO_MANY_LINES: u8 = 13;
 
 // Request C-17: a weight count other than 128, or a weight of 0.
 pub const WEIGHTS_REFUSED: u8 = 18;
+
+// Request C-20: a script number above 3.
+pub const NO_SCRIPT: u8 = 20;
+
+// Request C-20: a budget that is not 1 to 16,777,216.
+pub const BUDGET_RANGE: u8 = 21;
+
+// Request C-20: after the feed the sum of the counts would be above the budget.
+pub const OVER_BUDGET: u8 = 22;

@@ -1,0 +1,5 @@
+pub mod Meters
+pub mod View
+pub mod Alone
+pub mod Never
+pub mod Independent
