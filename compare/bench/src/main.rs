@@ -4,6 +4,7 @@ mod heap;
 mod stack;
 
 use model::flat::Record;
+use model::four::Meters;
 use model::input::{place, Input, UNNAMED};
 use model::meter::Meter;
 use model::{real, steps};
@@ -187,6 +188,34 @@ fn feed_rows(columns: &Columns, sides: &[Side], rounds: usize, (name, make): Kin
     }
 }
 
+/// Four scripts of one kind, each of its own length, that take turns, a word each.
+fn four_rows(columns: &Columns, sides: &[Side], rounds: usize, (name, make): Kind) {
+    let weights = vec![1; 128];
+    let mut rows = vec![];
+    for n in SIZES {
+        let words: [Vec<u32>; 4] = [0, 1, 2, 3].map(|i| make(n - 2 * i));
+        let many = 25_000;
+        // A script begins anew where no step leads on: its meter is not begun then, so that its list ends there.
+        let lists: Vec<Vec<u32>> = words.iter().map(|w| courses(w, many).swap_remove(0)).collect();
+        let turns: Vec<(u32, u32)> = (0..many).flat_map(|k| lists.iter().enumerate().filter_map(move |(i, l)| l.get(k).map(|&q| (i as u32, q)))).collect();
+        let repeat = 4 * many / turns.len() + 1;
+        let mut calls: Vec<Box<dyn FnMut()>> = vec![];
+        for side in sides {
+            let (words, weights, turns) = (&words, &weights, &turns);
+            calls.push(Box::new(move || {
+                let mut ms = Meters::default();
+                for _ in 0..repeat {
+                    assert_eq!((side.feed_all_four)(black_box(words), black_box(weights), &mut ms, turns), 0);
+                }
+                black_box(ms);
+            }));
+        }
+        let times = best(rounds, &mut calls);
+        rows.push(columns.row("feed of one of four", name, n, &times, (repeat * turns.len()) as f64));
+    }
+    columns.flat_row(&rows);
+}
+
 /// Words that luad spends most on: long constants, of which it prints the bytes.
 fn constants(n: usize) -> Vec<u32> {
     (0..n).map(|p| 3 | ((p % 256) as u32) << 15).collect()
@@ -243,6 +272,9 @@ fn memory_rows(sides: &[Side]) {
         (side.feed)(&input.words, &ones, &mut m, 0);
         let feed = stack::used(|| assert_eq!((side.feed)(&input.words, &ones, &mut m, 1).number, 0));
         println!("| feed | {} | 0 | 0 | {feed} |", side.name);
+        let mut ms = Meters::default();
+        let four = stack::used(|| assert_eq!((side.feed_four)(&input.words, &ones, &mut ms, 3, 1, 0).number, 0));
+        println!("| feed of one of four | {} | 0 | 0 | {four} |", side.name);
         if let Some(lift) = side.lift {
             let depth = stack::used(|| assert_eq!(lift(&input, &mut records).number, 0));
             println!("| lift | {} | {} | 0 | {depth} |", side.name, std::mem::size_of::<Record>());
@@ -267,6 +299,9 @@ fn main() {
     }
     for kind in KINDS {
         feed_rows(&columns, &sides, rounds, kind);
+    }
+    for kind in KINDS {
+        four_rows(&columns, &sides, rounds, kind);
     }
     let lifting: Vec<Side> = sides.into_iter().filter(|s| s.lift.is_some()).collect();
     let mut columns = Columns::over_first(lifting.iter().map(|s| s.name).chain(["luad"]).collect());

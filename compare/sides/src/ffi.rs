@@ -136,7 +136,9 @@ pub mod twin {
             },
             feed_all_four: |words, t, ms, list| {
                 lend_four(ms, |ms| unsafe {
-                    (0..4).for_each(|i| drop(twin_begin_four(ms, i)));
+                    for i in 0..4 {
+                        twin_begin_four(ms, i);
+                    }
                     let refused = |&(i, q): &(u32, u32)| {
                         let w = &words[i as usize];
                         twin_feed_four(w.as_ptr(), w.len(), t.as_ptr(), t.len(), ms, i, ALLOWANCE, q as usize).number != 0
@@ -221,7 +223,9 @@ pub mod rattle {
             },
             feed_all_four: |words, t, ms, list| {
                 lend_four(ms, |ms| unsafe {
-                    (0..4).for_each(|i| drop(lawendeb_begin_four(ms, i)));
+                    for i in 0..4 {
+                        lawendeb_begin_four(ms, i);
+                    }
                     let refused = |&(i, q): &(u32, u32)| {
                         let w = &words[i as usize];
                         lawendeb_feed_four(w.as_ptr(), w.len(), t.as_ptr(), t.len(), ms, i, ALLOWANCE, q as usize).number != 0

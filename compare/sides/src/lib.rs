@@ -63,7 +63,9 @@ pub fn model_side() -> Side {
         reset_four: model::four::reset_four,
         feed_four: model::four::feed_four,
         feed_all_four: |words, weights, ms, list| {
-            (0..4).for_each(|i| drop(model::four::begin_four(ms, i)));
+            for i in 0..4 {
+                model::four::begin_four(ms, i);
+            }
             let feed = |&(i, q): &(u32, u32)| model::four::feed_four(&words[i as usize], weights, ms, i, ALLOWANCE, q as usize);
             list.iter().map(feed).map(|a| u64::from(a.number != 0)).sum()
         },
