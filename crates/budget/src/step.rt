@@ -107,10 +107,7 @@ fn refused(ms: Meters, number: u64) -> FedFour
 {
     FedFour {
         meters: ms,
-        answer: FeedAnswer {
-            number,
-            place: 0,
-        },
+        answer: FeedAnswer { number, place: 0 },
     }
 }
 

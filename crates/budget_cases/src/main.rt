@@ -87,9 +87,7 @@ fn feed_by(
     number_u32(budget);
     text(b", word");
     number(q as u64);
-    told(
-        budget::feed_four(words, weights, ms, script, budget, q),
-    )
+    told(budget::feed_four(words, weights, ms, script, budget, q))
 }
 
 // By the script's own words.
@@ -135,53 +133,32 @@ fn new() -> Meters {
     )
 }
 
+// A call by its digits: the last two are the word fed, the third from the right is the script; 1000 more is a begin, 2000 more a reset.
+fn call(ms: Meters, budget: u32, digits: u32) -> Meters {
+    let script = digits / 100 % 10;
+    if digits / 1000 == 1 {
+        return begin(ms, script);
+    }
+    if digits / 1000 == 2 {
+        return reset(ms, script);
+    }
+    feed(ms, script, budget, (digits % 100) as usize)
+}
+
+fn replay(start: Meters, budget: u32, calls: &[u32]) -> Meters {
+    let mut ms = start;
+    let mut i = 0;
+    while i < calls.len() {
+        ms = call(ms, budget, calls[i]);
+        i += 1;
+    }
+    ms
+}
+
 fn start(title: &[u8], ms: Meters) -> Meters {
     text(title);
     show(ms);
     ms
-}
-
-// The scripts take turns; each counts its own services.
-fn turns() {
-    let ms = start(b"turns within 9", new());
-    let ms = begin(ms, 0);
-    let ms = begin(ms, 1);
-    let ms = begin(ms, 2);
-    let ms = begin(ms, 3);
-    let ms = feed(ms, 0, 9, 0);
-    let ms = feed(ms, 3, 9, 0);
-    let ms = feed(ms, 1, 9, 0);
-    let ms = feed(ms, 0, 9, 1);
-    let ms = feed(ms, 1, 9, 0);
-    let ms = feed(ms, 3, 9, 1);
-    let ms = feed(ms, 2, 9, 0);
-    let ms = feed(ms, 2, 9, 1);
-    let ms = feed(ms, 3, 9, 2);
-    let ms = feed(ms, 3, 9, 1);
-    let ms = reset(ms, 3);
-    let ms = feed(ms, 2, 9, 2);
-    let ms = feed(ms, 0, 9, 3);
-    feed(ms, 0, 9, 1);
-}
-
-// A sum at the budget is taken and one above it is turned back, with all four as they were. Then the budget is another.
-fn at_the_limit() {
-    let ms = start(b"the budget's edge", new());
-    let ms = feed(ms, 0, 1, 0);
-    let ms = feed(ms, 1, 1, 0);
-    let ms = feed(ms, 1, 2, 0);
-    let ms = feed(ms, 0, 2, 1);
-    let ms = feed(ms, 0, 3, 1);
-    let ms = feed(ms, 0, 4, 3);
-    // A serving step is at the limit: what it leaves counts, not what was there before.
-    let ms = feed(ms, 2, 4, 0);
-    let ms = feed(ms, 0, 1, 1);
-    let ms = feed(ms, 0, 2, 1);
-    // Of another script, whose counts stand.
-    let ms = feed(ms, 1, 1, 0);
-    let ms = feed(ms, 1, 2, 0);
-    let ms = begin(ms, 0);
-    feed(ms, 1, 1, 0);
 }
 
 // A word more than a function may have: MOVE at each.
@@ -201,6 +178,28 @@ fn but_one(opcode: usize) -> [u8; 128] {
 }
 
 // Each check before the next: 20, 21, 1, 18, 11, 10, 22. What is fed next would pass the check that refused.
+fn without_script(many: &[u32], foreign: Meters) {
+    let zero = but_one(90);
+    let ms = feed_by(many, &zero, foreign, 4, 0, 9);
+    feed_by(many, &zero, ms, MOST, 16777217, 9);
+}
+
+fn out_of_range(many: &[u32], foreign: Meters) {
+    let zero = but_one(90);
+    let ms = feed_by(many, &zero, foreign, 0, 0, 9);
+    let ms = feed_by(many, &zero, ms, 0, 16777217, 9);
+    feed_by(many, &zero, ms, 0, MOST, 9);
+}
+
+fn later_checks(many: &[u32], foreign: Meters) {
+    let zero = but_one(90);
+    let ms = feed_by(many, &zero, foreign, 0, 1, 9);
+    let ms = feed_by(&AXIS, &zero, ms, 0, 1, 9);
+    let ms = feed_by(&AXIS, &[], ms, 0, 1, 9);
+    let ms = replay(ms, 1, &[9, 2000, 9, 1]);
+    replay(ms, MOST_BUDGET, &[1]);
+}
+
 fn order(many: &[u32]) {
     let foreign = four(
         meter(1, 0, 2, 10, 1),
@@ -208,31 +207,65 @@ fn order(many: &[u32]) {
         meter(0, 5, 5, 30, 0),
         meter(1, 0, 4294967295, 40, 0),
     );
-    let zero = but_one(90);
     let ms = start(b"the order of the checks", foreign);
-    let ms = feed_by(many, &zero, ms, 4, 0, 9);
-    let ms = feed_by(many, &zero, ms, 4294967295, 16777217, 9);
-    let ms = feed_by(many, &zero, ms, 0, 0, 9);
-    let ms = feed_by(many, &zero, ms, 0, 16777217, 9);
-    let ms = feed_by(many, &zero, ms, 0, 4294967295, 9);
-    let ms = feed_by(many, &zero, ms, 0, 1, 9);
-    let ms = feed_by(&AXIS, &zero, ms, 0, 1, 9);
-    let ms = feed_by(&AXIS, &[], ms, 0, 1, 9);
-    let ms = feed_by(&AXIS, &ONES, ms, 0, 1, 9);
-    let ms = reset(ms, 0);
-    let ms = feed_by(&AXIS, &ONES, ms, 0, 1, 9);
-    let ms = feed_by(&AXIS, &ONES, ms, 0, 1, 1);
-    feed_by(&AXIS, &ONES, ms, 0, MOST_BUDGET, 1);
+    without_script(many, ms);
+    out_of_range(many, ms);
+    later_checks(many, ms);
+}
+
+// The scripts take turns; each counts its own services.
+fn turns() {
+    let ms = start(b"turns within 9", new());
+    replay(
+        ms,
+        9,
+        &[
+            1000,
+            1100,
+            1200,
+            1300,
+            0,
+            300,
+            100,
+            1,
+            100,
+            301,
+            200,
+            201,
+            302,
+            301,
+            2300,
+            202,
+            3,
+            1,
+        ],
+    );
+}
+
+// A sum at the budget is taken and one above it is turned back, with all four as they were. Then the budget is another.
+fn at_the_limit() {
+    let ms = start(b"the budget's edge", new());
+    let ms = replay(ms, 1, &[0, 100]);
+    let ms = replay(ms, 2, &[100, 1]);
+    let ms = replay(ms, 3, &[1]);
+    // Then no word but one that a serving step leads to.
+    let ms = replay(ms, 4, &[3, 200]);
+    serving(ms);
+}
+
+// A serving step at the limit: what it leaves counts, not what was there before. Others' counts stand.
+fn serving(ms: Meters) {
+    let ms = replay(ms, 1, &[1]);
+    let ms = replay(ms, 2, &[1, 100]);
+    replay(ms, 1, &[100, 1000, 100]);
 }
 
 // No script: nothing else is asked, and nothing changes.
 fn no_script() {
     let ms = start(b"no script", new());
-    let ms = begin(ms, 4);
+    let ms = replay(ms, 1, &[1400, 2400, 400, 1900]);
     let ms = begin(ms, MOST);
-    let ms = reset(ms, 4);
     let ms = reset(ms, MOST);
-    let ms = feed(ms, 4, 1, 0);
     let ms = feed(ms, MOST, 0, 9);
     begin(ms, 3);
 }
@@ -244,53 +277,47 @@ fn others() {
         b"counts of 2^32 - 1",
         four(meter(0, 0, 0, 10, 0), full, full, full),
     );
-    let ms = feed(ms, 0, MOST_BUDGET, 0);
-    let ms = feed(ms, 1, MOST_BUDGET, 0);
-    let ms = reset(ms, 2);
-    let ms = begin(ms, 1);
-    let ms = feed(ms, 0, MOST_BUDGET, 0);
-    let ms = begin(ms, 2);
-    let ms = feed(ms, 0, MOST_BUDGET, 0);
-    let ms = feed(ms, 1, MOST_BUDGET, 0);
-    let ms = begin(ms, 3);
-    let ms = feed(ms, 0, MOST_BUDGET, 0);
-    feed(ms, 0, MOST_BUDGET, 1);
+    replay(
+        ms,
+        MOST_BUDGET,
+        &[0, 100, 2200, 1100, 0, 1200, 0, 100, 1300, 0, 1],
+    );
     let other = meter(0, 77, 16777215, 5, 0);
     let none = meter(1, 99, 0, 5, 0);
     let ms = start(
         b"another's meter is no matter",
         four(meter(0, 0, 0, 10, 0), none, none, other),
     );
-    let ms = feed(ms, 0, MOST_BUDGET, 0);
-    feed(ms, 0, MOST_BUDGET, 1);
+    replay(ms, MOST_BUDGET, &[0, 1]);
 }
 
-// Four scripts that are accepted, the longest run of each a quarter of the budget at most: nothing is turned back.
+// Four scripts that are accepted, the longest run of each a quarter of the budget at most: nothing is turned back. With less it may be.
 fn quarters() {
     let ms = start(b"a quarter each", new());
-    let ms = begin(ms, 0);
-    let ms = begin(ms, 1);
-    let ms = begin(ms, 2);
-    let ms = begin(ms, 3);
-    let ms = feed_by(&AXIS, &ONES, ms, 0, 16, 0);
-    let ms = feed_by(&AXIS, &ONES, ms, 0, 16, 1);
-    let ms = feed_by(&AXIS, &ONES, ms, 0, 16, 2);
-    let ms = feed_by(&AXIS, &ONES, ms, 0, 16, 3);
-    let ms = feed_by(&AXIS, &ONES, ms, 1, 16, 0);
-    let ms = feed_by(&AXIS, &ONES, ms, 1, 16, 1);
-    let ms = feed_by(&AXIS, &ONES, ms, 1, 16, 2);
-    let ms = feed_by(&AXIS, &ONES, ms, 1, 16, 3);
-    let ms = feed_by(&AXIS, &ONES, ms, 2, 16, 0);
-    let ms = feed_by(&AXIS, &ONES, ms, 2, 16, 1);
-    let ms = feed_by(&AXIS, &ONES, ms, 2, 16, 2);
-    let ms = feed_by(&AXIS, &ONES, ms, 2, 16, 3);
-    let ms = feed_by(&AXIS, &ONES, ms, 3, 16, 0);
-    let ms = feed_by(&AXIS, &ONES, ms, 3, 16, 1);
-    let ms = feed_by(&AXIS, &ONES, ms, 3, 16, 2);
-    let ms = feed_by(&AXIS, &ONES, ms, 3, 16, 3);
-    let ms = feed_by(&AXIS, &ONES, ms, 2, 16, 1);
-    // Another budget is another matter.
-    feed_by(&AXIS, &ONES, ms, 2, 13, 2);
+    let ms = replay(
+        ms,
+        16,
+        &[
+            1000,
+            1100,
+            1200,
+            1300,
+            0,
+            1,
+            2,
+            3,
+            100,
+            101,
+            200,
+            201,
+            202,
+            300,
+            301,
+            302,
+            303,
+        ],
+    );
+    replay(ms, 12, &[1300, 300, 301, 302, 303, 1]);
 }
 
 fn main() {
