@@ -188,30 +188,35 @@ fn feed_rows(columns: &Columns, sides: &[Side], rounds: usize, (name, make): Kin
     }
 }
 
-/// Four scripts of one kind, each of its own length, that take turns, a word each.
-fn four_rows(columns: &Columns, sides: &[Side], rounds: usize, (name, make): Kind) {
+/// Four scripts of one kind, each of its own length, in turns of so many words.
+fn four_rows(columns: &Columns, sides: &[Side], rounds: usize, (name, make): Kind, turn: usize) {
     let weights = vec![1; 128];
     let mut rows = vec![];
     for n in SIZES {
         let words: [Vec<u32>; 4] = [0, 1, 2, 3].map(|i| make(n - 2 * i));
         let many = 25_000;
-        // A script begins anew where no step leads on: its meter is not begun then, so that its list ends there.
+        // One course each: where no step leads on, the script has ended.
         let lists: Vec<Vec<u32>> = words.iter().map(|w| courses(w, many).swap_remove(0)).collect();
-        let turns: Vec<(u32, u32)> = (0..many).flat_map(|k| lists.iter().enumerate().filter_map(move |(i, l)| l.get(k).map(|&q| (i as u32, q)))).collect();
-        let repeat = 4 * many / turns.len() + 1;
+        let mut fed: Vec<(u32, u32)> = vec![];
+        for from in (0..many).step_by(turn) {
+            for (i, list) in lists.iter().enumerate() {
+                fed.extend(list.iter().skip(from).take(turn).map(|&q| (i as u32, q)));
+            }
+        }
+        let repeat = 4 * many / fed.len() + 1;
         let mut calls: Vec<Box<dyn FnMut()>> = vec![];
         for side in sides {
-            let (words, weights, turns) = (&words, &weights, &turns);
+            let (words, weights, fed) = (&words, &weights, &fed);
             calls.push(Box::new(move || {
                 let mut ms = Meters::default();
                 for _ in 0..repeat {
-                    assert_eq!((side.feed_all_four)(black_box(words), black_box(weights), &mut ms, turns), 0);
+                    assert_eq!((side.feed_all_four)(black_box(words), black_box(weights), &mut ms, fed), 0);
                 }
                 black_box(ms);
             }));
         }
         let times = best(rounds, &mut calls);
-        rows.push(columns.row("feed of one of four", name, n, &times, (repeat * turns.len()) as f64));
+        rows.push(columns.row("feed of one of four", &format!("{name}, turns of {turn}"), n, &times, (repeat * fed.len()) as f64));
     }
     columns.flat_row(&rows);
 }
@@ -301,7 +306,9 @@ fn main() {
         feed_rows(&columns, &sides, rounds, kind);
     }
     for kind in KINDS {
-        four_rows(&columns, &sides, rounds, kind);
+        for turn in [1, 16] {
+            four_rows(&columns, &sides, rounds, kind, turn);
+        }
     }
     let lifting: Vec<Side> = sides.into_iter().filter(|s| s.lift.is_some()).collect();
     let mut columns = Columns::over_first(lifting.iter().map(|s| s.name).chain(["luad"]).collect());
