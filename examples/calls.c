@@ -471,6 +471,95 @@ static void refusals(void) {
     CHECK(lift_refuses(sheet, 4, &t, 3 * N, LAWENDEB_SHORT_SLICE, 0));
 }
 
+/* ---- what a word touches */
+
+static int ranged(struct lawendeb_ranges r, unsigned count, unsigned first, unsigned last) {
+    return r.count == count && r.items[0].first == first && r.items[0].last == last &&
+           !(r.items[1].first | r.items[1].last | r.items[2].first | r.items[2].last);
+}
+
+static int topped(struct lawendeb_top t, unsigned count, unsigned first) {
+    return t.count == count && t.first == first;
+}
+
+static int indexed(struct lawendeb_indices r, unsigned count, uint32_t first, uint32_t second) {
+    return r.count == count && r.items[0] == first && r.items[1] == second && r.items[2] == 0;
+}
+
+/* What a test does not name is empty. */
+static int nothing_else(struct lawendeb_touches t, int reads, int tops, int indices, int writes,
+                        int on_edge) {
+    return (reads || ranged(t.reads, 0, 0, 0)) &&
+           (tops || (topped(t.reads_to_top, 0, 0) && topped(t.writes_to_top, 0, 0))) &&
+           (indices || (indexed(t.constants, 0, 0, 0) && indexed(t.upvalues, 0, 0, 0) &&
+                        indexed(t.upvalue_writes, 0, 0, 0))) &&
+           (writes || ranged(t.writes, 0, 0, 0)) &&
+           (on_edge || (ranged(t.edge_writes, 0, 0, 0) && t.edge == 0));
+}
+
+static void touches(void) {
+    enum { MOVE = 0, LOADKX = 4, LOADNIL = 8, SETUPVAL = 10, GETTABLE = 12, SETTABUP = 15 };
+    enum { ADD = 34, MMBIN = 46, CALL = 68, RETURN = 70, FORPREP = 74, EXTRAARG = 82 };
+    const uint32_t k = 32768;
+    const uint32_t words[14] = {
+        word_abc(MOVE, 1, 2, 0),         word_abc(ADD, 3, 4, 5),
+        word_abc(MMBIN, 4, 5, 6),        word_abc(CALL, 7, 0, 0),
+        word_abc(LOADNIL, 255, 1, 0),    word_abc(GETTABLE, 9, 5, 4),
+        word_abc(SETTABUP, 2, 6, 6) + k, word_abc(LOADKX, 3, 0, 0),
+        EXTRAARG + 128 * 33554431u,      word_abc(SETUPVAL, 8, 2, 0),
+        word_abx(FORPREP, 10, 0),        word_abx(FORLOOP, 10, 0),
+        word_abc(ADD, 1, 2, 3),          word_abc(RETURN, 7, 0, 0)};
+    struct lawendeb_touches t;
+    size_t p;
+    t = lawendeb_touches(words, 14, 0);
+    CHECK(ranged(t.reads, 1, 2, 2) && ranged(t.writes, 1, 1, 1) && nothing_else(t, 1, 0, 0, 1, 0));
+    /* the sum goes to p + 2, past its metamethod word, which writes the A of the word before */
+    t = lawendeb_touches(words, 14, 1);
+    CHECK(ranged(t.reads, 1, 4, 5) && ranged(t.edge_writes, 1, 3, 3) && t.edge == 3);
+    CHECK(nothing_else(t, 1, 0, 0, 0, 1));
+    t = lawendeb_touches(words, 14, 2);
+    CHECK(ranged(t.reads, 1, 4, 5) && ranged(t.writes, 1, 3, 3) && nothing_else(t, 1, 0, 0, 1, 0));
+    /* the function called is read at every top */
+    t = lawendeb_touches(words, 14, 3);
+    CHECK(topped(t.reads_to_top, 1, 8) && topped(t.writes_to_top, 1, 7));
+    CHECK(ranged(t.reads, 1, 7, 7) && nothing_else(t, 1, 1, 0, 0, 0));
+    t = lawendeb_touches(words, 14, 4);
+    CHECK(ranged(t.writes, 1, 255, 256) && nothing_else(t, 0, 0, 0, 1, 0));
+    t = lawendeb_touches(words, 14, 5);
+    CHECK(ranged(t.reads, 1, 4, 5) && ranged(t.writes, 1, 9, 9) && nothing_else(t, 1, 0, 0, 1, 0));
+    /* key and value are one constant */
+    t = lawendeb_touches(words, 14, 6);
+    CHECK(indexed(t.constants, 1, 6, 0) && indexed(t.upvalues, 1, 2, 0));
+    CHECK(indexed(t.upvalue_writes, 0, 0, 0) && nothing_else(t, 0, 0, 1, 0, 0));
+    t = lawendeb_touches(words, 14, 7);
+    CHECK(indexed(t.constants, 1, 33554431, 0) && indexed(t.upvalues, 0, 0, 0));
+    CHECK(ranged(t.writes, 1, 3, 3) && nothing_else(t, 0, 0, 1, 1, 0));
+    t = lawendeb_touches(words, 14, 9);
+    CHECK(indexed(t.upvalue_writes, 1, 2, 0) && indexed(t.constants, 0, 0, 0));
+    CHECK(indexed(t.upvalues, 0, 0, 0));
+    CHECK(ranged(t.reads, 1, 8, 8) && nothing_else(t, 1, 0, 1, 0, 0));
+    /* the control variable is set before the loop is found not to run */
+    t = lawendeb_touches(words, 14, 10);
+    CHECK(ranged(t.reads, 1, 10, 12) && ranged(t.writes, 1, 13, 13));
+    CHECK(ranged(t.edge_writes, 1, 10, 12) && t.edge == 11 && nothing_else(t, 1, 0, 0, 1, 1));
+    /* with Bx 0 both ways lead to one word, and on one of them is written */
+    t = lawendeb_touches(words, 14, 11);
+    CHECK(ranged(t.reads, 1, 10, 12) && t.edge == 12 && t.edge_writes.count == 2);
+    CHECK(t.edge_writes.items[0].first == 10 && t.edge_writes.items[0].last == 11);
+    CHECK(t.edge_writes.items[1].first == 13 && t.edge_writes.items[1].last == 13);
+    CHECK(nothing_else(t, 1, 0, 0, 0, 1));
+    t = lawendeb_touches(words, 14, 13);
+    CHECK(topped(t.reads_to_top, 1, 7) && topped(t.writes_to_top, 0, 0));
+    CHECK(nothing_else(t, 0, 1, 0, 0, 0));
+    /* bad: an EXTRAARG, an ADD without its metamethod word, the last word, none */
+    for (p = 8; p < 16; p++)
+        if (p == 8 || p == 12 || p > 13)
+            CHECK(nothing_else(lawendeb_touches(words, 14, p), 0, 0, 0, 0, 0));
+    CHECK(nothing_else(lawendeb_touches(words, 1, 0), 0, 0, 0, 0, 0));
+    CHECK(nothing_else(lawendeb_touches(words, 14, SIZE_MAX), 0, 0, 0, 0, 0));
+    CHECK(nothing_else(lawendeb_touches(words, 0, 0), 0, 0, 0, 0, 0));
+}
+
 int main(void) {
     weigh();
     steps();
@@ -481,6 +570,7 @@ int main(void) {
     records();
     values();
     refusals();
+    touches();
     printf("calls: %d checks, %d wrong\n", checks, wrong);
     return wrong != 0;
 }

@@ -1,14 +1,15 @@
 /* Lawendeb for C and C++, on x86-64 Linux (System V calls). What the functions do is proved; what
    is asked of the caller stands here.
 
-   Two archives, to be linked alone or side by side; both are made in target/staticlib/:
+   Three archives, to be linked alone or side by side; all are made in target/staticlib/:
      libmeter.a     begin and feed, for controllers: `rt staticlib meter`. It needs no symbol.
      libexports.a   steps, the longest run, records: `rt staticlib exports`. It needs memset.
+     libtouches.a   what a word reads and writes: `rt staticlib touches`. It needs memset.
    They write nothing but what a call is lent: no heap, no static data, and as measured less than
-   1 kB of stack (docs/BENCHMARKS.md). So every call is reentrant, and calls on different memory may
-   run at once, in threads or interrupts. A begin and a feed take a bounded time, whatever the
-   number of words; a run takes time in proportion to the words, a lift to words, constants and
-   names.
+   1 kB of stack, but less than 2 kB for what a word touches (docs/BENCHMARKS.md). So every call is
+   reentrant, and calls on different memory may run at once, in threads or interrupts. A begin, a
+   feed and what a word touches take a bounded time, whatever the number of words; a run takes time
+   in proportion to the words, a lift to words, constants and names.
 
    Each slice passes as a pointer and a length. The pointer is not null, even where the length is 0,
    and nobody writes the slice meanwhile. Slices that are written lie apart from all others. Any
@@ -155,6 +156,59 @@ struct lawendeb_answer lawendeb_lift(const uint32_t *words, size_t n, const uint
                                      size_t tags_n, const uint64_t *payloads, size_t payloads_n,
                                      const uint64_t *names, size_t names_n, const uint8_t *bytes,
                                      size_t bytes_n, uint64_t *numbers, size_t numbers_n);
+
+/* ---- what a word touches: libtouches.a */
+
+/* Registers from the first to the last, both touched. */
+struct lawendeb_range {
+    uint16_t first, last;
+};
+
+/* Ranges that rise, each as long as can be. Places past the count hold 0, here and below. */
+struct lawendeb_ranges {
+    struct lawendeb_range items[3];
+    uint16_t count;
+};
+
+/* A range up to the stack top, by its first register past those touched at every top. The count is
+   0 or 1. */
+struct lawendeb_top {
+    uint16_t first, count;
+};
+
+/* Constants or upvalues, rising without repeats. */
+struct lawendeb_indices {
+    uint32_t items[3];
+    uint32_t count;
+};
+
+/* The registers, constants and upvalues that Lua's own VM (lvm.c, 5.4.8) reads and writes in some
+   execution of a word. The reads and writes of a record are luad's, and differ. */
+struct lawendeb_touches {
+    struct lawendeb_ranges reads;
+    struct lawendeb_top reads_to_top;
+    struct lawendeb_indices constants, upvalues;
+    struct lawendeb_ranges writes; /* on every way on */
+    struct lawendeb_top writes_to_top;
+    struct lawendeb_indices upvalue_writes;
+    struct lawendeb_ranges edge_writes; /* only on the way to word `edge`, one of the steps */
+    size_t edge;                        /* 0 if nothing is written so */
+};
+
+LAWENDEB_ASSERT(sizeof(struct lawendeb_ranges) == 14 && sizeof(struct lawendeb_indices) == 16 &&
+                    offsetof(struct lawendeb_touches, reads_to_top) == 14 &&
+                    offsetof(struct lawendeb_touches, constants) == 20 &&
+                    offsetof(struct lawendeb_touches, upvalues) == 36 &&
+                    offsetof(struct lawendeb_touches, writes) == 52 &&
+                    offsetof(struct lawendeb_touches, writes_to_top) == 66 &&
+                    offsetof(struct lawendeb_touches, upvalue_writes) == 72 &&
+                    offsetof(struct lawendeb_touches, edge_writes) == 88 &&
+                    offsetof(struct lawendeb_touches, edge) == 104 &&
+                    sizeof(struct lawendeb_touches) == 112,
+                "the layout that crates/touches has");
+
+/* What word p of the n words touches; a bad word, and a word number of n or more, nothing. */
+struct lawendeb_touches lawendeb_touches(const uint32_t *words, size_t n, size_t p);
 
 #ifdef __cplusplus
 }

@@ -4,6 +4,7 @@
 
 mod gen;
 mod meters;
+mod patches;
 mod records;
 mod rng;
 mod runs;
@@ -53,6 +54,14 @@ fn main() {
     println!(
         "runs: {} functions of {} words, {} steps, each side against the model; {} functions against the definitions by brute force; answers by number: {}",
         c.functions, c.words, c.edges, c.brute, by_number(&c.answers)
+    );
+    eprintln!("  {:.1} s", start.elapsed().as_secs_f64());
+
+    let start = Instant::now();
+    let c = patches::all(&sides, seed, functions / 8);
+    println!(
+        "patches: {} words of {} lists, dead words of {} functions, {} of them real: each side answers the same; next to a reachable word {} lists, answered otherwise {} with the patch between two and {} before one",
+        c.words, c.lists, c.functions, c.real, c.near, c.between, c.before
     );
     eprintln!("  {:.1} s", start.elapsed().as_secs_f64());
 

@@ -80,6 +80,11 @@ fn compare_brute(f: &Function) -> Result<(), String> {
     Ok(())
 }
 
+/// By document 01 the function is accepted with these weights.
+pub fn accepted(words: &[u32], weights: &Weights) -> bool {
+    run(words, &weights.0, &mut vec![0; words.len()], &mut vec![0; words.len()]).number == 0
+}
+
 fn smaller(f: &Function) -> Vec<Function> {
     let mut all: Vec<Function> = smaller_words(&f.words).into_iter().map(|words| Function { words, ..f.clone() }).collect();
     all.extend(weights::smaller(&f.weights).into_iter().map(|weights| Function { weights, ..f.clone() }));

@@ -1,15 +1,22 @@
-//! Wrong on purpose: records, a step, runs and feeds that are each a little off must be caught, or the comparison is blind.
+//! Wrong on purpose: records, a step, runs, feeds and rules of what may change that are each a little off must be caught, or the
+//! comparison is blind.
 
 use crate::rng::Rng;
-use crate::{gen, meters, records, runs, weights};
+use crate::{gen, meters, patches, records, runs, weights};
 use model::flat::Record;
 use model::input::Input;
 use model::Answer;
-use sides::{ffi::twin, Side, Successors};
+use sides::{
+    ffi::{rattle, twin},
+    Side, Successors,
+};
 
 /// Every wrong side with the report that caught it; panics if one was not caught.
 pub fn all(seed: u64) -> Vec<String> {
-    vec![record(seed), past(seed), room(seed), step(seed), stretch(seed), table(seed), taken_along(seed), service(seed), first(seed), zero(seed)]
+    let mut all = vec![record(seed), past(seed), room(seed), step(seed), stretch(seed), table(seed), taken_along(seed)];
+    all.extend([service(seed), first(seed), zero(seed)]);
+    all.extend(patches::wrong(&rattle::side(), seed));
+    all
 }
 
 fn lift(input: &Input, out: &mut [Record]) -> Answer {
