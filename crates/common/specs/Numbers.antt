@@ -57,3 +57,7 @@ abbrev pub «TOO_MANY_LINES» : ℕ
 -- request C-17: "a weight count other than 128, or a weight of 0"
 abbrev pub «WEIGHTS_REFUSED» : ℕ
 «WEIGHTS_REFUSED» = 18
+
+-- request C-21: "a script count, q or choice out of range"
+abbrev pub «OUT_OF_RANGE» : ℕ
+«OUT_OF_RANGE» = 23

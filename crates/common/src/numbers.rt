@@ -40,3 +40,6 @@ pub const TOO_MANY_LINES: u8 = 13;
 
 // Request C-17: a weight count other than 128, or a weight of 0.
 pub const WEIGHTS_REFUSED: u8 = 18;
+
+// Request C-21: a script count, q or choice out of range.
+pub const OUT_OF_RANGE: u8 = 23;

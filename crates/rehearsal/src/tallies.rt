@@ -1,0 +1,89 @@
+// The running numbers of the scripts: in place of the trace, what is needed of it.
+ghost use mathlib.Core.Path.{_≡_};
+ghost use Prim.Native.Nat.{_≤_, max};
+ghost use Rattle.rehearsal.specs.Running.{tallyAt, withTally, notedTally, noted, newTally};
+use crate::machine::Tallies;
+use crate::machine::Tally;
+
+fn larger(a: u32, b: u32) -> u32
+    ensures { λ r. ⌜ r ≡ max a b ⌝ }
+{
+    if a < b {
+        return b;
+    }
+    a
+}
+
+pub(crate) fn new_tally(limit: u32) -> Tally
+    ensures { λ r. ⌜ r ≡ newTally limit ⌝ }
+{
+    Tally {
+        turned: false,
+        ended: limit,
+        longest: 0,
+    }
+}
+
+fn tally_at(t: Tallies, i: usize) -> Tally
+    ensures { λ r. ⌜ r ≡ tallyAt t i ⌝ }
+{
+    if i == 0 {
+        return t.first;
+    }
+    if i == 1 {
+        return t.second;
+    }
+    if i == 2 {
+        return t.third;
+    }
+    t.fourth
+}
+
+fn with_tally(t: Tallies, i: usize, own: Tally) -> Tallies
+    ensures { λ r. ⌜ r ≡ withTally t i own ⌝ }
+{
+    let mut u = t;
+    if i == 0 {
+        u.first = own;
+        return u;
+    }
+    if i == 1 {
+        u.second = own;
+        return u;
+    }
+    if i == 2 {
+        u.third = own;
+        return u;
+    }
+    u.fourth = own;
+    u
+}
+
+// The tally of a script that ran so many of the words left. A turn of no words is none.
+fn noted_tally(t: Tally, left: u32, ran: u32) -> Tally
+    requires { ⌜ (left ≤ t .ended) × (ran ≤ left) ⌝ }
+    ensures { λ r. ⌜ r ≡ notedTally t left ran ⌝ }
+{
+    if ran == 0 {
+        return t;
+    }
+    if t.turned {
+        return Tally {
+            turned: true,
+            ended: left - ran,
+            longest: larger(t.longest, t.ended - left),
+        };
+    }
+    Tally {
+        turned: true,
+        ended: left - ran,
+        longest: t.longest,
+    }
+}
+
+pub(crate) fn note(t: Tallies, script: usize, left: u32, ran: u32) -> Tallies
+    requires { ⌜ (left ≤ tallyAt t script .ended) × (ran ≤ left) ⌝ }
+    ensures { λ r. ⌜ r ≡ noted t script left ran ⌝ }
+{
+    with_tally(t, script, noted_tally(tally_at(t, script), left, ran))
+}
