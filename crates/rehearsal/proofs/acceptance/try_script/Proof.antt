@@ -11,19 +11,19 @@ use Rattle.rehearsal.proofs.acceptance.try_script.Statement.{statement}
 use Rattle.rehearsal.proofs.acceptance.try_script.Tie as tie
 
 abbrev enter : tie.After-longest-run → tie.Start
-enter l = l .before .before .before .before .before .before .before .before .before
+enter l = l .before .before .before .before .before .before .before .before .before .before
 
 -- the run's answer, as the function gives it
 came : (l : tie.After-longest-run) (p : Answer) → let s = enter l in p .number ≡ numberOf (l .longest-run .result)
     → p .place ≡ placeOf (l .longest-run .result)
-    → triedOf p (l .longest-run .last .1 .0) (l .longest-run .last .1 .1 .0)
+    → triedOf p (l .longest-run .last .1 .1 .0) (l .longest-run .last .1 .1 .1 .0)
     ≡ tryScript (s .args .wanted) (s .args .words .now)
     (triedOf (s .args .before) (s .args .marks .now) (s .args .lengths .now))
 came l p n k =
     let s = enter l in
     tried (s .args .wanted) (s .args .words .now) (s .args .before) (s .args .marks .now) (s .args .lengths .now)
-    (not-false _ (l .before .before .before .before .before .if1 .left)) (l .before .before .before .if2 .left)
-    (l .longest-run .result) p (l .longest-run .last .1 .0) (l .longest-run .last .1 .1 .0)
+    (not-false _ (l .before .before .before .before .before .before .if1 .left)) (l .before .before .before .before .if2 .left)
+    (l .longest-run .result) p (l .longest-run .last .1 .1 .0) (l .longest-run .last .1 .1 .1 .0)
     (l .longest-run .ensures .0) (l .longest-run .ensures .1 .0) (l .longest-run .ensures .1 .1) n k
 
 returns : tie.Need-returns
@@ -51,6 +51,7 @@ try-script-spec =
     (tie.spec
     returns
     returns-2
+    (λ c. search needs)
     (λ c κs. search needs)
     (λ c. search needs)
     (λ c. search needs)
