@@ -7,11 +7,11 @@
      libtouches.a   what a word reads and writes: `rt staticlib touches`. It needs memset.
      librehearsal.a scripts in rotation: `rt staticlib rehearsal`. It needs memset.
    They write nothing but what a call is lent: no heap, no static data, and as measured less than
-   1 kB of stack, but less than 2 kB for what a word touches (docs/BENCHMARKS.md). So every call is
-   reentrant, and calls on different memory may run at once, in threads or interrupts. A begin, a
-   feed and what a word touches take a bounded time, whatever the number of words; a run takes time
-   in proportion to the words, a lift to words, constants and names, a rehearsal to the words of its
-   scripts, its choices and the words that it runs.
+   1 kB of stack, but less than 2 kB for what a word touches and for a rehearsal
+   (docs/BENCHMARKS.md). So every call is reentrant, and calls on different memory may run at once,
+   in threads or interrupts. A begin, a feed and what a word touches take a bounded time, whatever
+   the number of words; a run takes time in proportion to the words, a lift to words, constants and
+   names, a rehearsal to the words of its scripts, its choices and the words that it runs.
 
    Each slice passes as a pointer and a length. The pointer is not null, even where the length is 0,
    and nobody writes the slice meanwhile. Slices that are written lie apart from all others. Any
