@@ -29,12 +29,12 @@ fn function(words: &[u32], weights: &Weights) -> Function {
 }
 
 /// Slices that are longer than the words by these, or shorter if negative.
-type Spare = (isize, isize);
+pub type Spare = (isize, isize);
 
 const MARK: u8 = 0xa5;
 const LENGTH: u32 = 0xa5a5_a5a5;
 
-fn lent(n: usize, spare: Spare) -> (Vec<u8>, Vec<u32>) {
+pub fn lent(n: usize, spare: Spare) -> (Vec<u8>, Vec<u32>) {
     let len = |s: isize| (n as isize + s).max(0) as usize;
     (vec![MARK; len(spare.0)], vec![LENGTH; len(spare.1)])
 }
