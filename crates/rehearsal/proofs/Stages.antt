@@ -26,7 +26,7 @@ use Rattle.rehearsal.proofs.Turns.{Count, counted, scan, ranOf, ran-lea
 
 -- the numbers that a tally stands for
 abbrev pub countOf : Tally → ℕ → Count
-countOf t left = record { had = t .turned; others = t .ended - left; longest = t .longest }
+countOf t left = record { had = ltb 0 (t .turned); others = t .ended - left; longest = t .longest }
 
 -- the queue without its first
 abbrev pub restOf : Queue → List Task
@@ -111,7 +111,7 @@ unfolding notedTally counted
 count-own t left zero i who p = let e : left - 0 ≡ left = omega arith in rw e
 count-own t left (suc m) i who p =
     let e : (left - suc m) - (left - suc m) ≡ 0 = omega arith in
-    rw (ne-eqb (suc m) 0 (λ z. omega arith), p, and-true (t .turned), e)
+    rw (ne-eqb (suc m) 0 (λ z. omega arith), p, and-true (ltb 0 (t .turned)), e)
 
 count-other : (t : Tally) (left n i who : ℕ) → eqb who i ≡ false → n ≤ left → left ≤ t .ended → countOf t (left - n)
     ≡ counted i who 0 n (countOf t left)
@@ -136,9 +136,9 @@ module _ (b : Tallies) (who left n i : ℕ) (w : who < 4) (h : i < 4) (fits : n 
     go true p = rw (tally-noted true p) (by (eqb n 0)) where
       by : (y : Bool) → left - n ≤ cond {A = Tally} y (tallyAt b i)
           (record {
-            turned = true;
+            turned = 1;
             ended = left - n;
-            longest = cond (tallyAt b i .turned)
+            longest = cond (ltb 0 (tallyAt b i .turned))
                 (max (tallyAt b i .longest) (tallyAt b i .ended - left)) (tallyAt b i .longest);
           }) .ended
       by true = omega arith

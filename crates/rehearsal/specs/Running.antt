@@ -1,10 +1,10 @@
 -- What the code keeps: a turn at a time, and running numbers in place of the trace. The contracts of private
 -- functions cite it; proofs/Turns.antt joins it to the machine and to the waits.
 -- Assumes nothing.
-use mathlib.Core.Bool.{Bool, true, false, cond, _&&_}
+use mathlib.Core.Bool.{cond}
 use mathlib.Core.List.{List, [], _∷_}
 use Prim.Native.Nat.{ℕ, zero, suc, _+_, _-_, _≤_, _<_, min, max}
-use lib.Dec.{eqb}
+use lib.Dec.{ltb, eqb}
 use lib.ListN.{take}
 use Rattle.graph.specs.Graph.{Graph}
 use Rattle.rehearsal.specs.declared.machine.Task.{Task}
@@ -35,19 +35,21 @@ tallyAt b i = cond (eqb i 0) (b .first) (cond (eqb i 1) (b .second) (cond (eqb i
 
 unfoldable pub withTally : Tallies → ℕ → Tally → Tallies
 withTally b i t =
-    cond (eqb i 0) (record { first = t; second = b .second; third = b .third; fourth = b .fourth })
-    (cond (eqb i 1) (record { first = b .first; second = t; third = b .third; fourth = b .fourth })
-    (cond (eqb i 2) (record { first = b .first; second = b .second; third = t; fourth = b .fourth })
-    (record { first = b .first; second = b .second; third = b .third; fourth = t })))
+    record {
+      first = cond (eqb i 0) t (b .first);
+      second = cond (eqb i 1) t (b .second);
+      third = cond (eqb i 2) t (b .third);
+      fourth = cond (ltb 2 i) t (b .fourth);
+    }
 
 -- the tally of a script that ran so many words, of those that were left. "a turn of no words is none"
 unfoldable pub notedTally : Tally → ℕ → ℕ → Tally
 notedTally t left ran =
     cond (eqb ran 0) t
     (record {
-      turned = true;
+      turned = 1;
       ended = left - ran;
-      longest = cond (t .turned) (max (t .longest) (t .ended - left)) (t .longest);
+      longest = cond (ltb 0 (t .turned)) (max (t .longest) (t .ended - left)) (t .longest);
     })
 
 unfoldable pub noted : Tallies → ℕ → ℕ → ℕ → Tallies
@@ -104,7 +106,7 @@ module _ (graphs : ℕ → Graph) (q : ℕ) (choices : List ℕ) where
   nextStage st = staged st (firstTurn st)
 
 abbrev pub newTally : ℕ → Tally
-newTally limit = record { turned = false; ended = limit; longest = 0 }
+newTally limit = record { turned = 0; ended = limit; longest = 0 }
 
 -- k scripts before anything ran
 unfoldable pub startStage : ℕ → ℕ → Stage

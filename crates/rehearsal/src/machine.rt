@@ -27,11 +27,11 @@ pub enum Turn {
     Starved(u32),
 }
 
-// The running numbers of a script: whether it had a turn, the words that were left when its last one ended, and its
+// The running numbers of a script: 1 if it had a turn, else 0; the words that were left when its last one ended; and its
 // longest wait. A wait is then the difference of two numbers of words left, so that a turn touches its own script's
 // numbers only.
 pub struct Tally {
-    pub turned: bool,
+    pub turned: u32,
     pub ended: u32,
     pub longest: u32,
 }

@@ -1,6 +1,7 @@
 // The running numbers of the scripts: in place of the trace, what is needed of it.
 ghost use mathlib.Core.Path.{_≡_};
 ghost use Prim.Native.Nat.{_≤_, max};
+ghost use mathlib.Core.Bool.{cond};
 ghost use Rattle.rehearsal.specs.Running.{tallyAt, withTally, notedTally, noted, newTally};
 use crate::machine::Tallies;
 use crate::machine::Tally;
@@ -18,45 +19,42 @@ pub(crate) fn new_tally(limit: u32) -> Tally
     ensures { λ r. ⌜ r ≡ newTally limit ⌝ }
 {
     Tally {
-        turned: false,
+        turned: 0,
         ended: limit,
         longest: 0,
     }
 }
 
+fn either(c: bool, s: Tally, t: Tally) -> Tally
+    ensures { λ r. ⌜ r ≡ cond c s t ⌝ }
+{
+    if c {
+        return s;
+    }
+    t
+}
+
 fn tally_at(t: Tallies, i: usize) -> Tally
     ensures { λ r. ⌜ r ≡ tallyAt t i ⌝ }
 {
-    if i == 0 {
-        return t.first;
-    }
-    if i == 1 {
-        return t.second;
-    }
-    if i == 2 {
-        return t.third;
-    }
-    t.fourth
+    let last = either(i == 2, t.third, t.fourth);
+    let later = either(i == 1, t.second, last);
+    either(i == 0, t.first, later)
 }
 
 fn with_tally(t: Tallies, i: usize, own: Tally) -> Tallies
     ensures { λ r. ⌜ r ≡ withTally t i own ⌝ }
 {
-    let mut u = t;
-    if i == 0 {
-        u.first = own;
-        return u;
+    let first = either(i == 0, own, t.first);
+    let second = either(i == 1, own, t.second);
+    let third = either(i == 2, own, t.third);
+    let fourth = either(2 < i, own, t.fourth);
+    Tallies {
+        first,
+        second,
+        third,
+        fourth,
     }
-    if i == 1 {
-        u.second = own;
-        return u;
-    }
-    if i == 2 {
-        u.third = own;
-        return u;
-    }
-    u.fourth = own;
-    u
 }
 
 // The tally of a script that ran so many of the words left. A turn of no words is none.
@@ -67,15 +65,15 @@ fn noted_tally(t: Tally, left: u32, ran: u32) -> Tally
     if ran == 0 {
         return t;
     }
-    if t.turned {
+    if 0 < t.turned {
         return Tally {
-            turned: true,
+            turned: 1,
             ended: left - ran,
             longest: larger(t.longest, t.ended - left),
         };
     }
     Tally {
-        turned: true,
+        turned: 1,
         ended: left - ran,
         longest: t.longest,
     }

@@ -8,7 +8,7 @@ use Rattle.rehearsal.proofs.tallies.noted_tally.Tie as tie
 
 returns : tie.Need-returns
 unfolding notedTally
-returns c = rw (eq-eqb _ 0 (c .if1 .taken))
+returns c = rw (eq-eqb _ _ (c .if1 .taken))
 
 sub-t5 : tie.Need-sub-t5
 sub-t5 c = search needs
@@ -21,14 +21,14 @@ larger-requires c κs = search needs
 
 returns-2 : tie.Need-returns-2
 unfolding notedTally
-returns-2 c = rw (ne-eqb _ 0 (c .before .before .before .if1 .left), c .before .before .if2 .taken, c .larger .ensures)
+returns-2 c = rw (ne-eqb _ _ (c .before .before .before .before .if1 .left), lt-ltb _ _ (c .before .before .if2 .taken), c .larger .ensures)
 
 sub-t8 : tie.Need-sub-t8
 sub-t8 c = search needs
 
 returns-3 : tie.Need-returns-3
 unfolding notedTally
-returns-3 c = rw (ne-eqb _ 0 (c .before .if1 .left), c .if2 .left)
+returns-3 c = rw (ne-eqb _ _ (c .before .before .if1 .left), le-ltb _ _ (c .if2 .left))
 
 pub noted-tally-spec : {M : Type 1} → statement M
 noted-tally-spec =

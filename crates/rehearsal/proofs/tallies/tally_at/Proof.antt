@@ -1,28 +1,15 @@
 -- `rehearsal::tallies::tally_at` meets its contract.
 -- Assumes nothing.
-use borrow.Author.Tests.{lt-ltb, le-ltb, eq-eqb, ne-eqb}
+use borrow.Author.Needs.{needs}
 use Rattle.rehearsal.proofs.tallies.tally_at.Statement.{statement}
 use Rattle.rehearsal.proofs.tallies.tally_at.Tie as tie
 
 returns : tie.Need-returns
-returns c = rw (eq-eqb _ 0 (c .before .if1 .taken))
-
-returns-2 : tie.Need-returns-2
-returns-2 c = rw (ne-eqb _ 0 (c .before .before .if1 .left), eq-eqb _ 1 (c .before .if2 .taken))
-
-returns-3 : tie.Need-returns-3
-returns-3 c = rw (
-  ne-eqb _ 0 (c .before .before .before .if1 .left),
-  ne-eqb _ 1 (c .before .before .if2 .left),
-  eq-eqb _ 2 (c .before .if3 .taken),
-)
-
-returns-4 : tie.Need-returns-4
-returns-4 c = rw (
-  ne-eqb _ 0 (c .before .before .before .if1 .left),
-  ne-eqb _ 1 (c .before .before .if2 .left),
-  ne-eqb _ 2 (c .before .if3 .left),
+returns c = rw (
+  c .either3 .ensures,
+  c .before .either2 .ensures,
+  c .before .before .either .ensures,
 )
 
 pub tally-at-spec : {M : Type 1} → statement M
-tally-at-spec = tie.close (tie.spec returns returns-2 returns-3 returns-4)
+tally-at-spec = tie.close (tie.spec (λ c κs. search needs) (λ c κs. search needs) (λ c κs. search needs) returns)
