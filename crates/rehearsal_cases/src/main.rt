@@ -7,10 +7,18 @@ mod turns;
 mod words;
 
 fn main() {
-    turns::rotation();
+    turns::of_two();
+    turns::of_equals();
+    turns::finishing();
     turns::services();
     turns::choices();
+    turns::missing_choices();
+    turns::limits();
     turns::ends();
-    refusals::ranges();
-    refusals::scripts();
+    refusals::counts();
+    refusals::quanta();
+    refusals::choices();
+    refusals::lengths();
+    refusals::bad_words();
+    refusals::no_words();
 }

@@ -4,15 +4,26 @@ use crate::show::waits;
 use crate::words::*;
 use fields::opcodes::*;
 
-pub fn rotation() {
+pub fn of_two() {
     let mv = plain(OP_MOVE);
-    let ret = plain(OP_RETURN0);
-    let three = [mv, mv, ret];
-    let six = [mv, mv, mv, mv, mv, ret];
-    let one = [ret];
+    let three = [mv, mv, plain(OP_RETURN0)];
+    let six = [mv, mv, mv, mv, mv, plain(OP_RETURN0)];
     two(b"two of three words, q 1", &three, &three, 1, &[], 100);
     two(b"two of three words, q 2", &three, &three, 2, &[], 100);
     two(b"two of three words, q 3", &three, &three, 3, &[], 100);
+    two(
+        b"the first given first, three words",
+        &three,
+        &six,
+        1,
+        &[],
+        3,
+    );
+}
+
+pub fn of_equals() {
+    let mv = plain(OP_MOVE);
+    let six = [mv, mv, mv, mv, mv, plain(OP_RETURN0)];
     waits(
         b"one script never waits",
         &six,
@@ -46,10 +57,16 @@ pub fn rotation() {
         &[],
         100,
     );
+}
+
+pub fn finishing() {
+    let mv = plain(OP_MOVE);
+    let ret = plain(OP_RETURN0);
+    let six = [mv, mv, mv, mv, mv, ret];
     waits(
         b"the second finishes and is passed over, q 1",
         &six,
-        &one,
+        &[ret],
         &six,
         &[],
         3,
@@ -58,7 +75,7 @@ pub fn rotation() {
         100,
     );
     waits(
-        b"the first finishes, the last turn ends its waits",
+        b"the first finishes: what the others run then is no wait",
         &[mv, ret],
         &six,
         &six,
@@ -67,14 +84,6 @@ pub fn rotation() {
         1,
         &[],
         100,
-    );
-    two(
-        b"the first given first, three words",
-        &three,
-        &six,
-        1,
-        &[],
-        3,
     );
 }
 
@@ -112,12 +121,11 @@ pub fn services() {
 pub fn choices() {
     let mv = plain(OP_MOVE);
     let ret = plain(OP_RETURN0);
-    let loop0 = [with_bx(OP_FORLOOP, 0), ret];
     let loop1 = [with_bx(OP_FORLOOP, 1), mv, mv, ret];
     let three = [mv, mv, ret];
     two(
         b"FORLOOP with Bx 0 takes no choice",
-        &loop0,
+        &[with_bx(OP_FORLOOP, 0), ret],
         &[mv, ret],
         1,
         &[],
@@ -134,8 +142,22 @@ pub fn choices() {
     );
     two(b"1 is the higher step", &loop1, &three, 1000, &[1, 1], 100);
     two(
-        b"without its choice a word has not run: no turn",
+        b"the choices are shared",
         &loop1,
+        &loop1,
+        1000,
+        &[0, 1, 0, 1],
+        100,
+    );
+}
+
+pub fn missing_choices() {
+    let mv = plain(OP_MOVE);
+    let ret = plain(OP_RETURN0);
+    let three = [mv, mv, ret];
+    two(
+        b"without its choice a word has not run: no turn",
+        &[with_bx(OP_FORLOOP, 1), mv, mv, ret],
         &three,
         1000,
         &[0],
@@ -151,25 +173,21 @@ pub fn choices() {
         &[],
         100,
     );
-    two(
-        b"the choices are shared",
-        &loop1,
-        &loop1,
-        1000,
-        &[0, 1, 0, 1],
-        100,
-    );
 }
 
-pub fn ends() {
+pub fn limits() {
     let mv = plain(OP_MOVE);
-    let ret = plain(OP_RETURN0);
-    let three = [mv, mv, ret];
-    let back = [jump_to_itself()];
+    let three = [mv, mv, plain(OP_RETURN0)];
     two(b"no words", &three, &three, 1, &[], 0);
     two(b"one word", &three, &three, 1, &[], 1);
     two(b"two words", &three, &three, 1, &[], 2);
     two(b"three words", &three, &three, 1, &[], 3);
+}
+
+pub fn ends() {
+    let mv = plain(OP_MOVE);
+    let three = [mv, mv, plain(OP_RETURN0)];
+    let back = [jump_to_itself()];
     two(b"a limit within a turn", &three, &three, 2, &[], 5);
     two(
         b"the highest limit, all return",

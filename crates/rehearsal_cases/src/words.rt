@@ -26,3 +26,8 @@ pub fn jump_on() -> u32 {
 pub fn plain(opcode: u8) -> u32 {
     opcode as u32 % 128
 }
+
+// A word whose opcode comes after the last: bad.
+pub fn past_the_last() -> u32 {
+    OP_EXTRAARG as u32 % 128 + 1
+}
