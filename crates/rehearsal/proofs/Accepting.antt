@@ -6,7 +6,7 @@ use mathlib.Core.Bool.{Bool, true, false, cond, _&&_}
 use mathlib.Core.List.{List}
 use Prim.Native.Nat.{ℕ, zero, suc, _+_, _≤_, _<_}
 use native.Mathlib.Omega.{arith}
-use borrow.Author.Tests.{ltb-true, ltb-false, eqb-true, eqb-false}
+use borrow.Author.Tests.{ltb-true, ltb-false, lt-ltb, eqb-true, eqb-false}
 use lib.Dec.{ltb, eqb}
 use lib.ListN.{length}
 use Rattle.common.proofs.Order.{same-or-not, split}
@@ -18,7 +18,7 @@ use Rattle.runs.specs.Counted.{ones}
 use Rattle.runs.proofs.Laws.{laws}
 use Rattle.rehearsal.specs.Trial.{trialOf, trialMarks, trialLengths}
 use Rattle.rehearsal.specs.Rehearse.{Tried, tryScript, untried, scriptAt, acceptance}
-use Rattle.rehearsal.specs.Accepting.{runNumber, runPlace, LowestRefused, Accepting}
+use Rattle.rehearsal.specs.Accepting.{runNumber, runPlace, LowestRefused, leftBelow, LastTried, Accepting}
 use Rattle.rehearsal.proofs.Trial.{light}
 
 -- a run keeps the slices' lengths, whatever it answers
@@ -108,19 +108,127 @@ module _ (w0 w1 w2 w3 : List ℕ) (k : ℕ) (marks lengths : List ℕ) where
     go true a false b = untouched i t s (inr (eqb-false _ _ b))
     go false a y b = untouched i t s (inl (ltb-false i k a))
 
-  pub accepting : k ≤ 4 → Accepting w0 w1 w2 w3 k marks lengths (acceptance w0 w1 w2 w3 k marks lengths)
-  unfolding acceptance
-  accepting few =
-      let none : SoFar 0 (untried marks lengths) = record {
+  -- what is tried of the scripts below i
+  abbrev chain : ℕ → Tried
+  chain zero = untried marks lengths
+  chain (suc i) = tryScript (ltb i k) (scriptAt w0 w1 w2 w3 i) (chain i)
+
+  so-far : (i : ℕ) → SoFar i (chain i)
+  so-far zero =
+      record {
         accepted = λ e j l h. absurd (omega arith);
         refused = λ z. absurd (z refl);
         marks-size = refl;
         lengths-size = refl;
-      } in
-      let s = next 3 _ (next 2 _ (next 1 _ (next 0 (untried marks lengths) none))) in
+      }
+  so-far (suc i) = next i (chain i) (so-far i)
+
+  -- the last that is tried of the scripts below i
+  record Last (i : ℕ) (t : Tried) : Type 0 where
+    script : ℕ
+    known : script < k
+    lower : (j : ℕ) → j < script → number j ≡ «ACCEPTED»
+    number-same : t .number ≡ number script
+    ends : (number script ≡ «ACCEPTED» → ⊥) ⊎ ((script + 1 ≡ k) ⊎ (script + 1 ≡ i))
+    marks-same : t .marks
+        ≡ trialMarks (scriptAt w0 w1 w2 w3 script) (chain script .marks) (chain script .lengths)
+    lengths-same : t .lengths
+        ≡ trialLengths (scriptAt w0 w1 w2 w3 script) (chain script .marks) (chain script .lengths)
+
+  last-untouched : (i : ℕ) (t : Tried) → Last i t → (k ≤ i) ⊎ (t .number ≡ «ACCEPTED» → ⊥) → Last (suc i) t
+  last-untouched i t l why =
+      record {
+        script = l .script;
+        known = l .known;
+        lower = l .lower;
+        number-same = l .number-same;
+        ends = ⊎-elim
+            (λ r. inl r)
+            (λ r. ⊎-elim
+            (λ e. inr (inl e))
+            (λ e. ⊎-elim
+            (λ a. inr (inl (omega (arith, l .known))))
+            (λ a. inl (λ z. a (l .number-same ∙ z)))
+            why)
+            r)
+            (l .ends);
+        marks-same = l .marks-same;
+        lengths-same = l .lengths-same;
+      }
+
+  last-touched : (i : ℕ) → i < k → chain i .number ≡ «ACCEPTED» → Last (suc i) (record {
+    number = Run.numberOf (trialOf (scriptAt w0 w1 w2 w3 i) (chain i .marks) (chain i .lengths));
+    place = Run.placeOf (trialOf (scriptAt w0 w1 w2 w3 i) (chain i .marks) (chain i .lengths));
+    marks = trialMarks (scriptAt w0 w1 w2 w3 i) (chain i .marks) (chain i .lengths);
+    lengths = trialLengths (scriptAt w0 w1 w2 w3 i) (chain i .marks) (chain i .lengths);
+  })
+  last-touched i l e =
+      record {
+        script = i;
+        known = l;
+        lower = λ j b. so-far i .accepted e j b (omega arith);
+        number-same = ap Run.numberOf (trial-same (scriptAt w0 w1 w2 w3 i) (chain i .marks) (chain i .lengths) marks
+            lengths (so-far i .marks-size) (so-far i .lengths-size));
+        ends = inr (inr (omega arith));
+        marks-same = refl;
+        lengths-same = refl;
+      }
+
+  last-next : (i : ℕ) → 0 < k → ((i ≡ 0) ⊎ Last i (chain i)) → Last (suc i) (chain (suc i))
+  unfolding tryScript
+  last-next i some before = go (ltb i k) refl (eqb (chain i .number) «ACCEPTED») refl where
+    go : (x : Bool) → ltb i k ≡ x → (y : Bool) → eqb (chain i .number) «ACCEPTED» ≡ y
+        → Last (suc i) (cond (x && y) (record {
+          number = Run.numberOf (trialOf (scriptAt w0 w1 w2 w3 i) (chain i .marks) (chain i .lengths));
+          place = Run.placeOf (trialOf (scriptAt w0 w1 w2 w3 i) (chain i .marks) (chain i .lengths));
+          marks = trialMarks (scriptAt w0 w1 w2 w3 i) (chain i .marks) (chain i .lengths);
+          lengths = trialLengths (scriptAt w0 w1 w2 w3 i) (chain i .marks) (chain i .lengths);
+        }) (chain i))
+    go true a true b = last-touched i (ltb-true i k a) (eqb-true _ _ b)
+    go true a false b =
+        ⊎-elim
+        (λ z. absurd (eqb-false (chain i .number) «ACCEPTED» b (ap (λ (n : ℕ). chain n .number) z)))
+        (λ l. last-untouched i (chain i) l (inr (eqb-false _ _ b)))
+        before
+    go false a y b =
+        ⊎-elim
+        (λ z. absurd (let h = ltb-false i k a in omega arith))
+        (λ l. last-untouched i (chain i) l (inl (ltb-false i k a)))
+        before
+
+  -- with fewer scripts the same is tried
+  chain-below : (i : ℕ) → i ≤ k → i ≤ 4 → leftBelow w0 w1 w2 w3 k marks lengths i ≡ chain i
+  unfolding acceptance tryScript
+  chain-below zero l f = refl
+  chain-below (suc zero) l f = rw (lt-ltb 0 k (omega arith))
+  chain-below (suc (suc zero)) l f = rw (lt-ltb 0 k (omega arith), lt-ltb 1 k (omega arith))
+  chain-below (suc (suc (suc zero))) l f =
+      rw (lt-ltb 0 k (omega arith), lt-ltb 1 k (omega arith), lt-ltb 2 k (omega arith))
+  chain-below (suc (suc (suc (suc zero)))) l f =
+      rw (lt-ltb 0 k (omega arith), lt-ltb 1 k (omega arith), lt-ltb 2 k (omega arith), lt-ltb 3 k (omega arith))
+  chain-below (suc (suc (suc (suc (suc i))))) l f = absurd (omega arith)
+
+  last-tried : 0 < k → k ≤ 4 → LastTried w0 w1 w2 w3 k marks lengths (chain 4 .marks) (chain 4 .lengths)
+  last-tried some few =
+      let l = last-next 3 some (inr (last-next 2 some (inr (last-next 1 some (inr (last-next 0 some (inl refl))))))) in
+      let e = chain-below (l .script) (omega (arith, l .known)) (omega (arith, l .known)) in
+      record {
+        script = l .script;
+        known = l .known;
+        lower = l .lower;
+        ends = ⊎-elim (λ r. inl r) (λ r. inr (⊎-elim (λ e. e) (λ e. omega (arith, l .known)) r)) (l .ends);
+        marks-same = rw e (l .marks-same);
+        lengths-same = rw e (l .lengths-same);
+      }
+
+  pub accepting : k ≤ 4 → Accepting w0 w1 w2 w3 k marks lengths (acceptance w0 w1 w2 w3 k marks lengths)
+  unfolding acceptance
+  accepting few =
+      let s = so-far 4 in
       record {
         accepted = λ e i l. s .accepted e i (omega arith) l;
         refused = s .refused;
+        last = λ some. last-tried some few;
         marks-size = s .marks-size;
         lengths-size = s .lengths-size;
       }

@@ -27,8 +27,8 @@ use Rattle.rehearsal.specs.Waits.{waitsOf, longestOf, longestWait, WaitI
 use Rattle.rehearsal.specs.Schedule.{Scheduled}
 use Rattle.rehearsal.specs.Paths.{wordsOf, OnPath, Proper}
 use Rattle.rehearsal.specs.Trial.{trialOf}
-use Rattle.rehearsal.specs.Rehearse.{anyAbove1, outOfRange, scriptAt, graphsOf, acceptance, rehearsed, reportOf, rehearseOf, numberOf, placeOf, waitOf}
-use Rattle.rehearsal.specs.Accepting.{runNumber, LowestRefused}
+use Rattle.rehearsal.specs.Rehearse.{anyAbove1, outOfRange, scriptAt, graphsOf, acceptance, rehearsed, reportOf, rehearseOf, marksLeft, lengthsLeft, numberOf, placeOf, waitOf}
+use Rattle.rehearsal.specs.Accepting.{runNumber, LowestRefused, LastTried}
 use Rattle.rehearsal.specs.Claims.{InRange, Rehearses, Claims}
 use Rattle.rehearsal.proofs.Bound.{bounded}
 use Rattle.rehearsal.proofs.Waits.{waits}
@@ -260,6 +260,34 @@ module _ (w0 w1 w2 w3 : List ℕ) (k q : ℕ) (choices : List ℕ) (limit : ℕ)
   lowest i r (run a b) n = accepting w0 w1 w2 w3 k marks lengths (i .few) .refused b
   lowest i r (rehearses a b) n = absurd (n refl)
 
+  out : (InRange k q choices → ⊥) → outOfRange k q choices ≡ true
+  out n = go (outOfRange k q choices) refl where
+    go : (x : Bool) → outOfRange k q choices ≡ x → outOfRange k q choices ≡ true
+    go true e = e
+    go false e = absurd (n (in-range k q choices e))
+
+  turned-away : (InRange k q choices → ⊥) → answer ≡ Refused «OUT_OF_RANGE» 0
+  unfolding rehearseOf
+  turned-away n = rw (out n)
+
+  abbrev marks-now : List ℕ
+  marks-now = marksLeft w0 w1 w2 w3 k q choices limit marks lengths
+
+  abbrev lengths-now : List ℕ
+  lengths-now = lengthsLeft w0 w1 w2 w3 k q choices limit marks lengths
+
+  untouched : (InRange k q choices → ⊥) → (marks-now ≡ marks) × (lengths-now ≡ lengths)
+  unfolding marksLeft lengthsLeft
+  untouched n = (rw (out n), rw (out n))
+
+  kept : InRange k q choices → LastTried w0 w1 w2 w3 k marks lengths marks-now lengths-now
+  unfolding marksLeft lengthsLeft
+  kept i = rw (not-out k q choices i) (accepting w0 w1 w2 w3 k marks lengths (i .few) .last (i .some))
+
+  none : (r : Rehearsal) → (numberOf r ≡ «ACCEPTED» → ⊥) → (i : ℕ) → waitOf r i ≡ 0
+  none (Rehearsed a b c d) n i = absurd (n refl)
+  none (Refused m p) n i = refl
+
   pub claims : Claims w0 w1 w2 w3 k q choices limit marks lengths
   claims =
       record {
@@ -269,5 +297,9 @@ module _ (w0 w1 w2 w3 : List ℕ) (k q : ℕ) (choices : List ℕ) (limit : ℕ)
           (λ h. in-range k q choices (not-true (outOfRange k q choices) h)),
           (λ i e. true≢false (sym e ∙ not-out k q choices i)),
         );
+        turned-away = turned-away;
+        untouched = untouched;
         lowest = λ i n. lowest i answer answers n;
+        kept = kept;
+        no-waits = none answer;
       }

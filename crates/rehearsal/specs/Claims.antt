@@ -6,14 +6,15 @@ use mathlib.Core.Logic.{_⊎_, _↔_}
 use mathlib.Core.Bool.{true}
 use mathlib.Core.List.{List, []}
 use Prim.Native.Nat.{ℕ, _*_, _-_, _≤_, _<_}
-use Rattle.common.specs.Numbers.{«ACCEPTED»}
+use Rattle.common.specs.Numbers.{«ACCEPTED», «OUT_OF_RANGE»}
 use Rattle.graph.specs.Graph.{In}
+use Rattle.rehearsal.specs.declared.answer.Rehearsal.the-variants.{Refused}
 use Rattle.rehearsal.specs.Machine.{Event}
 use Rattle.rehearsal.specs.Waits.{longestWait, WaitIn, Waits, turnsOf}
 use Rattle.rehearsal.specs.Schedule.{Scheduled}
 use Rattle.rehearsal.specs.Paths.{OnPath, Proper}
-use Rattle.rehearsal.specs.Rehearse.{mostScripts, mostQuantum, outOfRange, scriptAt, graphsOf, rehearsed, rehearseOf, numberOf, placeOf, waitOf}
-use Rattle.rehearsal.specs.Accepting.{runNumber, LowestRefused}
+use Rattle.rehearsal.specs.Rehearse.{mostScripts, mostQuantum, outOfRange, scriptAt, graphsOf, rehearsed, rehearseOf, marksLeft, lengthsLeft, numberOf, placeOf, waitOf}
+use Rattle.rehearsal.specs.Accepting.{runNumber, LowestRefused, LastTried}
 
 -- "1 to 4 accepted scripts", "q from 1 to 1,000", "a lent list of 0s and 1s"
 pub record InRange (k q : ℕ) (choices : List ℕ) : Type 0 where
@@ -55,11 +56,28 @@ module _ (w0 w1 w2 w3 : List ℕ) (k q : ℕ) (choices : List ℕ) (limit : ℕ)
     pub accepted : numberOf (rehearseOf w0 w1 w2 w3 k q choices limit marks lengths) ≡ «ACCEPTED» → Rehearses
     -- "with k scripts no wait .. exceeds (k - 1) times q": of each number that the answer reports
     pub bound : (i : ℕ) → waitOf (rehearseOf w0 w1 w2 w3 k q choices limit marks lengths) i ≤ (k - 1) * q
-    -- "23 a script count, q or choice out of range"
+    -- "23 a script count, q or choice out of range": its place is 0
     pub range : (outOfRange k q choices ≡ true → ⊥) ↔ InRange k q choices
+    pub turned-away :
+        (InRange k q choices → ⊥)
+        → rehearseOf w0 w1 w2 w3 k q choices limit marks lengths ≡ Refused «OUT_OF_RANGE» 0
+    -- "before anything is rehearsed": no slice is touched
+    pub untouched :
+        (InRange k q choices → ⊥)
+        → (marksLeft w0 w1 w2 w3 k q choices limit marks lengths ≡ marks)
+        × (lengthsLeft w0 w1 w2 w3 k q choices limit marks lengths ≡ lengths)
     -- "then whatever the longest run gives for the lowest script it refuses"
     pub lowest :
         InRange k q choices → (numberOf (rehearseOf w0 w1 w2 w3 k q choices limit marks lengths) ≡ «ACCEPTED» → ⊥)
         → LowestRefused w0 w1 w2 w3 k marks lengths
         (numberOf (rehearseOf w0 w1 w2 w3 k q choices limit marks lengths))
         (placeOf (rehearseOf w0 w1 w2 w3 k q choices limit marks lengths))
+    -- "in one pair of work slices, which keep what the last run tried left"
+    pub kept :
+        InRange k q choices
+        → LastTried w0 w1 w2 w3 k marks lengths (marksLeft w0 w1 w2 w3 k q choices limit marks lengths)
+        (lengthsLeft w0 w1 w2 w3 k q choices limit marks lengths)
+    -- "a refusal reports 0 for every number but its own and its place" (request C-11)
+    pub no-waits :
+        (numberOf (rehearseOf w0 w1 w2 w3 k q choices limit marks lengths) ≡ «ACCEPTED» → ⊥)
+        → (i : ℕ) → waitOf (rehearseOf w0 w1 w2 w3 k q choices limit marks lengths) i ≡ 0
