@@ -95,6 +95,10 @@ static int ran(struct lawendeb_run r, uint64_t number, uint64_t place, uint64_t 
     return r.number == number && r.place == place && r.longest == longest && r.first == first;
 }
 
+static int answered(struct lawendeb_answer a, uint64_t number, uint64_t place) {
+    return a.number == number && a.place == place;
+}
+
 /* Weights of 1, and others: LOADI 10, ADDI 20, MMBINI 30, JMP 40, the unknown 83 50, the rest 255;
    with a place more, to lend one too many. */
 static uint8_t ones[LAWENDEB_WEIGHTS], others[LAWENDEB_WEIGHTS + 1];
@@ -192,11 +196,152 @@ static void weighed_runs(void) {
     others[82] = others[127] = 255;
 }
 
-/* ---- the meter */
-
-static int answered(struct lawendeb_answer a, uint64_t number, uint64_t place) {
-    return a.number == number && a.place == place;
+/* Both runs, with so many weights of each table, and slices of 4 elements. */
+static struct lawendeb_run_range runs_by(const uint8_t *low, size_t low_n, const uint8_t *high,
+                                         size_t high_n, const uint32_t *words, size_t n) {
+    return lawendeb_longest_runs(words, n, low, low_n, high, high_n, marks, 4, lengths, 4);
 }
+
+static int ran_both(struct lawendeb_run_range r, uint64_t low_longest, uint64_t low_first,
+                    uint64_t high_longest, uint64_t high_first) {
+    return r.number == LAWENDEB_ACCEPTED && r.place == 0 && r.low_longest == low_longest &&
+           r.low_first == low_first && r.high_longest == high_longest && r.high_first == high_first;
+}
+
+static int refused_both(struct lawendeb_run_range r, uint64_t number, uint64_t place) {
+    return r.number == number && r.place == place && r.low_longest == 0 && r.low_first == 0 &&
+           r.high_longest == 0 && r.high_first == 0;
+}
+
+/* Runs by a low and by a high table: request C-18. */
+static void ranges(void) {
+    enum { W = LAWENDEB_WEIGHTS };
+    const uint32_t sums[4] = {100, 90, 70, 40};
+    /* a jump to a jump back to word 1, a MOVE and a return */
+    const uint32_t elsewhere[4] = {word_jump(2), 0, RETURN0, word_jump(-3)};
+    uint8_t low[W], high[W];
+    size_t i;
+    lend();
+    CHECK(ran_both(runs_by(ones, W, others, W, sheet, 4), 4, 0, 100, 0));
+    for (i = 0; i < 4; i++)
+        CHECK(marks[i] == 1 && lengths[i] == sums[i]);
+    CHECK(lent_from(4));
+    CHECK(ran_both(runs_by(others, W, others, W, sheet, 4), 100, 0, 100, 0));
+    memset(low, 1, W), memset(high, 3, W);
+    low[56] = 3, high[0] = 8;
+    CHECK(ran_both(runs_by(low, W, high, W, elsewhere, 4), 6, 0, 11, 1));
+
+    lend();
+    for (i = 0; i < W; i++) {
+        high[i] = 0;
+        CHECK(refused_both(runs_by(ones, W, high, W, sheet, 4), LAWENDEB_WEIGHTS_REFUSED, i));
+        high[i] = 1, low[i] = 4;
+        CHECK(refused_both(runs_by(low, W, high, W, sheet, 4), LAWENDEB_LOW_ABOVE_HIGH, i));
+        high[i] = 4;
+    }
+    /* 1 and 6 before 18, 18 of the low table before that of the high one, both before 19 */
+    high[3] = 1, high[9] = 0;
+    CHECK(refused_both(runs_by(low, W - 1, high, W, many, MANY), LAWENDEB_TOO_MANY_WORDS, 0));
+    CHECK(refused_both(runs_by(low, W - 1, high, W, many, 5), LAWENDEB_SHORT_SLICE, 0));
+    CHECK(refused_both(runs_by(low, W - 1, high, W, sheet, 4), LAWENDEB_WEIGHTS_REFUSED, 0));
+    CHECK(refused_both(runs_by(low, W, high, W, sheet, 4), LAWENDEB_WEIGHTS_REFUSED, 9));
+    CHECK(refused_both(runs_by(low, W, high, W - 1, sheet, 4), LAWENDEB_WEIGHTS_REFUSED, 0));
+    /* 19 before 7 and 8 */
+    high[9] = 4;
+    CHECK(refused_both(runs_by(low, W, high, W, sheet, 4), LAWENDEB_LOW_ABOVE_HIGH, 3));
+    CHECK(refused_both(runs_by(low, W, high, W, sheet, 0), LAWENDEB_LOW_ABOVE_HIGH, 3));
+    CHECK(refused_both(runs_by(low, W, high, W, unknown, 1), LAWENDEB_LOW_ABOVE_HIGH, 3));
+    CHECK(refused_both(runs_by(ones, W, others, W, sheet, 0), LAWENDEB_NO_WORDS, 0));
+    CHECK(lent_from(0));
+    CHECK(refused_both(runs_by(ones, W, others, W, unknown, 1), LAWENDEB_REACHES_INVALID, 0));
+    CHECK(marks[0] == 1 && lengths[0] == 0 && lent_from(1));
+}
+
+/* ---- nearest service and crossing steps */
+
+static uint8_t list[MANY];
+
+static int nearest_is(struct lawendeb_nearest a, uint64_t number, uint64_t place, uint64_t found,
+                      uint64_t fewest) {
+    return a.number == number && a.place == place && a.found == found && a.fewest == fewest;
+}
+
+static int crossed_is(struct lawendeb_crossed a, uint64_t number, uint64_t place, uint64_t count) {
+    return a.number == number && a.place == place && a.count == count;
+}
+
+static struct lawendeb_nearest nearest(const uint32_t *words, size_t n, size_t w) {
+    return lawendeb_distance_to_service(words, n, w, marks, n, lengths, n);
+}
+
+static struct lawendeb_crossed crossed(const uint32_t *words, size_t n, size_t w) {
+    return lawendeb_crossing_edges(words, n, w, marks, n, lengths, n);
+}
+
+/* The list of the first four words within d, lent anew, as a number of four bits, the first highest;
+   99 if it is not of 0s and 1s with its rest as lent. */
+static unsigned listed(const uint32_t *words, size_t n, size_t d) {
+    unsigned bits = 0;
+    size_t i;
+    memset(list, 165, sizeof list);
+    if (!answered(lawendeb_list_within(words, n, d, marks, n, lengths, n, list, n + 1), 0, 0))
+        return 99;
+    for (i = 0; i < 4; i++) {
+        if (i < n ? list[i] > 1 : list[i] != 165)
+            return 99;
+        bits = 2 * bits + (i < n ? list[i] : 0);
+    }
+    return list[n] == 165 ? bits : 99;
+}
+
+static void services(void) {
+    const uint32_t skips[4] = {word_jump(1), 83, 0, RETURN0};
+    const uint64_t fewest[4] = {3, 2, 2, 1};
+    size_t i;
+    lend();
+    for (i = 0; i < 4; i++)
+        CHECK(nearest_is(nearest(sheet, 4, i), LAWENDEB_ACCEPTED, 0, 1, fewest[i]));
+    CHECK(nearest_is(nearest(sheet, 4, 4), LAWENDEB_ACCEPTED, 0, 0, 0));
+    CHECK(nearest_is(nearest(sheet, 4, SIZE_MAX), LAWENDEB_ACCEPTED, 0, 0, 0));
+    CHECK(crossed_is(crossed(sheet, 4, 2), LAWENDEB_ACCEPTED, 0, 2));
+    CHECK(crossed_is(crossed(sheet, 4, 1), LAWENDEB_ACCEPTED, 0, 0));
+    CHECK(crossed_is(crossed(sheet, 4, 4), LAWENDEB_ACCEPTED, 0, 0));
+    CHECK(listed(sheet, 4, 0) == 0 && listed(sheet, 4, 1) == 1 && listed(sheet, 4, 2) == 7);
+    CHECK(listed(sheet, 4, 3) == 15 && listed(sheet, 4, SIZE_MAX) == 15);
+    /* the slices are the run's */
+    for (i = 0; i < 4; i++)
+        CHECK(marks[i] == 1 && lengths[i] == 4 - i);
+    CHECK(lent_from(4));
+
+    /* an unreachable word has none, and steps over it count */
+    CHECK(nearest_is(nearest(skips, 4, 0), LAWENDEB_ACCEPTED, 0, 1, 3));
+    CHECK(nearest_is(nearest(skips, 4, 1), LAWENDEB_ACCEPTED, 0, 0, 0));
+    CHECK(crossed_is(crossed(skips, 4, 1), LAWENDEB_ACCEPTED, 0, 1));
+    CHECK(listed(skips, 4, SIZE_MAX) == 11);
+    CHECK(marks[1] == 0 && lengths[0] == 3 && lengths[1] == 0 && lent_from(4));
+
+    /* refusals: 1, 6, 7, 8 in this order, the list under 6 */
+    lend();
+    memset(list, 165, sizeof list);
+    CHECK(nearest_is(lawendeb_distance_to_service(many, MANY, 0, marks, 0, lengths, 0),
+                     LAWENDEB_TOO_MANY_WORDS, 0, 0, 0));
+    CHECK(crossed_is(lawendeb_crossing_edges(sheet, 4, 0, marks, 3, lengths, 4),
+                     LAWENDEB_SHORT_SLICE, 0, 0));
+    CHECK(crossed_is(crossed(sheet, 0, 0), LAWENDEB_NO_WORDS, 0, 0));
+    CHECK(answered(lawendeb_list_within(many, MANY, 1, marks, 0, lengths, 0, list, 0),
+                   LAWENDEB_TOO_MANY_WORDS, 0));
+    CHECK(answered(lawendeb_list_within(unknown, 1, 1, marks, 1, lengths, 1, list, 0),
+                   LAWENDEB_SHORT_SLICE, 0));
+    CHECK(lent_from(0) && list[0] == 165);
+    CHECK(answered(lawendeb_list_within(unknown, 1, 1, marks, 1, lengths, 1, list, 1),
+                   LAWENDEB_REACHES_INVALID, 0));
+    CHECK(marks[0] == 1 && lengths[0] == 0 && lent_from(1) && list[0] == 165);
+    lend();
+    CHECK(nearest_is(nearest(unknown, 1, 0), LAWENDEB_REACHES_INVALID, 0, 0, 0));
+    CHECK(marks[0] == 1 && lengths[0] == 0 && lent_from(1));
+}
+
+/* ---- the meter */
 
 static int shows(struct lawendeb_meter m, uint32_t begun, uint32_t last, uint32_t count,
                  uint32_t services) {
@@ -226,10 +371,16 @@ static int refuses(struct lawendeb_meter m, const uint32_t *words, size_t n, siz
     return refuses_by(ones, LAWENDEB_WEIGHTS, m, words, n, q, number, 0);
 }
 
+static struct lawendeb_meter meter_of(uint32_t begun, uint32_t last, uint32_t count,
+                                      uint32_t services, uint32_t highest) {
+    struct lawendeb_meter m = {begun, last, count, services, highest};
+    return m;
+}
+
+/* As a reset leaves it. */
 static struct lawendeb_meter meter(uint32_t begun, uint32_t last, uint32_t count,
                                    uint32_t services) {
-    struct lawendeb_meter m = {begun, last, count, services};
-    return m;
+    return meter_of(begun, last, count, services, count);
 }
 
 static void meters(void) {
@@ -304,6 +455,49 @@ static void weighed_meters(void) {
     CHECK(refuses_by(ones, 0, m, many, MANY, 3, LAWENDEB_TOO_MANY_WORDS, 0));
     CHECK(refuses_by(ones, 127, meter(1, 3, 0, 5), sheet, 4, 1, LAWENDEB_WEIGHTS_REFUSED, 0));
     CHECK(refuses_by(ones, 127, m, sheet, 4, 0, LAWENDEB_WEIGHTS_REFUSED, 0));
+}
+
+/* A reset of this meter sets its highest to its count, and nothing else. */
+static int resets(struct lawendeb_meter m) {
+    struct lawendeb_meter before = m;
+    lawendeb_reset(&m);
+    return shows(m, before.begun, before.last, before.count, before.services) &&
+           m.highest == before.count;
+}
+
+/* The highest: raised by feeds, kept by begins and refused feeds, set by resets, below the count. */
+static void worst(void) {
+    struct lawendeb_meter m = meter_of(7, 7, 7, 40, 7777);
+    lawendeb_begin(&m);
+    CHECK(shows(m, 0, 0, 0, 40) && m.highest == 7777);
+    CHECK(feeds(&m, sheet, 4, 0) && shows(m, 1, 0, 1, 40) && m.highest == 7777);
+    lawendeb_begin(&m);
+    lawendeb_reset(&m);
+    CHECK(shows(m, 0, 0, 0, 40) && m.highest == 0);
+    CHECK(feeds_by(others, &m, sheet, 4, 0) && m.highest == 10);
+    CHECK(feeds_by(others, &m, sheet, 4, 1) && m.highest == 30);
+    CHECK(feeds_by(others, &m, sheet, 4, 3) && m.count == 70 && m.highest == 70);
+    CHECK(feeds_by(others, &m, sheet, 4, 1) && m.count == 20 && m.highest == 70);
+    CHECK(refuses(m, sheet, 4, 1, LAWENDEB_NO_STEP));
+    lawendeb_reset(&m);
+    CHECK(shows(m, 1, 1, 20, 41) && m.highest == 20);
+    CHECK(feeds(&m, sheet, 4, 2) && m.highest == 21);
+    lawendeb_begin(&m);
+    CHECK(shows(m, 0, 0, 0, 41) && m.highest == 21);
+    CHECK(feeds(&m, sheet, 4, 0) && m.count == 1 && m.highest == 21);
+    /* any meter whatsoever */
+    CHECK(resets(meter_of(0, 0, 0, 5, UINT32_MAX)));
+    CHECK(resets(meter_of(0, 9, UINT32_MAX, 5, 3)));
+    CHECK(resets(meter_of(UINT32_MAX, UINT32_MAX, UINT32_MAX - 1, UINT32_MAX, UINT32_MAX)));
+    /* 11, after 1 and 18, before 10, begun or not; at the count it passes */
+    CHECK(refuses(meter_of(1, 1, 2, 5, 1), sheet, 4, 3, LAWENDEB_FOREIGN_METER));
+    CHECK(refuses(meter_of(1, 1, 2, 5, 1), sheet, 4, 9, LAWENDEB_FOREIGN_METER));
+    CHECK(refuses(meter_of(0, 0, 2, 5, 1), sheet, 4, 0, LAWENDEB_FOREIGN_METER));
+    CHECK(refuses(meter_of(1, 1, 2, 5, 1), many, MANY, 2, LAWENDEB_TOO_MANY_WORDS));
+    m = meter_of(1, 1, 2, 5, 1);
+    CHECK(refuses_by(ones, 127, m, sheet, 4, 3, LAWENDEB_WEIGHTS_REFUSED, 0));
+    m.highest = 2;
+    CHECK(feeds(&m, sheet, 4, 3) && shows(m, 1, 3, 3, 5) && m.highest == 3);
 }
 
 /* ---- records */
@@ -690,8 +884,11 @@ int main(void) {
     steps();
     runs();
     weighed_runs();
+    ranges();
+    services();
     meters();
     weighed_meters();
+    worst();
     records();
     values();
     refusals();

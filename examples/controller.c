@@ -1,5 +1,6 @@
 /* A controller in small. Before a script runs, it asks for the longest run; while it runs, it lends
-   one meter at each word that the script goes to, and holds the count against what was foretold.
+   one meter at each word that the script goes to, and holds the count against what was foretold. At
+   the end of a path it tells the worst of it, which the meter remembers since its reset.
    Both are lent the same weights: here each word weighs 1, so that words are counted. */
 #include <inttypes.h>
 #include <stdio.h>
@@ -34,8 +35,9 @@ static uint64_t feed(struct lawendeb_meter *m, size_t q) {
 }
 
 static void show(const struct lawendeb_meter *m) {
-    printf("begun %" PRIu32 ", last %" PRIu32 ", count %" PRIu32 ", services %" PRIu32 "\n",
-           m->begun, m->last, m->count, m->services);
+    printf("begun %" PRIu32 ", last %" PRIu32 ", count %" PRIu32 ", services %" PRIu32
+           ", highest %" PRIu32 "\n",
+           m->begun, m->last, m->count, m->services, m->highest);
 }
 
 /* Feeds the word numbers in turn, and stops at the first that is refused. A count above the longest
@@ -44,6 +46,7 @@ static int follow(const char *title, struct lawendeb_meter *m, uint64_t most, co
                   size_t length) {
     puts(title);
     lawendeb_begin(m);
+    lawendeb_reset(m);
     for (size_t i = 0; i < length; i++) {
         uint64_t number = feed(m, path[i]);
         printf("  word %zu: %" PRIu64 "; ", path[i], number);
@@ -55,12 +58,13 @@ static int follow(const char *title, struct lawendeb_meter *m, uint64_t most, co
         if (number != LAWENDEB_ACCEPTED)
             break;
     }
-    return 0;
+    printf("  worst %" PRIu32 ", foretold at most %" PRIu64 "\n", m->highest, most);
+    return m->highest > most;
 }
 
 int main(void) {
-    /* Zeroed once: a begin keeps the services. */
-    struct lawendeb_meter m = {0, 0, 0, 0};
+    /* Zeroed once: a begin keeps the services and the highest. */
+    struct lawendeb_meter m = {0, 0, 0, 0, 0};
     const size_t legal[] = {0, 1, 2, 3, 1, 3, 1};
     const size_t refused[] = {0, 1, 2, 1, 3};
     uint64_t most;

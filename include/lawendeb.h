@@ -1,18 +1,21 @@
 /* Lawendeb for C and C++, on x86-64 Linux (System V calls). What the functions do is proved; what
    is asked of the caller stands here.
 
-   Four archives, to be linked alone or side by side; all are made in target/staticlib/:
-     libmeter.a     begin and feed, for controllers: `rt staticlib meter`. It needs no symbol.
+   Six archives, to be linked alone or side by side; all are made in target/staticlib/:
+     libmeter.a     begin, feed and reset, for controllers: `rt staticlib meter`. It needs no
+                    symbol.
      libexports.a   steps, the longest run, records: `rt staticlib exports`. It needs memset.
+     libranges.a    the longest run by two tables: `rt staticlib ranges`. It needs memset.
+     libservice.a   nearest service, crossing steps: `rt staticlib service`. It needs memset.
      libtouches.a   what a word reads and writes: `rt staticlib touches`. It needs memset.
      libchunk.a     compiled scripts: `rt staticlib chunk`. @@CHUNKNEEDS@@
    They write nothing but what a call is lent: no heap, no static data, and as measured less than
-   1 kB of stack, but less than 2 kB for what a word touches, and less than @@STACK@@ for a pass
-   over a chunk, which goes down with its functions, 32 levels at most (docs/BENCHMARKS.md). So
-   every call is reentrant, and calls on different memory may run at once, in threads or interrupts.
-   A begin, a feed and what a word touches take a bounded time, whatever the number of words; a run
-   takes time in proportion to the words, a lift to words, constants and names, a pass to the
-   chunk's bytes.
+   1 kB of stack, but less than 2 kB for what a word touches and for a question about services, and
+   less than @@STACK@@ for a pass over a chunk, which goes down with its functions, 32 levels at most
+   (docs/BENCHMARKS.md). So every call is reentrant, and calls on different memory may run at once,
+   in threads or interrupts. A begin, a feed, a reset and what a word touches take a bounded time,
+   whatever the number of words; a run and a question about services take time in proportion to the
+   words, a lift to words, constants and names, a pass to the chunk's bytes.
 
    Each slice passes as a pointer and a length. The pointer is not null, even where the length is 0,
    and nobody writes the slice meanwhile. Slices that are written lie apart from all others. Any
@@ -33,11 +36,13 @@ extern "C" {
 /* The release of this header. It rises when a function's parameters, a struct or a meaning changes;
    such a function has a new symbol behind its name then, so that an archive of another release
    does not link. */
-#define LAWENDEB_RELEASE 3
+#define LAWENDEB_RELEASE 4
 
 /* Release 2: a call does not serve any more; only a step that does not go forward does.
-   Release 3: a run and a feed are lent weights, and a feed's answer has a place. */
-#define lawendeb_feed lawendeb_feed_3
+   Release 3: a run and a feed are lent weights, and a feed's answer has a place.
+   Release 4: a meter holds the highest count that it has shown, and can be reset. */
+#define lawendeb_begin lawendeb_begin_4
+#define lawendeb_feed lawendeb_feed_4
 #define lawendeb_longest_run lawendeb_longest_run_3
 
 /* ---- answers, by the numbers of documents 01 and 02. The place is 0 unless one is named. */
@@ -52,13 +57,14 @@ extern "C" {
 #define LAWENDEB_NO_WORDS 7          /* there are none */
 #define LAWENDEB_REACHES_INVALID 8   /* control can reach a bad word; place: the lowest such word */
 #define LAWENDEB_NO_STEP 10          /* no step leads to the word fed, or the first is not 0 */
-#define LAWENDEB_FOREIGN_METER 11    /* the meter is not of this function */
+#define LAWENDEB_FOREIGN_METER 11    /* not of this function, or its highest below its count */
 #define LAWENDEB_MALFORMED_LINE 12   /* of a sheet; by the program alone */
 #define LAWENDEB_TOO_MANY_LINES 13   /* of a sheet; by the program alone */
 #define LAWENDEB_HEADER_DIFFERS 14   /* a byte of a chunk's header */
 #define LAWENDEB_MALFORMED_CHUNK 15  /* it ends early; a count or number is over its limit; .. */
 #define LAWENDEB_TOO_DEEP 16         /* functions within functions, more than 32 levels */
 #define LAWENDEB_WEIGHTS_REFUSED 18  /* not 128 weights; or one is 0, place: the lowest such */
+#define LAWENDEB_LOW_ABOVE_HIGH 19   /* a low weight above its high one; place: the opcode */
 
 #define LAWENDEB_MOST_WORDS 32768
 #define LAWENDEB_MOST_CONSTANTS 65536
@@ -84,31 +90,43 @@ struct lawendeb_answer {
 
 /* ---- the meter: libmeter.a */
 
-/* One script's meter, held by the caller. Any four numbers are a meter. Zero a new one once: begin
-   keeps the services, so that they count on from one start of the script to the next. */
+/* One script's meter, held by the caller. Any five numbers are a meter. Zero a new one once: begin
+   keeps the services and the highest, so that they go on from one start of the script to the next.
+   A meter stored by an older release must not be lent: it has four numbers, and what lies past them
+   would be read as its highest, and written. Zero a new one, and copy the services alone. */
 struct lawendeb_meter {
     uint32_t begun;    /* 0: not begun; any other number: begun */
     uint32_t last;     /* the last word number fed */
     uint32_t count;    /* weight of the words since service */
     uint32_t services; /* services passed; stays at 4,294,967,295 */
+    uint32_t highest;  /* the highest count shown since the last reset */
 };
 
-LAWENDEB_ASSERT(sizeof(struct lawendeb_meter) == 16 && offsetof(struct lawendeb_meter, last) == 4 &&
+LAWENDEB_ASSERT(sizeof(struct lawendeb_meter) == 20 && offsetof(struct lawendeb_meter, last) == 4 &&
                     offsetof(struct lawendeb_meter, count) == 8 &&
-                    offsetof(struct lawendeb_meter, services) == 12,
+                    offsetof(struct lawendeb_meter, services) == 12 &&
+                    offsetof(struct lawendeb_meter, highest) == 16,
                 "the layout that crates/meter has");
 
-/* The script starts anew: not begun, 0, 0; the services stay. Nobody else writes `m` meanwhile. */
+/* The script starts anew: not begun, 0, 0; the services and the highest stay. Nobody else writes
+   `m` meanwhile. */
 void lawendeb_begin(struct lawendeb_meter *m);
 
 /* The script goes to word `q` of its `n` words. The first word fed makes the count its own weight,
    and so does a step that serves with the word it leads to; another step adds that word's weight.
-   The answer is 0, or a refusal: 1, 18, 11 and 10 are tried in this order, and leave the meter as
-   it was. A begun meter is refused by 11 if its last word is not below n, or its count is 0 or
-   above 255 times (last + 1); one not begun if last or count is not 0. `m` lies apart from words
-   and weights, and nobody else writes it meanwhile. */
+   The highest becomes the larger of itself and the new count. The answer is 0, or a refusal: 1, 18,
+   11 and 10 are tried in this order, and leave the meter as it was. A begun meter is refused by 11
+   if its last word is not below n, or its count is 0 or above 255 times (last + 1); one not begun
+   if last or count is not 0; and either if the highest is below the count. `m` lies apart from
+   words and weights, and nobody else writes it meanwhile. */
 struct lawendeb_answer lawendeb_feed(const uint32_t *words, size_t n, const uint8_t *weights,
                                      size_t weights_n, struct lawendeb_meter *m, size_t q);
+
+/* The highest becomes the count of this moment, on any meter, begun or not; nothing else changes.
+   On an accepted function, a meter that was begun, then reset, and is then lent the run's weights
+   at each feed, holds as highest the largest count that it showed since, which is never above that
+   run's longest. Nobody else writes `m` meanwhile. */
+void lawendeb_reset(struct lawendeb_meter *m);
 
 /* ---- steps and the longest run: libexports.a */
 
@@ -137,6 +155,58 @@ struct lawendeb_run {
 struct lawendeb_run lawendeb_longest_run(const uint32_t *words, size_t n, const uint8_t *weights,
                                          size_t weights_n, uint8_t *marks, size_t marks_n,
                                          uint32_t *lengths, size_t lengths_n);
+
+/* ---- the longest run by two tables of weights: libranges.a */
+
+/* The longest run by a table of low weights and by one of high weights, each with the lowest word
+   at which it begins; or a refusal's number and place. */
+struct lawendeb_run_range {
+    uint64_t number, place, low_longest, low_first, high_longest, high_first;
+};
+
+/* Both runs in one call, with one search. By any table between the two, entry by entry, the longest
+   run is at least low_longest and at most high_longest, accepted exactly if these are and else
+   refused alike; where it begins may be anywhere. Marks and lengths end as the run by the high
+   table leaves them. Refusals are 1, 6, 18 of the low table, 18 of the high one, 19, 7 and 8, tried
+   in this order; 8 leaves the marks and n zero lengths, the others alter nothing. */
+struct lawendeb_run_range lawendeb_longest_runs(const uint32_t *words, size_t n, const uint8_t *low,
+                                                size_t low_n, const uint8_t *high, size_t high_n,
+                                                uint8_t *marks, size_t marks_n, uint32_t *lengths,
+                                                size_t lengths_n);
+
+/* ---- nearest service and crossing steps: libservice.a
+
+   Questions about a function, of which a run with all weights 1 decides whether it is accepted.
+   Marks and lengths need n places at least, and get what that run leaves in them. Refusals are that
+   run's: 1, 6, 7 and 8, tried in this order. */
+
+/* The fewest words from word `w` on, itself counted, to a return or a word with a serving step: 1
+   if it is one. found is 0, and fewest too, if the word is not reachable or past the end. */
+struct lawendeb_nearest {
+    uint64_t number, place, found, fewest;
+};
+
+struct lawendeb_nearest lawendeb_distance_to_service(const uint32_t *words, size_t n, size_t w,
+                                                     uint8_t *marks, size_t marks_n,
+                                                     uint32_t *lengths, size_t lengths_n);
+
+/* Lists the reachable words whose fewest is at most `d`: the list needs n places at least, too,
+   and gets 1 for a listed word, else 0. What lies past n stays as it was, and all of it on a
+   refusal. A list that is too short is refused by 6, which leaves marks and lengths as they
+   were. */
+struct lawendeb_answer lawendeb_list_within(const uint32_t *words, size_t n, size_t d,
+                                            uint8_t *marks, size_t marks_n, uint32_t *lengths,
+                                            size_t lengths_n, uint8_t *list, size_t list_n);
+
+/* How many steps from reachable words pass strictly over word `w`, forward or back; 0 if it is past
+   the end. */
+struct lawendeb_crossed {
+    uint64_t number, place, count;
+};
+
+struct lawendeb_crossed lawendeb_crossing_edges(const uint32_t *words, size_t n, size_t w,
+                                                uint8_t *marks, size_t marks_n, uint32_t *lengths,
+                                                size_t lengths_n);
 
 /* ---- records: libexports.a */
 

@@ -16,7 +16,7 @@ from reading import CODE, NUMBERS, A, B, C, k
 TOP = 700  # registers up to here stand for those up to the stack top
 
 LEFT_OUT = [
-    (r"^CONCAT", r"^B 0: |^B 1: |registers read, too", "CONCAT goes by its formula in lopcodes.h"),
+    (r"^CONCAT", r"^B 0: reads R\[A-2\]|^B 1: |registers read, too", "CONCAT goes by its formula in lopcodes.h"),
     (r"^CLOSE ", r"", "what closing touches is left out"),
     (r"^CALL", r"has its frame", "CALL goes by its formula in lopcodes.h; temporaries are no results"),
     (r"^CLOSURE", r"", "what CLOSURE captures is left out, and prototypes are no registers, constants or upvalues"),
@@ -77,7 +77,7 @@ def value(expression, word):
 
 def claims(lua, rust, word):
     """The places that the row names: by word (the row's, or one with B or C), then by verb."""
-    text = re.sub(r"\([^)]*\)", "", lua).split(", and puts")[0]
+    text = re.sub(r"\([^)]*\)", "", lua).split(", and puts")[0].split("; `luaV_concat`")[0]
     verbs = re.findall(r"\b(read|write)", rust)
     verb, current, start = (verbs[0] if verbs else None), word, None
     named, fixed = {}, []  # fixed: what holds at every top, and so with B or C, too

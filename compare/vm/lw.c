@@ -10,17 +10,20 @@
 struct twin_successors lawendeb_successors(const uint32_t *words, size_t n, size_t p);
 struct twin_run lawendeb_longest_run_3(const uint32_t *words, size_t n, const uint8_t *weights, size_t weights_n,
     uint8_t *marks, size_t marks_n, uint32_t *lengths, size_t lengths_n);
-void lawendeb_begin(struct twin_meter *m);
-struct twin_answer lawendeb_feed_3(const uint32_t *words, size_t n, const uint8_t *weights, size_t weights_n,
+void lawendeb_begin_4(struct twin_meter *m);
+void lawendeb_reset(struct twin_meter *m);
+struct twin_answer lawendeb_feed_4(const uint32_t *words, size_t n, const uint8_t *weights, size_t weights_n,
     struct twin_meter *m, size_t q);
 #define successors lawendeb_successors
 #define longest_run lawendeb_longest_run_3
-#define begin lawendeb_begin
-#define feed lawendeb_feed_3
+#define begin lawendeb_begin_4
+#define reset lawendeb_reset
+#define feed lawendeb_feed_4
 #else
 #define successors twin_successors
 #define longest_run twin_longest_run
 #define begin twin_begin
+#define reset twin_reset
 #define feed twin_feed
 #endif
 
@@ -118,15 +121,15 @@ void lw_word(struct lw_activation *a, size_t q) {
         else steps++;
     } else {
         if (q != 0) fail(f, q, q, "an activation that does not start at word 0");
-        if (!a->off) begin(m);
+        if (!a->off) { begin(m); reset(m); }
     }
     if (!a->off) {
         uint32_t before = m->services;
         if (feed(f->words, f->n, ones, sizeof ones, m, q).number) fail(f, p == SIZE_MAX ? 0 : p, q, "a feed was refused");
-        if (m->since > f->run.longest) fail(f, p, q, "a meter above L");
+        if (m->since > m->highest || m->highest > f->run.longest) fail(f, p, q, "a meter above L");
         services += m->services - before;
         metered++;
-        if (m->since > f->most) f->most = m->since;
+        if (m->highest > f->most) f->most = m->highest;
     }
     a->resumed = false;
     a->last = q;

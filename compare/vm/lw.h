@@ -7,7 +7,7 @@
 struct lw_function;
 struct lw_activation {
     struct lw_function *function;
-    struct { uint32_t begun, last, count, services; } meter; /* as in include/lawendeb.h; the twin's has this layout */
+    struct { uint32_t begun, last, count, services, highest; } meter; /* as in include/lawendeb.h; the twin's has this layout */
     bool resumed; /* the word before was interrupted by a yield */
     bool off;     /* steps are checked, the meter is not */
     size_t last;

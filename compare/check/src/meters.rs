@@ -5,7 +5,7 @@ use crate::rng::Rng;
 use crate::shrink::{shorter, shrink, words as smaller_words};
 use crate::weights::{self, Weights};
 use model::book::{Book, Call};
-use model::meter::{begin, feed, Meter};
+use model::meter::{begin, feed, reset, Meter};
 use model::run::run;
 use model::steps::steps;
 use model::Answer;
@@ -16,7 +16,10 @@ use std::collections::BTreeMap;
 pub struct Counts {
     pub lists: u64,
     pub feeds: u64,
+    pub resets: u64,
     pub singles: u64,
+    /// Single calls on a meter with a highest below its count.
+    pub low: u64,
     /// Lists on an accepted function with the same weights at each feed: held against L.
     pub below: u64,
     /// Answers of single calls.
@@ -53,27 +56,42 @@ fn call(side: &Side, words: &[u32], weights: &[u8], m: &mut Meter, c: Call) -> A
             Answer::default()
         }
         Call::Feed(q) => (side.feed)(words, weights, m, q),
+        Call::Reset => {
+            (side.reset)(m);
+            Answer::default()
+        }
     }
 }
 
-/// After a begin, every prefix of the list is a list: the side's meter against the book, answers and places too, and its
-/// count against L.
+/// After a begin, every prefix of the list is a list: the side's meter against the book, answers and places too, its highest
+/// against the counts that it showed, and its count against L; its highest, too, once it was reset.
 pub fn compare_list(side: &Side, case: &Case) -> Result<(), String> {
     let mut m = case.start;
     (side.begin)(&mut m);
     let mut book = Book::new(&case.words, case.start.services);
+    if m != book.meter(case.start.highest) {
+        return Err(format!("after the begin: {m:?}, by the documents {:?}", book.meter(case.start.highest)));
+    }
     let longest = case.longest();
+    // The larger of the highest at the last reset, or at the start, and the largest count shown since.
+    let mut worst = case.start.highest;
+    let mut was_reset = false;
     for (i, &c) in case.calls.iter().enumerate() {
         let (got, want) = (call(side, &case.words, case.weights(i), &mut m, c), book.call(case.weights(i), c));
         if got != want {
             return Err(format!("call {i}, {c:?}: {got:?}, by the feeding book {want:?}"));
         }
-        if longest.is_some_and(|l| u64::from(m.since) > l) {
-            return Err(format!("after call {i}, {c:?}: {m:?}, above L {longest:?}"));
+        // The book counts its course anew each time: on a list of thousands look at times only. It knows of no highest.
+        if (i < 1_000 || i + 1 == case.calls.len() || i % 64 == 0) && m != book.meter(m.highest) {
+            return Err(format!("after call {i}, {c:?}: {m:?}, by the feeding book {:?}", book.meter(m.highest)));
         }
-        // The book counts its course anew each time: on a list of thousands look at times only.
-        if (i < 1_000 || i + 1 == case.calls.len() || i % 64 == 0) && m != book.meter() {
-            return Err(format!("after call {i}, {c:?}: {m:?}, by the feeding book {:?}", book.meter()));
+        was_reset |= c == Call::Reset;
+        worst = if c == Call::Reset { m.since } else { worst.max(m.since) };
+        if m.highest != worst {
+            return Err(format!("after call {i}, {c:?}: {m:?}, by the counts shown its highest is {worst}"));
+        }
+        if longest.is_some_and(|l| u64::from(m.since) > l || was_reset && u64::from(m.highest) > l) {
+            return Err(format!("after call {i}, {c:?}: {m:?}, above L {longest:?}"));
         }
     }
     Ok(())
@@ -90,6 +108,10 @@ pub fn compare_single(side: &Side, case: &Case) -> Result<u64, String> {
                 Answer::default()
             }
             Call::Feed(q) => feed(&case.words, case.weights(i), &mut want, q),
+            Call::Reset => {
+                reset(&mut want);
+                Answer::default()
+            }
         };
         if answer != wanted || got != want {
             return Err(format!("{c:?} of {:?}: {answer:?}, {got:?}; by the documents {wanted:?}, {want:?}", case.start));
@@ -116,6 +138,10 @@ fn smaller(case: &Case) -> Vec<Case> {
         let start = Meter { services: 0, ..case.start };
         all.push(Case { start, ..case.clone() });
     }
+    if case.start.highest > 0 {
+        let start = Meter { highest: 0, ..case.start };
+        all.push(Case { start, ..case.clone() });
+    }
     all
 }
 
@@ -132,11 +158,12 @@ fn hold(sides: &[Side], case: &Case, counts: &mut Counts) {
         }
     }
     counts.below += u64::from(case.longest().is_some());
-    counts.feeds += case.calls.iter().filter(|&&c| c != Call::Begin).count() as u64;
+    counts.feeds += case.calls.iter().filter(|c| matches!(c, Call::Feed(_))).count() as u64;
+    counts.resets += case.calls.iter().filter(|&&c| c == Call::Reset).count() as u64;
     counts.lists += 1;
 }
 
-/// Calls that mostly follow a course, with wrong feeds and begins among them.
+/// Calls that mostly follow a course, with wrong feeds, begins and resets among them.
 fn calls(rng: &mut Rng, words: &[u32], many: usize) -> Vec<Call> {
     let mut out = vec![];
     let mut at: Option<usize> = None;
@@ -144,6 +171,10 @@ fn calls(rng: &mut Rng, words: &[u32], many: usize) -> Vec<Call> {
         if rng.once_in(24) {
             out.push(Call::Begin);
             at = None;
+            continue;
+        }
+        if rng.once_in(16) {
+            out.push(Call::Reset);
             continue;
         }
         let list = at.map(|p| steps(words, p));
@@ -171,6 +202,16 @@ fn tables(rng: &mut Rng) -> Vec<Weights> {
     (0..2 + rng.below(3)).map(|_| weights::any(rng)).collect()
 }
 
+/// A highest for this count: mostly above it, at times it, or below it, or any.
+fn any_highest(rng: &mut Rng, since: u32) -> u32 {
+    match rng.below(8) {
+        0 => since.saturating_sub(1 + rng.below(2) as u32),
+        1 => since,
+        2 => rng.next() as u32,
+        _ => since.saturating_add(rng.below(1_000) as u32),
+    }
+}
+
 /// A meter of a function of n words, with a count at its limit or just above it among them, or at times any.
 fn any_meter(rng: &mut Rng, n: usize) -> Meter {
     if n > 0 && !rng.once_in(4) {
@@ -183,21 +224,29 @@ fn any_meter(rng: &mut Rng, n: usize) -> Meter {
             2 | 3 => 1 + rng.below(last as usize + 1) as u32,
             _ => 1 + rng.below(most as usize) as u32,
         };
-        return Meter { begun: true, last, since, services };
+        return Meter { begun: true, last, since, services, highest: any_highest(rng, since) };
     }
     let near = |rng: &mut Rng| if rng.once_in(8) { rng.next() as u32 } else { rng.below(n + 3) as u32 };
     let (last, since) = (near(rng), near(rng));
     let services = if rng.once_in(3) { u32::MAX - rng.below(3) as u32 } else { rng.next() as u32 };
-    Meter { begun: rng.once_in(2), last, since, services }
+    Meter { begun: rng.once_in(2), last, since, services, highest: any_highest(rng, since) }
 }
 
-fn single(sides: &[Side], rng: &mut Rng, words: Vec<u32>, counts: &mut Counts) {
+/// One call on any meter of these words.
+pub fn single_case(rng: &mut Rng, words: Vec<u32>) -> Case {
     let start = any_meter(rng, words.len());
     let list = steps(&words, start.last as usize);
     let q = if !list.list().is_empty() && !rng.once_in(3) { rng.pick(list.list()) } else { rng.below(words.len() + 3) };
-    let calls = if rng.once_in(16) { vec![Call::Begin] } else { vec![Call::Feed(q)] };
-    let case = Case { words, weights: vec![weights::any(rng)], start, calls };
-    hold_single(sides, &case, counts);
+    let call = match rng.below(16) {
+        0 => Call::Begin,
+        1 => Call::Reset,
+        _ => Call::Feed(q),
+    };
+    Case { words, weights: vec![weights::any(rng)], start, calls: vec![call] }
+}
+
+fn single(sides: &[Side], rng: &mut Rng, words: Vec<u32>, counts: &mut Counts) {
+    hold_single(sides, &single_case(rng, words), counts);
 }
 
 fn hold_single(sides: &[Side], case: &Case, counts: &mut Counts) {
@@ -210,6 +259,7 @@ fn hold_single(sides: &[Side], case: &Case, counts: &mut Counts) {
     }
     *counts.answers.entry(number).or_default() += 1;
     counts.singles += 1;
+    counts.low += u64::from(case.start.highest < case.start.since);
 }
 
 /// Each weight alone a zero and every count around 128, with meters that 11 or 10 would refuse among them.

@@ -2,6 +2,8 @@
 //!
 //! Request C-17: "a meter compared with a run or with the book is lent the same weights at each feed". Where a list changes them
 //! the book holds what include/lawendeb.h promises then: each word weighs by the weights of its own feed.
+//!
+//! Request C-19: "Demand 3's lists may hold resets, which its book passes over." What the highest is, is no matter of the book's.
 
 use crate::meter::Meter;
 use crate::steps::{is_step, serves};
@@ -12,6 +14,7 @@ use crate::Answer;
 pub enum Call {
     Begin,
     Feed(usize),
+    Reset,
 }
 
 pub struct Book<'a> {
@@ -32,10 +35,14 @@ impl<'a> Book<'a> {
     /// The call's answer. A feed whose weights are turned away writes nothing.
     pub fn call(&mut self, weights: &[u8], call: Call) -> Answer {
         let answer = |number, place| Answer { number, place };
-        let Call::Feed(q) = call else {
-            self.course.clear();
-            self.weighed.clear();
-            return answer(0, 0);
+        let q = match call {
+            Call::Begin => {
+                self.course.clear();
+                self.weighed.clear();
+                return answer(0, 0);
+            }
+            Call::Reset => return answer(0, 0),
+            Call::Feed(q) => q,
         };
         if let Some(place) = weights::refused(weights) {
             return answer(18, place as u64);
@@ -55,8 +62,8 @@ impl<'a> Book<'a> {
         answer(0, 0)
     }
 
-    /// The meter after the list.
-    pub fn meter(&self) -> Meter {
+    /// The meter after the list, with the highest that it is to hold.
+    pub fn meter(&self, highest: u32) -> Meter {
         let mut from = 0;
         for (i, pair) in self.course.windows(2).enumerate() {
             if serves(pair[0], pair[1]) {
@@ -68,6 +75,7 @@ impl<'a> Book<'a> {
             last: self.course.last().map_or(0, |&q| q as u32),
             since: self.weighed[from..].iter().sum(),
             services: (u64::from(self.start) + self.tally).min(4_294_967_295) as u32,
+            highest,
         }
     }
 }

@@ -1,4 +1,4 @@
-//! The meter: begin and feed.
+//! The meter: begin, feed and reset.
 
 use crate::steps::{is_step, serves};
 use crate::weights::{self, weight};
@@ -12,14 +12,21 @@ pub struct Meter {
     /// The weight of the words since service.
     pub since: u32,
     pub services: u32,
+    /// Request C-19: "the highest count a meter has shown, held in the meter".
+    pub highest: u32,
 }
 
 pub fn begin(m: &mut Meter) {
-    *m = Meter { services: m.services, ..Meter::default() };
+    *m = Meter { services: m.services, highest: m.highest, ..Meter::default() };
+}
+
+/// "A new reset sets it to the count of that moment and changes nothing else".
+pub fn reset(m: &mut Meter) {
+    m.highest = m.since;
 }
 
 /// Request C-17: 18 is checked after 1, and "Number 11 now means a count above 255 times (last + 1), with its other conditions
-/// kept".
+/// kept". Request C-19: "A highest below the count falls under number 11."
 pub fn feed(words: &[u32], weights: &[u8], m: &mut Meter, q: usize) -> Answer {
     let answer = |number, place| Answer { number, place };
     let n = words.len();
@@ -31,14 +38,15 @@ pub fn feed(words: &[u32], weights: &[u8], m: &mut Meter, q: usize) -> Answer {
     }
     let (last, since) = (m.last as usize, m.since as usize);
     let foreign = if m.begun { last >= n || since == 0 || since > 255 * (last + 1) } else { last != 0 || since != 0 };
-    if foreign {
+    if foreign || m.highest < m.since {
         return answer(11, 0);
     }
     if !m.begun {
         if q != 0 || n == 0 {
             return answer(10, 0);
         }
-        *m = Meter { begun: true, last: 0, since: weight(words, weights, 0), services: m.services };
+        let since = weight(words, weights, 0);
+        *m = Meter { begun: true, last: 0, since, services: m.services, highest: m.highest.max(since) };
         return answer(0, 0);
     }
     if q >= n || !is_step(words, last, q) {
@@ -51,5 +59,6 @@ pub fn feed(words: &[u32], weights: &[u8], m: &mut Meter, q: usize) -> Answer {
         m.since += weight(words, weights, q);
     }
     m.last = q as u32;
+    m.highest = m.highest.max(m.since);
     answer(0, 0)
 }

@@ -42,7 +42,7 @@ abbrev pub «REACHES_INVALID» : ℕ
 abbrev pub «NO_STEP» : ℕ
 «NO_STEP» = 10
 
--- "meter not of this function"
+-- "meter not of this function"; "A highest below the count falls under number 11"
 abbrev pub «FOREIGN_METER» : ℕ
 «FOREIGN_METER» = 11
 
@@ -70,3 +70,7 @@ abbrev pub «TOO_DEEP» : ℕ
 -- request C-17: "a weight count other than 128, or a weight of 0"
 abbrev pub «WEIGHTS_REFUSED» : ℕ
 «WEIGHTS_REFUSED» = 18
+
+-- request C-18: "a low above its high"
+abbrev pub «LOW_ABOVE_HIGH» : ℕ
+«LOW_ABOVE_HIGH» = 19

@@ -5,17 +5,21 @@ use mathlib.Core.Bool.{Bool, true, false, cond, _||_, true≢false}
 use mathlib.Core.Path.{_≡_, refl, sym, ap, subst, _∙_}
 use mathlib.Core.List.{List, [], _∷_, _++_, append-assoc, append-nil}
 use native.Mathlib.Omega.{arith}
+use lib.Dec.{eqb}
 use lib.ListN.{length, replicate}
 use borrow.Author.Tests.{eq-eqb, lt-ltb}
+use Rattle.common.specs.Numbers.{«ACCEPTED»}
 use Rattle.graph.specs.Graph.{In, Graph, Along, Path, Unserved, Segment, weigh}
 use Rattle.graph.proofs.Laws.{laws}
 use Rattle.meter.specs.declared.step.Meter.{Meter}
-use Rattle.meter.specs.Feed.{Scale, follows, ceiling, beginOf}
-use Rattle.meter.specs.Model.{Call, begin, feed, Model, emptyModel, lastFrom, writes, servesTo, fed, called, answerTo, modelAfter, modelAnswers, anyServes, sinceService, weightSince}
+use Rattle.meter.specs.Feed.{Scale, follows, ceiling, beginOf, resetOf, feedOf}
+use Rattle.meter.specs.Model.{Call, begin, feed, reset, Model, emptyModel, lastFrom, writes, servesTo, fed, called, answerTo, modelAfter, modelAnswers, anyServes, sinceService, weightSince}
 use Rattle.meter.specs.Calls.{meterAfter}
-use Rattle.meter.specs.Bound.{feeds, ShownOn, Bound}
+use Rattle.meter.specs.Highest.{countsShown, largest, hasReset}
+use Rattle.meter.specs.Bound.{feeds, ShownOn, Bound, fresh, Worst}
 use Rattle.meter.proofs.Paths.{last-more}
 use Rattle.meter.proofs.Calls.{Sound, first-word, follows-model}
+use Rattle.meter.proofs.Highest.{risen}
 
 module _ (scale : Scale) (sound : Sound scale) where
   abbrev g : Graph
@@ -46,6 +50,7 @@ module _ (scale : Scale) (sound : Sound scale) where
   path-after b k [] = k
   path-after b k (begin ∷ cs) = path-after (called g b begin) tt cs
   path-after b k (feed q ∷ cs) = path-after (fed g b q) (path-fed b q (writes g (b .path) q) refl k) cs
+  path-after b k (reset ∷ cs) = path-after b k cs
 
   -- The words since service are a segment, the last of the path.
 
@@ -78,7 +83,7 @@ module _ (scale : Scale) (sound : Sound scale) where
   since-segment p ps path s =
       record { before = s .before; after = []; path = rw (append-nil (s .rest)) (subst (λ (l : List ℕ). Path g l) (s .whole) path); unserved = s .unserved }
 
-  abbrev AtMost : ℕ → Type 0
+  abbrev pub AtMost : ℕ → Type 0
   AtMost longest = (p : ℕ) (ps : List ℕ) → Segment g p ps → weigh w (p ∷ ps) ≤ longest
 
   since-most : (longest : ℕ) → AtMost longest → (ps : List ℕ) → PathOrNone ps → weightSince g w ps ≤ longest
@@ -187,4 +192,44 @@ module _ (scale : Scale) (sound : Sound scale) where
           taken = λ words path. follows-model scale sound m (feeds words) fits .answers ∙ written-path words path .1;
           never = never;
           reached = reached p ps s e;
+        }
+
+    -- The highest.
+
+    shown-most : (h : Meter) → ((calls : List Call) → meterAfter scale h calls .count ≤ longest) → (calls : List Call)
+        → largest (countsShown scale h calls) ≤ longest
+    shown-most h below [] = omega arith
+    shown-most h below (begin ∷ cs) =
+        let first : beginOf h .count ≤ longest = below (begin ∷ []) in
+        let later : largest (countsShown scale (beginOf h) cs) ≤ longest = shown-most (beginOf h) (λ calls. below (begin ∷ calls)) cs in
+        omega arith
+    shown-most h below (feed q ∷ cs) =
+        go (eqb (feedOf scale h q .answer .number) «ACCEPTED») (below (feed q ∷ [])) (shown-most (feedOf scale h q .meter) (λ calls. below (feed q ∷ calls)) cs)
+      where
+        go : (t : Bool) → feedOf scale h q .meter .count ≤ longest → largest (countsShown scale (feedOf scale h q .meter) cs) ≤ longest
+            → largest (cond t (feedOf scale h q .meter .count ∷ countsShown scale (feedOf scale h q .meter) cs) (countsShown scale (feedOf scale h q .meter) cs)) ≤ longest
+        go true first later = omega arith
+        go false first later = later
+    shown-most h below (reset ∷ cs) = shown-most (resetOf h) (λ calls. below (reset ∷ calls)) cs
+
+    only-feeds : (words : List ℕ) → hasReset (feeds words) ≡ false
+    only-feeds [] = refl
+    only-feeds (q ∷ qs) = only-feeds qs
+
+    fresh-at-0 : (fresh m .count ≡ 0) × (fresh m .highest ≡ 0)
+    unfolding beginOf resetOf
+    fresh-at-0 = (refl, refl)
+
+    fresh-highest : (words : List ℕ) → meterAfter scale (fresh m) (feeds words) .highest ≡ largest (countsShown scale (fresh m) (feeds words))
+    fresh-highest words =
+        let at-0 = fresh-at-0 in
+        let shown = risen scale (fresh m) (feeds words) (only-feeds words) in
+        omega arith
+
+    pub worst : Worst scale m longest
+    worst =
+        record {
+          taken = λ words path. follows-model scale sound m (reset ∷ feeds words) fits .answers ∙ written-path words path .1;
+          highest = λ words path. fresh-highest words;
+          never = λ words path. rw (fresh-highest words) (shown-most (fresh m) (λ calls. never (reset ∷ calls)) (feeds words));
         }

@@ -37,7 +37,7 @@ successor-follows ws p q = refl
 -- what number 11 lets pass
 pub count-small : (n : ℕ) (m : Meter) → isForeign n m ≡ false → n ≤ mostWords → m .count ≤ heaviestWeight * mostWords
 unfolding isForeign
-count-small n m = small n (m .last) (m .count) (isBegun m)
+count-small n m h = small n (m .last) (m .count) (isBegun m) (neither (ltb (m .highest) (m .count)) _ h .1)
 
 -- what number 10 lets pass
 pub fed-inside : (g : Graph) (m : Meter) (q : ℕ) → isStray g m q ≡ false → q < g .size

@@ -15,10 +15,11 @@ use Rattle.runs.specs.Laws.{Enough}
 use Rattle.runs.proofs.Laws.{laws}
 use Rattle.meter.specs.declared.step.Meter.{Meter}
 use Rattle.meter.specs.Feed.{scaleOf, ceiling}
-use Rattle.meter.specs.Bound.{Bound}
+use Rattle.meter.specs.Bound.{Bound, Worst}
 use Rattle.meter.specs.Demand3.{Demand3}
 use Rattle.meter.proofs.Calls.{Sound, follows-model}
-use Rattle.meter.proofs.Bound.{bound}
+use Rattle.meter.proofs.Highest.{highest-after}
+use Rattle.meter.proofs.Bound.{AtMost, bound, worst}
 
 module _ (ws weights : List ℕ) (weighs : Weighs weights) where
   pub sound : length ws ≤ mostWords → Sound (scaleOf ws weights)
@@ -32,15 +33,25 @@ module _ (ws weights : List ℕ) (weighs : Weighs weights) where
       }
 
   module _ (marks lengths : ℕ) (accepted : numberOf (runOf ws weights marks lengths) ≡ 0) where
-    pub bounded-by-run : (m : Meter) → m .services ≤ ceiling → Bound (scaleOf ws weights) m (longestOf (runOf ws weights marks lengths))
+    abbrev r : Run
+    r = runOf ws weights marks lengths
+
+    enough : Enough (length ws) weights marks lengths
+    enough = laws .enough ws weights marks lengths accepted
+
+    demand : Demand ws weights r
+    demand = laws .demand ws weights marks lengths enough (weighs .bytes)
+
+    most : AtMost (scaleOf ws weights) (sound (enough .few)) (longestOf r)
+    most p ps t = demand .bounded accepted p (weigh (weightOf ws weights) (p ∷ ps)) (record { rest = ps; segment = t; weight = refl })
+
+    pub bounded-by-run : (m : Meter) → m .services ≤ ceiling → Bound (scaleOf ws weights) m (longestOf r)
     bounded-by-run m fits =
-        let e : Enough (length ws) weights marks lengths = laws .enough ws weights marks lengths accepted in
-        let r : Run = runOf ws weights marks lengths in
-        let d : Demand ws weights r = laws .demand ws weights marks lengths e (weighs .bytes) in
-        let s : Passes ws weights (firstOf r) (longestOf r) = d .reached accepted in
-        bound (scaleOf ws weights) (sound (e .few)) m fits (longestOf r)
-        (λ p ps t. d .bounded accepted p (weigh (weightOf ws weights) (p ∷ ps)) (record { rest = ps; segment = t; weight = refl }))
-        (firstOf r) (s .rest) (s .segment) (s .weight)
+        let s : Passes ws weights (firstOf r) (longestOf r) = demand .reached accepted in
+        bound (scaleOf ws weights) (sound (enough .few)) m fits (longestOf r) most (firstOf r) (s .rest) (s .segment) (s .weight)
+
+    pub worst-by-run : (m : Meter) → m .services ≤ ceiling → Worst (scaleOf ws weights) m (longestOf r)
+    worst-by-run m fits = worst (scaleOf ws weights) (sound (enough .few)) m fits (longestOf r) most
 
   pub demand3 : length ws ≤ mostWords → Demand3 ws weights
   demand3 few =
@@ -48,4 +59,6 @@ module _ (ws weights : List ℕ) (weighs : Weighs weights) where
         run = λ marks lengths a b. laws .demand ws weights marks lengths (record { few = few; marks-long = a; lengths-long = b; weighed = weighs .accepted }) (weighs .bytes);
         meter = λ m fits calls. follows-model (scaleOf ws weights) (sound few) m calls fits;
         bound = λ marks lengths accepted m fits. bounded-by-run marks lengths accepted m fits;
+        worst = λ marks lengths accepted m fits. worst-by-run marks lengths accepted m fits;
+        highest = highest-after (scaleOf ws weights);
       }

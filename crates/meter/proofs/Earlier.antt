@@ -2,19 +2,20 @@
 use mathlib.Core.Path.{_≡_, refl, sym, ap, _∙_}
 use mathlib.Core.Bool.{Bool, true, false, cond, not, _||_, true≢false}
 use mathlib.Core.List.{List}
-use Prim.Native.Nat.{ℕ, _+_, _*_}
+use Prim.Native.Nat.{ℕ, _+_, _*_, _≤_}
 use native.Mathlib.Omega.{arith}
 use lib.Dec.{ltb, leb, eqb}
 use lib.ListN.{length}
 use borrow.Author.Tests.{ltb-false, le-ltb}
+use Rattle.common.specs.Limits.{mostWords}
 use Rattle.runs.specs.Steps.{unitWeight}
 use Rattle.runs.specs.Instance.{graphOf}
 use Rattle.runs.specs.Weights.{heaviestWeight}
 use Rattle.runs.specs.Counted.{ones}
 use Rattle.runs.proofs.Laws.{laws}
 use Rattle.meter.specs.declared.step.Meter.{Meter}
-use Rattle.meter.specs.Feed.{Scale, scaleOf, isBegun, movedTo, isForeign, feedOf}
-use Rattle.meter.specs.Earlier.{countedForeign, countedMove, countedFeed, EarlierFeed}
+use Rattle.meter.specs.Feed.{Scale, scaleOf, isBegun, showing, movedTo, isForeign, isStray, feedOf}
+use Rattle.meter.specs.Earlier.{earlierMeter, earlierFed, countedForeign, countedStray, countedMove, countedFeed, EarlierFeed}
 use Rattle.meter.proofs.Checks.{neither}
 
 -- 255 times as much is no less
@@ -26,29 +27,45 @@ wider n last count true h =
     simp (a .0, b .0, le-ltb (heaviestWeight * (last + 1)) count (omega (arith, ltb-false (last + 1) count (b .1))))
 wider n last count false h = h
 
-let-through : (n : ℕ) (m : Meter) → countedForeign n m ≡ false → isForeign n m ≡ false
+let-through : (n : ℕ) (m : Meter) → countedForeign n (earlierMeter m) ≡ false → m .count ≤ m .highest → isForeign n m ≡ false
 unfolding countedForeign isForeign
-let-through n m = wider n (m .last) (m .count) (isBegun m)
+let-through n m h l = rw (le-ltb (m .highest) (m .count) l) (wider n (m .last) (m .count) (isBegun m) h)
 
 module _ (ws : List ℕ) (m : Meter) (q : ℕ) where
   -- by any weights
   abbrev scaled : (ℕ → ℕ) → Scale
   scaled w = record { graph = graphOf ws; table = ones; weight = w }
 
-  counted : movedTo (scaled unitWeight) m q ≡ countedMove (graphOf ws) m q
-  unfolding movedTo countedMove
-  counted = refl
+  counted : earlierMeter (movedTo (scaled unitWeight) m q) ≡ countedMove (graphOf ws) (earlierMeter m) q
+  unfolding movedTo countedMove showing
+  counted = go (isBegun m) (graphOf ws .serves (m .last) q) refl refl
+    where
+      go : (t u : Bool) → isBegun m ≡ t → graphOf ws .serves (m .last) q ≡ u → earlierMeter (movedTo (scaled unitWeight) m q) ≡ countedMove (graphOf ws) (earlierMeter m) q
+      go true true e d = rw (e, d)
+      go true false e d = rw (e, d)
+      go false u e d = rw e
 
-  moves : movedTo (scaleOf ws ones) m q ≡ countedMove (graphOf ws) m q
-  moves = ap (λ (w : ℕ → ℕ). movedTo (scaled w) m q) (laws .ones-weigh ws) ∙ counted
+  moves : earlierMeter (movedTo (scaleOf ws ones) m q) ≡ countedMove (graphOf ws) (earlierMeter m) q
+  moves = ap (λ (w : ℕ → ℕ). earlierMeter (movedTo (scaled w) m q)) (laws .ones-weigh ws) ∙ counted
 
-  same : countedForeign (length ws) m ≡ false → feedOf (scaleOf ws ones) m q ≡ countedFeed (graphOf ws) m q
+  strays : isStray (graphOf ws) m q ≡ countedStray (graphOf ws) (earlierMeter m) q
+  unfolding isStray countedStray
+  strays = refl
+
+  same-by : (t u : Bool) → ltb mostWords (length ws) ≡ t → countedStray (graphOf ws) (earlierMeter m) q ≡ u → countedForeign (length ws) (earlierMeter m) ≡ false
+      → m .count ≤ m .highest → earlierFed (feedOf (scaleOf ws ones) m q) ≡ countedFeed (graphOf ws) (earlierMeter m) q
   unfolding feedOf countedFeed
-  same h = rw (laws .ones-accepted, let-through (length ws) m h, h, moves)
+  same-by true u e d h l = rw e
+  same-by false true e d h l = rw (e, laws .ones-accepted, let-through (length ws) m h l, h, strays, d)
+  same-by false false e d h l = rw (e, laws .ones-accepted, let-through (length ws) m h l, h, strays, d) (rw moves)
 
-  aside : (t : Bool) → countedForeign (length ws) m ≡ t → isForeign (length ws) m ≡ true → t ≡ true
-  aside true e f = refl
-  aside false e f = absurd (true≢false (sym f ∙ let-through (length ws) m e))
+  aside : (t : Bool) → countedForeign (length ws) (earlierMeter m) ≡ t → isForeign (length ws) m ≡ true → m .count ≤ m .highest → t ≡ true
+  aside true e f l = refl
+  aside false e f l = absurd (true≢false (sym f ∙ let-through (length ws) m e l))
 
   pub earlier-feed : EarlierFeed ws m q
-  earlier-feed = record { same = same; aside = aside (countedForeign (length ws) m) refl }
+  earlier-feed =
+      record {
+        same = same-by (ltb mostWords (length ws)) (countedStray (graphOf ws) (earlierMeter m) q) refl refl;
+        aside = aside (countedForeign (length ws) (earlierMeter m)) refl;
+      }

@@ -4,23 +4,29 @@ use mathlib.Core.Path.{_≡_}
 use mathlib.Core.List.{List, [], _∷_}
 use Prim.Native.Nat.{ℕ, _+_, min}
 use Rattle.meter.specs.declared.step.Meter.{Meter}
-use Rattle.meter.specs.Feed.{Scale, ceiling, isBegun, feedOf, beginOf}
-use Rattle.meter.specs.Model.{Call, begin, feed, Model, emptyModel, modelAfter, modelAnswers, hasWord, lastOr0, weightSince}
+use Rattle.meter.specs.Feed.{Scale, ceiling, isBegun, feedOf, beginOf, resetOf}
+use Rattle.meter.specs.Model.{Call, begin, feed, reset, Model, emptyModel, modelAfter, modelAnswers, hasWord, lastOr0, weightSince}
+
+-- the meter after a call, by the definitions that the contracts of `begin`, `feed` and `reset` cite
+abbrev pub meterCalled : Scale → Meter → Call → Meter
+meterCalled s m begin = beginOf m
+meterCalled s m (feed q) = feedOf s m q .meter
+meterCalled s m reset = resetOf m
 
 -- "Each call is lent the meter as the call before left it, refused or not; nobody else writes it meanwhile.": the meter after
--- the calls, by the definitions that the contracts of `begin` and `feed` cite
+-- the calls
 abbrev pub meterAfter : Scale → Meter → List Call → Meter
 meterAfter s m [] = m
-meterAfter s m (begin ∷ cs) = meterAfter s (beginOf m) cs
-meterAfter s m (feed q ∷ cs) = meterAfter s (feedOf s m q .meter) cs
+meterAfter s m (c ∷ cs) = meterAfter s (meterCalled s m c) cs
 
 -- the answers to the feeds among the calls
 abbrev pub meterAnswers : Scale → Meter → List Call → List ℕ
 meterAnswers s m [] = []
 meterAnswers s m (begin ∷ cs) = meterAnswers s (beginOf m) cs
 meterAnswers s m (feed q ∷ cs) = feedOf s m q .answer .number ∷ meterAnswers s (feedOf s m q .meter) cs
+meterAnswers s m (reset ∷ cs) = meterAnswers s (resetOf m) cs
 
--- "It starts from any meter after a begin." "That is a single claim about the list, and not one for each call."
+-- "It starts from any meter after a begin.", whatever highest it holds. "That is a single claim about the list, and not one for each call."
 module _ (s : Scale) (m : Meter) (calls : List Call) where
   abbrev pub shown : Meter
   shown = meterAfter s (beginOf m) calls

@@ -1,9 +1,9 @@
--- Document 01, "Meter", with the weights of request C-17: begin and feed, over any graph of words and any weights. The contracts give the
--- graph of the words lent and what each word weighs by the table lent.
+-- Document 01, "Meter", with the weights of request C-17 and the highest count of request C-19: begin, reset and feed, over any graph of words
+-- and any weights. The contracts give the graph of the words lent and what each word weighs by the table lent.
 -- Assumes nothing.
 use mathlib.Core.Bool.{Bool, cond, not, _||_}
 use mathlib.Core.List.{List}
-use Prim.Native.Nat.{ℕ, _+_, _*_}
+use Prim.Native.Nat.{ℕ, _+_, _*_, max}
 use lib.Dec.{ltb, leb, eqb}
 use Rattle.common.specs.Limits.{mostWords}
 use Rattle.common.specs.Numbers.{«ACCEPTED», «TOO_MANY_WORDS», «NO_STEP», «FOREIGN_METER», «WEIGHTS_REFUSED»}
@@ -32,9 +32,13 @@ follows g p q = member q (g .successors p)
 abbrev pub isBegun : Meter → Bool
 isBegun m = not (eqb (m .begun) 0)
 
--- "Begin takes any meter, sets not begun, 0, 0 and keeps the services."
+-- "Begin takes any meter, sets not begun, 0, 0 and keeps the services." Request C-19, of the highest: "begin keeps it"
 unfoldable pub beginOf : Meter → Meter
-beginOf m = record { begun = 0; last = 0; count = 0; services = m .services }
+beginOf m = record { begun = 0; last = 0; count = 0; services = m .services; highest = m .highest }
+
+-- "A new reset sets it to the count of that moment and changes nothing else"
+unfoldable pub resetOf : Meter → Meter
+resetOf m = record { begun = m .begun; last = m .last; count = m .count; services = m .services; highest = m .count }
 
 -- "staying at 4,294,967,295"
 abbrev pub ceiling : ℕ
@@ -44,6 +48,10 @@ ceiling = 4294967295
 unfoldable pub oneService : ℕ → ℕ
 oneService s = cond (ltb s ceiling) (s + 1) ceiling
 
+-- "the highest count a meter has shown, held in the meter": a meter that is at a word and shows a count, by the highest before
+unfoldable pub showing : ℕ → ℕ → ℕ → ℕ → Meter
+showing last count services before = record { begun = 1; last = last; count = count; services = services; highest = max before count }
+
 -- "The first word fed must be 0, bad or not, and makes the count [its weight]. A serving step makes it [the weight of the word it leads to]
 -- and adds a service, staying at 4,294,967,295; another step adds [that word's weight]." Request C-17: "the meter's count become[s] sums of
 -- weights"
@@ -51,15 +59,16 @@ unfoldable pub movedTo : Scale → Meter → ℕ → Meter
 movedTo s m q =
     cond (isBegun m)
     (cond (s .graph .serves (m .last) q)
-    (record { begun = 1; last = q; count = s .weight q; services = oneService (m .services) })
-    (record { begun = 1; last = q; count = m .count + s .weight q; services = m .services }))
-    (record { begun = 1; last = q; count = s .weight q; services = m .services })
+    (showing q (s .weight q) (oneService (m .services)) (m .highest))
+    (showing q (m .count + s .weight q) (m .services) (m .highest)))
+    (showing q (s .weight q) (m .services) (m .highest))
 
 -- number 11, "meter not of this function": "begun with last ≥ n, count 0 or ..; not begun with last or count nonzero". Request C-17: "a
--- count above 255 times (last + 1), with its other conditions kept"
+-- count above 255 times (last + 1), with its other conditions kept". Request C-19: "A highest below the count falls under number 11"
 unfoldable pub isForeign : ℕ → Meter → Bool
 isForeign n m =
-    cond (isBegun m)
+    ltb (m .highest) (m .count)
+    || cond (isBegun m)
     (leb n (m .last) || (eqb (m .count) 0 || ltb (heaviestWeight * (m .last + 1)) (m .count)))
     (not (eqb (m .last) 0) || not (eqb (m .count) 0))
 

@@ -2,6 +2,7 @@
 pub mod Feed
 pub mod Model
 pub mod Calls
+pub mod Highest
 pub mod Bound
 pub mod Demand3
 pub mod Earlier

@@ -8,10 +8,11 @@ use Rattle.common.specs.Numbers.{«ACCEPTED», «NO_STEP»}
 use Rattle.graph.specs.Graph.{Graph, weigh}
 use Rattle.meter.specs.Feed.{follows}
 
--- "the calls: begin, or feed with its word number"
+-- "the calls: begin, or feed with its word number". Request C-19: "Demand 3's lists may hold resets, which its book passes over"
 pub data Call : Type 0 where
   begin : Call
   feed : ℕ → Call
+  reset : Call
 
 -- "It keeps a course .. and a tally of services passed"
 pub record Model : Type 0 where
@@ -44,10 +45,11 @@ fed g b q =
     (record { path = b .path ++ (q ∷ []); tally = cond (servesTo g (b .path) q) (b .tally + 1) (b .tally) })
     b
 
--- "A begin empties the course and keeps the tally."
+-- "A begin empties the course and keeps the tally." A reset changes nothing here.
 abbrev pub called : Graph → Model → Call → Model
 called g b begin = record { path = []; tally = b .tally }
 called g b (feed q) = fed g b q
+called g b reset = b
 
 -- "its answer is 10, and that of a written one 0"
 abbrev pub answerTo : Graph → Model → ℕ → ℕ
@@ -62,6 +64,7 @@ abbrev pub modelAnswers : Graph → Model → List Call → List ℕ
 modelAnswers g b [] = []
 modelAnswers g b (begin ∷ cs) = modelAnswers g (called g b begin) cs
 modelAnswers g b (feed q ∷ cs) = answerTo g b q ∷ modelAnswers g (called g b (feed q)) cs
+modelAnswers g b (reset ∷ cs) = modelAnswers g (called g b reset) cs
 
 -- "the course has a word"
 abbrev pub hasWord : List ℕ → Bool

@@ -2,10 +2,12 @@
 mod lent;
 mod step;
 
-pub use lent::lawendeb_begin as begin;
-pub use lent::lawendeb_feed_3 as feed;
+pub use lent::lawendeb_begin_4 as begin;
+pub use lent::lawendeb_feed_4 as feed;
+pub use lent::lawendeb_reset as reset;
 pub use step::Fed;
 pub use step::FeedAnswer;
 pub use step::Meter;
 pub use step::begin_step;
 pub use step::feed_step;
+pub use step::reset_step;

@@ -1,11 +1,11 @@
-// Begin and feed by value: a meter goes in, a meter comes out.
+// Begin, feed and reset by value: a meter goes in, a meter comes out.
 ghost use mathlib.Core.Path.{_≡_};
-ghost use Prim.Native.Nat.{_*_, _<_, _≤_};
+ghost use Prim.Native.Nat.{_*_, _<_, _≤_, max};
 ghost use lib.ListN.{length};
 ghost use Rattle.common.specs.Limits.{mostWords};
 ghost use Rattle.runs.specs.Instance.{graphOf};
 ghost use Rattle.runs.specs.Weights.{heaviestWeight, weightOf};
-ghost use Rattle.meter.specs.Feed.{scaleOf, beginOf, oneService, movedTo, isForeign, isStray, refusal, feedOf};
+ghost use Rattle.meter.specs.Feed.{scaleOf, beginOf, resetOf, oneService, showing, movedTo, isForeign, isStray, refusal, feedOf};
 use common::limits::MOST_WORDS;
 
 // A feed's number has 64 bits, as C gets it.
@@ -26,8 +26,8 @@ const HEAVIEST: usize = 255;
 // Document 01, "Meter": services stay at this.
 const CEILING: u32 = 4294967295;
 
-// Four numbers in the order of document 01, laid out as C lays them out. A number for `begun`, not a bool: a bool of 2 from a C
-// caller would have no meaning, while a number does: 0 is not begun, any other is.
+// Four numbers in the order of document 01 and the highest of request C-19, laid out as C lays them out. A number for `begun`, not a bool:
+// a bool of 2 from a C caller would have no meaning, while a number does: 0 is not begun, any other is.
 #[repr(C)]
 pub struct Meter {
     pub begun: u32,
@@ -35,6 +35,8 @@ pub struct Meter {
     // What the words since service weigh.
     pub count: u32,
     pub services: u32,
+    // The highest count shown since the last reset.
+    pub highest: u32,
 }
 
 // "Each answer carries its number, 0 when accepted, and a place, 0 unless named.": what a feed answers, as C gets it.
@@ -50,7 +52,7 @@ pub struct Fed {
     pub answer: FeedAnswer,
 }
 
-// Begin: not begun, 0, 0; the services stay.
+// Begin: not begun, 0, 0; the services and the highest stay.
 pub fn begin_step(m: Meter) -> Meter
     ensures { λ r. ⌜ r ≡ beginOf m ⌝ }
 {
@@ -59,6 +61,20 @@ pub fn begin_step(m: Meter) -> Meter
         last: 0,
         count: 0,
         services: m.services,
+        highest: m.highest,
+    }
+}
+
+// Reset: the highest is the count of this moment; the rest stays.
+pub fn reset_step(m: Meter) -> Meter
+    ensures { λ r. ⌜ r ≡ resetOf m ⌝ }
+{
+    Meter {
+        begun: m.begun,
+        last: m.last,
+        count: m.count,
+        services: m.services,
+        highest: m.count,
     }
 }
 
@@ -78,12 +94,15 @@ fn one_service(s: u32) -> u32
     CEILING
 }
 
-// Number 11: no meter of a function of n words.
+// Number 11: no meter of a function of n words, or one whose highest is below its count.
 fn is_foreign(n: usize, m: Meter) -> bool
     ensures { λ r. ⌜ r ≡ isForeign n m ⌝ }
 {
     let last = wide(m.last);
     let count = wide(m.count);
+    if wide(m.highest) < count {
+        return true;
+    }
     if m.begun == 0 {
         if last == 0 {
             return count != 0;
@@ -112,6 +131,28 @@ fn is_stray(words: &[u32], m: Meter, q: usize) -> bool
     !runs::successors::is_successor(words, wide(m.last), q)
 }
 
+fn larger(x: u32, y: u32) -> u32
+    ensures { λ r. ⌜ r ≡ max x y ⌝ }
+{
+    if x < y {
+        return y;
+    }
+    x
+}
+
+// A begun meter, and a count that it shows now, after `before` was its highest.
+fn show_count(last: u32, count: u32, services: u32, before: u32) -> Meter
+    ensures { λ r. ⌜ r ≡ showing last count services before ⌝ }
+{
+    Meter {
+        begun: 1,
+        last,
+        count,
+        services,
+        highest: larger(before, count),
+    }
+}
+
 // The meter at q. What the checks leave is small enough to add to and to keep in 32 bits.
 fn moved(words: &[u32], weights: &[u8], m: Meter, q: usize) -> Meter
     requires { ⌜ (q < mostWords) × (m .count ≤ heaviestWeight * mostWords) ⌝ }
@@ -120,27 +161,12 @@ fn moved(words: &[u32], weights: &[u8], m: Meter, q: usize) -> Meter
     let to = q as u32;
     let weight = runs::weighing::weight_at(words, weights, q);
     if m.begun == 0 {
-        return Meter {
-            begun: 1,
-            last: to,
-            count: weight,
-            services: m.services,
-        };
+        return show_count(to, weight, m.services, m.highest);
     }
     if runs::edges::serves(wide(m.last), q) {
-        return Meter {
-            begun: 1,
-            last: to,
-            count: weight,
-            services: one_service(m.services),
-        };
+        return show_count(to, weight, one_service(m.services), m.highest);
     }
-    Meter {
-        begun: 1,
-        last: to,
-        count: m.count + weight,
-        services: m.services,
-    }
+    show_count(to, m.count + weight, m.services, m.highest)
 }
 
 // A refusal leaves the meter as it was.

@@ -1,4 +1,4 @@
-// Replays lists of calls on a meter and writes what each call answers and leaves: feed, number; begun, last, count, services.
+// Replays lists of calls on a meter and writes what each call answers and leaves: feed, number; begun, last, count, services, highest.
 ghost use mathlib.Core.Path.{_≡_};
 ghost use lib.ListN.{length};
 use fields::opcodes::*;
@@ -8,8 +8,11 @@ use print_cases::number;
 use print_cases::number_u32;
 use print_cases::text;
 
-// Stands in a list of calls for a begin; any other number is a feed of it.
+// They stand in a list of calls for a begin and a reset; any other number is a feed of it.
+
 const BEGIN: usize = 18446744073709551615;
+
+const RESET: usize = 18446744073709551614;
 
 // Document 01, number 1.
 const MOST_WORDS: usize = 32768;
@@ -38,6 +41,7 @@ fn show(m: Meter) {
     number_u32(m.last);
     number_u32(m.count);
     number_u32(m.services);
+    number_u32(m.highest);
     end();
 }
 
@@ -47,6 +51,12 @@ fn call(words: &[u32], weights: &[u8], m: Meter, q: usize) -> Meter {
         text(b"begin");
         show(begun);
         return begun;
+    }
+    if q == RESET {
+        let reset = meter::reset_step(m);
+        text(b"reset");
+        show(reset);
+        return reset;
     }
     let fed = meter::feed_step(words, weights, m, q);
     let next = fed.meter;
@@ -73,13 +83,19 @@ fn replay(title: &[u8], words: &[u32], weights: &[u8], start: Meter, calls: &[us
     }
 }
 
-fn meter(begun: u32, last: u32, count: u32, services: u32) -> Meter {
+fn with_highest(begun: u32, last: u32, count: u32, services: u32, highest: u32) -> Meter {
     Meter {
         begun: begun,
         last: last,
         count: count,
         services: services,
+        highest: highest,
     }
+}
+
+// As a reset leaves it.
+fn meter(begun: u32, last: u32, count: u32, services: u32) -> Meter {
+    with_highest(begun, last, count, services, count)
 }
 
 // A word more than a function may have: MOVE at each.
@@ -279,11 +295,105 @@ fn by_weight(words: &[u32]) {
     replay(b"32,769 words, no weights", words, &[], none, &[0]);
 }
 
+// Request C-19: feeds raise the highest, a begin and a refused feed keep it, a reset sets it to the count.
+fn remembers() {
+    replay(
+        b"the highest",
+        &SHEET,
+        &ONES,
+        meter(0, 0, 0, 9),
+        &[
+            0,
+            1,
+            2,
+            3,
+            1,
+            9,
+            3,
+            BEGIN,
+            0,
+            1,
+            RESET,
+            2,
+            RESET,
+            RESET,
+            3,
+            1,
+            BEGIN,
+            RESET,
+            0,
+        ],
+    );
+    replay(
+        b"begun, then reset, then a path",
+        &SHEET,
+        &but_one(OP_ADDI as usize, 7),
+        with_highest(7, 7, 7, 7, 7777),
+        &[BEGIN, RESET, 0, 1, 3, 1, 2, 3, 1],
+    );
+    replay(
+        b"any highest",
+        &SHEET,
+        &ONES,
+        with_highest(0, 0, 0, 5, 4294967295),
+        &[0, 1, BEGIN, 0, RESET, 1],
+    );
+}
+
+// A highest below the count is number 11's: begun or not, before number 10, after 1 and 18. A reset mends it.
+fn highest_below(words: &[u32]) {
+    let below = with_highest(1, 1, 2, 5, 1);
+    replay(
+        b"a highest below the count",
+        &SHEET,
+        &ONES,
+        below,
+        &[9, 2, RESET, 2],
+    );
+    replay(
+        b"a highest below the count, begun anew",
+        &SHEET,
+        &ONES,
+        below,
+        &[BEGIN, 0, 1, 3],
+    );
+    replay(
+        b"a highest at the count",
+        &SHEET,
+        &ONES,
+        with_highest(1, 1, 2, 5, 2),
+        &[9, 3],
+    );
+    replay(
+        b"not begun, a highest below the count",
+        &SHEET,
+        &ONES,
+        with_highest(0, 0, 1, 5, 0),
+        &[0, RESET, 0, BEGIN, 0],
+    );
+    replay(
+        b"a highest below the count, 127 weights",
+        &SHEET,
+        &[1u8; 127],
+        below,
+        &[2],
+    );
+    replay(
+        b"a highest below the count, 32,769 words",
+        words,
+        &ONES,
+        below,
+        &[2, RESET],
+    );
+}
+
 fn main() {
     on_the_sheet();
     services();
     first_words();
     other_functions();
     by_weight(&moves());
+    remembers();
+    highest_below(&moves());
     at_most(&moves());
 }

@@ -1,4 +1,4 @@
--- `meter::lent::lawendeb_begin` meets its contract: a walk of its MIR, by hand. The borrow is opened, the meter is read whole, `begin_step` is called by value, its meter is stored whole, and the borrow is closed.
+-- `meter::lent::lawendeb_begin_4` meets its contract: a walk of its MIR, by hand. The borrow is opened, the meter is read whole, `begin_step` is called by value, its meter is stored whole, and the borrow is closed.
 -- All that the proof knows of `begin_step` is that it meets its contract. It names no field of a meter.
 -- Assumes nothing.
 use mathlib.Core.Path.{_≡_, refl}
@@ -43,10 +43,10 @@ use Rattle.meter.proofs.step.begin_step as step
 use Rattle.meter.proofs.step.begin_step.Symbol as step-def
 use Rattle.meter.proofs.step.begin_step.Symbol.{name as #meter·begin-step}
 use Rattle.meter.proofs.step.begin_step.Met as step-thm
-use Rattle.meter.proofs.lent.lawendeb_begin.Key.{name as #meter·lawendeb-begin}
-use Rattle.meter.proofs.lent.lawendeb_begin as f
-use Rattle.meter.proofs.lent.lawendeb_begin.Statement as stated
-use Rattle.meter.proofs.lent.lawendeb_begin.Code as code
+use Rattle.meter.proofs.lent.lawendeb_begin_4.Key.{name as #meter·lawendeb-begin-4}
+use Rattle.meter.proofs.lent.lawendeb_begin_4 as f
+use Rattle.meter.proofs.lent.lawendeb_begin_4.Statement as stated
+use Rattle.meter.proofs.lent.lawendeb_begin_4.Code as code
 
 abbrev stayed : Stays (f.ended .signature .params) (f.ended .kept)
 stayed = (stay-ref (0 ∷ []) tt (plain (λ _. T.the-row)), tt)
@@ -121,24 +121,24 @@ module _ {M : Type 1} (𝓤 : URA M) (H : Heap 𝓤) (A : Atoms 𝓤) (W : Given
         keep ! (0 ∷ 1 ∷ 2 ∷ []) $ by ! (exits r e)))))))))))
 
 module _ {M : Type 1} (𝓤 : URA M) (H : Heap 𝓤) (A : Atoms 𝓤) (W : Given 𝓤 H A) (at-mem : Memory → SProp 𝓤) (run : Routine → Fun 𝓤) where
-  lawendeb-begin-walks : (C : Calls 𝓤 H) (Λ : Loops 𝓤 H) → FmC 𝓤 H (W .laws) C → Triple 𝓤 (C #meter·begin-step) (Stepped 𝓤 H A at-mem run)
+  lawendeb-begin-4-walks : (C : Calls 𝓤 H) (Λ : Loops 𝓤 H) → FmC 𝓤 H (W .laws) C → Triple 𝓤 (C #meter·begin-step) (Stepped 𝓤 H A at-mem run)
       → Walks 𝓤 H A f.ended stayed (WpFn 𝓤 H C Λ code.function) (f.clauses 𝓤 H A at-mem run)
-  lawendeb-begin-walks C Λ fm known = walked 𝓤 H A f.ended stayed (f.clauses 𝓤 H A at-mem run) (WpFn 𝓤 H C Λ code.function) (λ κs. (ptr-vals, tt)) (λ κs. (mut-tells (named 0) (κs .0) T.the-row, tt))
+  lawendeb-begin-4-walks C Λ fm known = walked 𝓤 H A f.ended stayed (f.clauses 𝓤 H A at-mem run) (WpFn 𝓤 H C Λ code.function) (λ κs. (ptr-vals, tt)) (λ κs. (mut-tells (named 0) (κs .0) T.the-row, tt))
       (λ κs qs bounds a _ _. via 𝓤 _ (fst∗ 𝓤 _ (emp 𝓤)) (walk 𝓤 H A W at-mem run (κs .0) (qs .0) (a .0 .ptr .0) (a .0 .ptr .1) (a .0 .name) (a .0 .now) C Λ fm known))
 
   goes : AllGo 𝓤 H A W 1 (f.signature .params) (f.ended .kept) stayed
   goes = (goes-ref 𝓤 H A W 1 0 tt (plain (λ _. T.the-row)), tt)
 
-lawendeb-begin-meets : {M : Type 1} (𝓤 : URA M) (H : Heap 𝓤) (A : Atoms 𝓤) (W : Given 𝓤 H A) (at-mem : Memory → SProp 𝓤) (run : Routine → Fun 𝓤) (𝓣 : Tables 𝓤 H)
+lawendeb-begin-4-meets : {M : Type 1} (𝓤 : URA M) (H : Heap 𝓤) (A : Atoms 𝓤) (W : Given 𝓤 H A) (at-mem : Memory → SProp 𝓤) (run : Routine → Fun 𝓤) (𝓣 : Tables 𝓤 H)
     → Triple 𝓤 (𝓣 .C #meter·begin-step) (Stepped 𝓤 H A at-mem run)
     → Meets 𝓤 H A f.signature (WpFn 𝓤 H (𝓣 .C) (𝓣 .Λ) code.function) (f.spec 𝓤 H A at-mem run)
-lawendeb-begin-meets 𝓤 H A W at-mem run 𝓣 known = walk-meets 𝓤 H A f.ended stayed W (goes 𝓤 H A W at-mem run) (f.clauses 𝓤 H A at-mem run) (WpFn 𝓤 H (𝓣 .C) (𝓣 .Λ) code.function) (WpFn-mono 𝓤 H (W .laws) 𝓣 code.function)
-    (lawendeb-begin-walks 𝓤 H A W at-mem run (𝓣 .C) (𝓣 .Λ) (fmOf 𝓤 H (W .laws) 𝓣) known)
+lawendeb-begin-4-meets 𝓤 H A W at-mem run 𝓣 known = walk-meets 𝓤 H A f.ended stayed W (goes 𝓤 H A W at-mem run) (f.clauses 𝓤 H A at-mem run) (WpFn 𝓤 H (𝓣 .C) (𝓣 .Λ) code.function) (WpFn-mono 𝓤 H (W .laws) 𝓣 code.function)
+    (lawendeb-begin-4-walks 𝓤 H A W at-mem run (𝓣 .C) (𝓣 .Λ) (fmOf 𝓤 H (W .laws) 𝓣) known)
 
-pub lawendeb-begin-spec : {M : Type 1} → stated.statement M
+pub lawendeb-begin-4-spec : {M : Type 1} → stated.statement M
 unfolding code.routine tablesOf
-lawendeb-begin-spec 𝓤 H 𝓜 𝓖 𝓡 =
+lawendeb-begin-4-spec 𝓤 H 𝓜 𝓖 𝓡 =
     entered 𝓤 H (tripleOf 𝓤 H (𝓖 .A) f.signature (f.spec 𝓤 H (𝓖 .A) (𝓜 .mem) (𝓡 .run)))
-    (tables 𝓤 H 𝓜 𝓡 code.env .C) (tables 𝓤 H 𝓜 𝓡 code.env .Λ) #meter·lawendeb-begin code.function (code.unfolded 𝓤 H 𝓜 𝓡)
-    (lawendeb-begin-meets 𝓤 H (𝓖 .A) (givenOf 𝓤 H 𝓜 𝓖) (𝓜 .mem) (𝓡 .run) (tablesOf 𝓤 H 𝓜 (tables 𝓤 H 𝓜 𝓡 code.env))
+    (tables 𝓤 H 𝓜 𝓡 code.env .C) (tables 𝓤 H 𝓜 𝓡 code.env .Λ) #meter·lawendeb-begin-4 code.function (code.unfolded 𝓤 H 𝓜 𝓡)
+    (lawendeb-begin-4-meets 𝓤 H (𝓖 .A) (givenOf 𝓤 H 𝓜 𝓖) (𝓜 .mem) (𝓡 .run) (tablesOf 𝓤 H 𝓜 (tables 𝓤 H 𝓜 𝓡 code.env))
     (cited 𝓤 H (Stepped 𝓤 H (𝓖 .A) (𝓜 .mem) (𝓡 .run)) 𝓜 𝓡 code.env #meter·begin-step step-def.routine code.calls-meter·step·begin-step (step-thm.met 𝓤 H 𝓜 𝓖 𝓡)))

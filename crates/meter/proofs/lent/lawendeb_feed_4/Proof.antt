@@ -1,4 +1,4 @@
--- `meter::lent::lawendeb_feed_3` meets its contract: a walk of its MIR, by hand. The words and the weights are had twice, once for the callee; the meter's borrow is opened once; the meter is read whole, `feed_step` is called by value, and its meter is stored whole; the borrow is closed at the new record.
+-- `meter::lent::lawendeb_feed_4` meets its contract: a walk of its MIR, by hand. The words and the weights are had twice, once for the callee; the meter's borrow is opened once; the meter is read whole, `feed_step` is called by value, and its meter is stored whole; the borrow is closed at the new record.
 -- All that the proof knows of `feed_step` is that it meets its contract.
 -- Assumes nothing.
 use mathlib.Core.Path.{_≡_, refl, ap}
@@ -55,10 +55,10 @@ use Rattle.meter.proofs.step.feed_step as step
 use Rattle.meter.proofs.step.feed_step.Symbol as step-def
 use Rattle.meter.proofs.step.feed_step.Symbol.{name as #meter·feed-step}
 use Rattle.meter.proofs.step.feed_step.Met as step-thm
-use Rattle.meter.proofs.lent.lawendeb_feed_3.Key.{name as #meter·lawendeb-feed-3}
-use Rattle.meter.proofs.lent.lawendeb_feed_3 as f
-use Rattle.meter.proofs.lent.lawendeb_feed_3.Statement as stated
-use Rattle.meter.proofs.lent.lawendeb_feed_3.Code as code
+use Rattle.meter.proofs.lent.lawendeb_feed_4.Key.{name as #meter·lawendeb-feed-4}
+use Rattle.meter.proofs.lent.lawendeb_feed_4 as f
+use Rattle.meter.proofs.lent.lawendeb_feed_4.Statement as stated
+use Rattle.meter.proofs.lent.lawendeb_feed_4.Code as code
 
 abbrev stayed : Stays (f.ended .signature .params) (f.ended .kept)
 stayed = (stay-none-slice (0 ∷ []) tt (plain (λ _. u32)) yes, (stay-none-slice (1 ∷ []) tt (plain (λ _. u8)) yes, (stay-ref (2 ∷ []) tt (plain (λ _. T.the-row)), (stay-none (λ _. usize) yes, tt))))
@@ -181,25 +181,25 @@ module _ {M : Type 1} (𝓤 : URA M) (H : Heap 𝓤) (A : Atoms 𝓤) (W : Given
         by ! (exits r e (answer-is r _ is)))))))))))))))
 
 module _ {M : Type 1} (𝓤 : URA M) (H : Heap 𝓤) (A : Atoms 𝓤) (W : Given 𝓤 H A) (at-mem : Memory → SProp 𝓤) (run : Routine → Fun 𝓤) where
-  lawendeb-feed-3-walks : (C : Calls 𝓤 H) (Λ : Loops 𝓤 H) → FmC 𝓤 H (W .laws) C → Triple 𝓤 (C #meter·feed-step) (Stepped 𝓤 H A at-mem run)
+  lawendeb-feed-4-walks : (C : Calls 𝓤 H) (Λ : Loops 𝓤 H) → FmC 𝓤 H (W .laws) C → Triple 𝓤 (C #meter·feed-step) (Stepped 𝓤 H A at-mem run)
       → Walks 𝓤 H A f.ended stayed (WpFn 𝓤 H C Λ code.function) (f.clauses 𝓤 H A at-mem run)
-  lawendeb-feed-3-walks C Λ fm known = walked 𝓤 H A f.ended stayed (f.clauses 𝓤 H A at-mem run) (WpFn 𝓤 H C Λ code.function)
+  lawendeb-feed-4-walks C Λ fm known = walked 𝓤 H A f.ended stayed (f.clauses 𝓤 H A at-mem run) (WpFn 𝓤 H C Λ code.function)
       (λ κs. (slice-vals, (slice-vals, (ptr-vals, (uint-vals w64, tt))))) (λ κs. (shr-slice-tells (named 0) (κs .0) u32, (shr-slice-tells (named 1) (κs .1 .0) u8, (mut-tells (named 2) (κs .1 .1 .0) T.the-row, (uint-tells w64, tt)))))
       (λ κs qs bounds a g are. via 𝓤 _ (fst∗ 𝓤 _ (emp 𝓤)) (walk 𝓤 H A W at-mem run (κs .0) (κs .1 .0) (κs .1 .1 .0) (qs .0) (qs .1 .0) (qs .1 .1 .0) (a .0) (a .1 .0) (a .1 .1 .0 .ptr .0) (a .1 .1 .0 .ptr .1) (a .1 .1 .0 .name) (a .1 .1 .0 .now) (a .1 .1 .1 .0) (are .1 .1 .1 .0 .1) C Λ fm known (are .0) (are .1 .0)))
 
   goes : AllGo 𝓤 H A W 3 (f.signature .params) (f.ended .kept) stayed
   goes = (goes-none-slice 𝓤 H A W 3 (0 ∷ []) tt (plain (λ _. u32)) yes, (goes-none-slice 𝓤 H A W 3 (1 ∷ []) tt (plain (λ _. u8)) yes, (goes-ref 𝓤 H A W 3 2 tt (plain (λ _. T.the-row)), (goes-none 𝓤 H A W 3 (λ _. usize) yes (λ κs x f. refl), tt))))
 
-lawendeb-feed-3-meets : {M : Type 1} (𝓤 : URA M) (H : Heap 𝓤) (A : Atoms 𝓤) (W : Given 𝓤 H A) (at-mem : Memory → SProp 𝓤) (run : Routine → Fun 𝓤) (𝓣 : Tables 𝓤 H)
+lawendeb-feed-4-meets : {M : Type 1} (𝓤 : URA M) (H : Heap 𝓤) (A : Atoms 𝓤) (W : Given 𝓤 H A) (at-mem : Memory → SProp 𝓤) (run : Routine → Fun 𝓤) (𝓣 : Tables 𝓤 H)
     → Triple 𝓤 (𝓣 .C #meter·feed-step) (Stepped 𝓤 H A at-mem run)
     → Meets 𝓤 H A f.signature (WpFn 𝓤 H (𝓣 .C) (𝓣 .Λ) code.function) (f.spec 𝓤 H A at-mem run)
-lawendeb-feed-3-meets 𝓤 H A W at-mem run 𝓣 known = walk-meets 𝓤 H A f.ended stayed W (goes 𝓤 H A W at-mem run) (f.clauses 𝓤 H A at-mem run) (WpFn 𝓤 H (𝓣 .C) (𝓣 .Λ) code.function) (WpFn-mono 𝓤 H (W .laws) 𝓣 code.function)
-    (lawendeb-feed-3-walks 𝓤 H A W at-mem run (𝓣 .C) (𝓣 .Λ) (fmOf 𝓤 H (W .laws) 𝓣) known)
+lawendeb-feed-4-meets 𝓤 H A W at-mem run 𝓣 known = walk-meets 𝓤 H A f.ended stayed W (goes 𝓤 H A W at-mem run) (f.clauses 𝓤 H A at-mem run) (WpFn 𝓤 H (𝓣 .C) (𝓣 .Λ) code.function) (WpFn-mono 𝓤 H (W .laws) 𝓣 code.function)
+    (lawendeb-feed-4-walks 𝓤 H A W at-mem run (𝓣 .C) (𝓣 .Λ) (fmOf 𝓤 H (W .laws) 𝓣) known)
 
-pub lawendeb-feed-3-spec : {M : Type 1} → stated.statement M
+pub lawendeb-feed-4-spec : {M : Type 1} → stated.statement M
 unfolding code.routine tablesOf
-lawendeb-feed-3-spec 𝓤 H 𝓜 𝓖 𝓡 =
+lawendeb-feed-4-spec 𝓤 H 𝓜 𝓖 𝓡 =
     entered 𝓤 H (tripleOf 𝓤 H (𝓖 .A) f.signature (f.spec 𝓤 H (𝓖 .A) (𝓜 .mem) (𝓡 .run)))
-    (tables 𝓤 H 𝓜 𝓡 code.env .C) (tables 𝓤 H 𝓜 𝓡 code.env .Λ) #meter·lawendeb-feed-3 code.function (code.unfolded 𝓤 H 𝓜 𝓡)
-    (lawendeb-feed-3-meets 𝓤 H (𝓖 .A) (givenOf 𝓤 H 𝓜 𝓖) (𝓜 .mem) (𝓡 .run) (tablesOf 𝓤 H 𝓜 (tables 𝓤 H 𝓜 𝓡 code.env))
+    (tables 𝓤 H 𝓜 𝓡 code.env .C) (tables 𝓤 H 𝓜 𝓡 code.env .Λ) #meter·lawendeb-feed-4 code.function (code.unfolded 𝓤 H 𝓜 𝓡)
+    (lawendeb-feed-4-meets 𝓤 H (𝓖 .A) (givenOf 𝓤 H 𝓜 𝓖) (𝓜 .mem) (𝓡 .run) (tablesOf 𝓤 H 𝓜 (tables 𝓤 H 𝓜 𝓡 code.env))
     (cited 𝓤 H (Stepped 𝓤 H (𝓖 .A) (𝓜 .mem) (𝓡 .run)) 𝓜 𝓡 code.env #meter·feed-step step-def.routine code.calls-meter·step·feed-step (step-thm.met 𝓤 H 𝓜 𝓖 𝓡)))
