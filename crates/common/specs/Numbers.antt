@@ -1,4 +1,4 @@
--- Document 01, "Refused inputs": the number of each condition, by name, beside the document's words.
+-- Document 01, "Refused inputs", and document 02: the number of each condition, by name, beside the document's words.
 -- Assumes nothing.
 use Prim.Native.Nat.{ℕ}
 
@@ -67,6 +67,11 @@ abbrev pub «MALFORMED_CHUNK» : ℕ
 abbrev pub «TOO_DEEP» : ℕ
 «TOO_DEEP» = 16
 
+-- request C-15: "on every course from word 0 each register named as read was a parameter or was named as written earlier on that course"; a word
+-- where that is broken
+abbrev pub «UNSET_REGISTER» : ℕ
+«UNSET_REGISTER» = 17
+
 -- request C-17: "a weight count other than 128, or a weight of 0"
 abbrev pub «WEIGHTS_REFUSED» : ℕ
 «WEIGHTS_REFUSED» = 18
@@ -74,3 +79,19 @@ abbrev pub «WEIGHTS_REFUSED» : ℕ
 -- request C-18: "a low above its high"
 abbrev pub «LOW_ABOVE_HIGH» : ℕ
 «LOW_ABOVE_HIGH» = 19
+
+-- request C-20: "a script number above 3"
+abbrev pub «NO_SCRIPT» : ℕ
+«NO_SCRIPT» = 20
+
+-- request C-20: "an S out of range"
+abbrev pub «BUDGET_RANGE» : ℕ
+«BUDGET_RANGE» = 21
+
+-- request C-20: "a feed after which the sum would be above S"
+abbrev pub «OVER_BUDGET» : ℕ
+«OVER_BUDGET» = 22
+
+-- request C-21: "a script count, q or choice out of range"
+abbrev pub «OUT_OF_RANGE» : ℕ
+«OUT_OF_RANGE» = 23
