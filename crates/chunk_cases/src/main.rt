@@ -27,22 +27,46 @@ fn refused(bytes: &[u8]) {
     passes::count(b"15, the largest number", bytes, 18446744073709551615);
 }
 
-fn main() {
-    let plain = chunks::plain();
+fn counted(bytes: &[u8]) {
+    passes::count(b"main", bytes, 0);
+    passes::count(b"f", bytes, 1);
+}
+
+fn filled(bytes: &[u8]) {
+    passes::fill(b"main", bytes, 0);
+    passes::fill(b"f", bytes, 1);
+}
+
+fn filled_stripped() {
     let stripped = chunks::stripped();
-    let few = chunks::levels_32();
-    let many = chunks::levels_33();
-    passes::count(b"main", &plain, 0);
-    passes::count(b"f", &plain, 1);
-    passes::fill(b"main", &plain, 0);
-    passes::fill(b"f", &plain, 1);
     passes::fill(b"main, stripped", &stripped, 0);
     passes::fill(b"f, stripped", &stripped, 1);
-    passes::fill(b"15, not there", &plain, 2);
-    passes::short_words(b"6, words", &plain);
-    passes::short_names(b"6, names", &plain);
-    refused(&plain);
+}
+
+fn unfilled(bytes: &[u8]) {
+    passes::fill(b"15, not there", bytes, 2);
+    passes::short_words(b"6, words", bytes);
+    passes::short_names(b"6, names", bytes);
+}
+
+fn levels() {
+    let few = chunks::levels_32();
     passes::count(b"32 levels, the last", &few, 31);
+    let many = chunks::levels_33();
     passes::count(b"16, 33 levels", &many, 0);
+}
+
+fn plain(bytes: &[u8]) {
+    counted(bytes);
+    filled(bytes);
+    filled_stripped();
+    unfilled(bytes);
+    refused(bytes);
+}
+
+fn main() {
+    let bytes = chunks::plain();
+    plain(&bytes);
+    levels();
     names::all();
 }

@@ -69,27 +69,32 @@ pub fn short_names(label: &[u8], bytes: &[u8]) {
     show(&words, &tags, &payloads, &names);
 }
 
-// Function 0 of the first n bytes of a chunk in which the byte at an index is changed. Bytes past its end are 0.
-pub fn changed(label: &[u8], bytes: &[u8], at: usize, to: u8, n: usize) {
+// The first n bytes, or all if they are fewer.
+fn first(bytes: &[u8], n: usize) -> &[u8] {
+    if n <= bytes.len() { &bytes[..n] } else { bytes }
+}
+
+// Function 0 of the first n bytes.
+pub fn cut(label: &[u8], bytes: &[u8], n: usize) {
+    count(label, first(bytes, n), 0);
+}
+
+// A chunk in which the byte at an index is changed. Bytes past its end are 0.
+fn altered(bytes: &[u8], at: usize, to: u8) -> [u8; 512] {
     let mut other = [0u8; 512];
     let mut i: usize = 0;
-    while i < bytes.len() {
-        if i < 512 {
-            other[i] = bytes[i];
-        }
+    while i < bytes.len() && i < 512 {
+        other[i] = bytes[i];
         i += 1;
     }
     if at < 512 {
         other[at] = to;
     }
-    if n <= 512 {
-        count(label, &other[..n], 0);
-    }
+    other
 }
 
-// Function 0 of the first n bytes.
-pub fn cut(label: &[u8], bytes: &[u8], n: usize) {
-    if n <= bytes.len() {
-        count(label, &bytes[..n], 0);
-    }
+// Function 0 of the first n bytes of such a chunk.
+pub fn changed(label: &[u8], bytes: &[u8], at: usize, to: u8, n: usize) {
+    let other = altered(bytes, at, to);
+    cut(label, &other, n);
 }
