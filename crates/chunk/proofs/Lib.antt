@@ -7,6 +7,7 @@ pub mod Thens
 pub mod Walks
 pub mod Whole
 pub mod Standing
+pub mod Rising
 pub mod Stores
 pub mod Texts
 pub mod Takes

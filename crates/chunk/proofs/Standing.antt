@@ -21,47 +21,47 @@ module _ (bytes : List ℕ) where
   both (f ∷ fs) gs h k = (h .0, both fs gs (h .1) k)
 
   module _ (P : Reader (List Function)) (within : (at : ℕ) → AllRead bytes (P bytes at)) where
-    s7 : (at₁ : ℕ) (code : List ℕ) (at₂ : ℕ) (ks : List Constant) (at₃ n : ℕ) (inner : List Function) (at₆ : ℕ) (X : Result (List Text))
+    s7 : (at₀ at₁ : ℕ) (code : List ℕ) (at₂ : ℕ) (ks : List Constant) (at₃ n : ℕ) (inner : List Function) (at₆ : ℕ) (X : Result (List Text))
         → loadCode bytes at₁ ≡ done code at₂ → loadConstants bytes at₂ ≡ done ks at₃ → n ≤ mostNames → AllStand bytes inner → loadNames n bytes at₆ ≡ X
-        → AllRead bytes (bind X (then7 bytes P at₁ code at₂ ks n inner at₆))
-    s7 at₁ code at₂ ks at₃ n inner at₆ (done names at₇) c k u i m =
+        → AllRead bytes (bind X (then7 bytes P at₀ at₁ code at₂ ks n inner at₆))
+    s7 at₀ at₁ code at₂ ks at₃ n inner at₆ (done names at₇) c k u i m =
         let e = names-length bytes n at₆ names at₇ m in
         (record { codeNext = at₂; code = c; constantsNext = at₃; constants = k; namesNext = at₇; names = m; one-each = e; few-words = few-words bytes at₁ code at₂ c; few-constants = few-items bytes mostConstants loadConstant at₂ ks at₃ k; few-names = omega arith }, i)
-    s7 at₁ code at₂ ks at₃ n inner at₆ (refused e) c k u i m = tt
+    s7 at₀ at₁ code at₂ ks at₃ n inner at₆ (refused e) c k u i m = tt
 
-    s6 : (at₁ : ℕ) (code : List ℕ) (at₂ : ℕ) (ks : List Constant) (at₃ n : ℕ) (inner : List Function) (X : Result (List ℕ))
+    s6 : (at₀ at₁ : ℕ) (code : List ℕ) (at₂ : ℕ) (ks : List Constant) (at₃ n : ℕ) (inner : List Function) (X : Result (List ℕ))
         → loadCode bytes at₁ ≡ done code at₂ → loadConstants bytes at₂ ≡ done ks at₃ → n ≤ mostNames → AllStand bytes inner
-        → AllRead bytes (bind X (then6 bytes P at₁ code at₂ ks n inner))
-    s6 at₁ code at₂ ks at₃ n inner (done z at₆) c k u i = s7 at₁ code at₂ ks at₃ n inner at₆ (loadNames n bytes at₆) c k u i refl
-    s6 at₁ code at₂ ks at₃ n inner (refused e) c k u i = tt
+        → AllRead bytes (bind X (then6 bytes P at₀ at₁ code at₂ ks n inner))
+    s6 at₀ at₁ code at₂ ks at₃ n inner (done z at₆) c k u i = s7 at₀ at₁ code at₂ ks at₃ n inner at₆ (loadNames n bytes at₆) c k u i refl
+    s6 at₀ at₁ code at₂ ks at₃ n inner (refused e) c k u i = tt
 
-    s5 : (at₁ : ℕ) (code : List ℕ) (at₂ : ℕ) (ks : List Constant) (at₃ n : ℕ) (X : Result (List Function))
+    s5 : (at₀ at₁ : ℕ) (code : List ℕ) (at₂ : ℕ) (ks : List Constant) (at₃ n : ℕ) (X : Result (List Function))
         → loadCode bytes at₁ ≡ done code at₂ → loadConstants bytes at₂ ≡ done ks at₃ → n ≤ mostNames → AllRead bytes X
-        → AllRead bytes (bind X (then5 bytes P at₁ code at₂ ks n))
-    s5 at₁ code at₂ ks at₃ n (done inner at₅) c k u i = s6 at₁ code at₂ ks at₃ n inner (loadLines bytes at₅) c k u i
-    s5 at₁ code at₂ ks at₃ n (refused e) c k u i = tt
+        → AllRead bytes (bind X (then5 bytes P at₀ at₁ code at₂ ks n))
+    s5 at₀ at₁ code at₂ ks at₃ n (done inner at₅) c k u i = s6 at₀ at₁ code at₂ ks at₃ n inner (loadLines bytes at₅) c k u i
+    s5 at₀ at₁ code at₂ ks at₃ n (refused e) c k u i = tt
 
-    s4 : (at₁ : ℕ) (code : List ℕ) (at₂ : ℕ) (ks : List Constant) (at₃ : ℕ) (X : Result ℕ)
-        → loadCode bytes at₁ ≡ done code at₂ → loadConstants bytes at₂ ≡ done ks at₃ → loadUpvalues bytes at₃ ≡ X → AllRead bytes (bind X (then4 bytes P at₁ code at₂ ks))
-    s4 at₁ code at₂ ks at₃ (done n at₄) c k u = s5 at₁ code at₂ ks at₃ n (P bytes at₄) c k (few-upvalues bytes at₃ n at₄ u) (within at₄)
-    s4 at₁ code at₂ ks at₃ (refused e) c k u = tt
+    s4 : (at₀ at₁ : ℕ) (code : List ℕ) (at₂ : ℕ) (ks : List Constant) (at₃ : ℕ) (X : Result ℕ)
+        → loadCode bytes at₁ ≡ done code at₂ → loadConstants bytes at₂ ≡ done ks at₃ → loadUpvalues bytes at₃ ≡ X → AllRead bytes (bind X (then4 bytes P at₀ at₁ code at₂ ks))
+    s4 at₀ at₁ code at₂ ks at₃ (done n at₄) c k u = s5 at₀ at₁ code at₂ ks at₃ n (P bytes at₄) c k (few-upvalues bytes at₃ n at₄ u) (within at₄)
+    s4 at₀ at₁ code at₂ ks at₃ (refused e) c k u = tt
 
-    s3 : (at₁ : ℕ) (code : List ℕ) (at₂ : ℕ) (X : Result (List Constant)) → loadCode bytes at₁ ≡ done code at₂ → loadConstants bytes at₂ ≡ X
-        → AllRead bytes (bind X (then3 bytes P at₁ code at₂))
-    s3 at₁ code at₂ (done ks at₃) c k = s4 at₁ code at₂ ks at₃ (loadUpvalues bytes at₃) c k refl
-    s3 at₁ code at₂ (refused e) c k = tt
+    s3 : (at₀ at₁ : ℕ) (code : List ℕ) (at₂ : ℕ) (X : Result (List Constant)) → loadCode bytes at₁ ≡ done code at₂ → loadConstants bytes at₂ ≡ X
+        → AllRead bytes (bind X (then3 bytes P at₀ at₁ code at₂))
+    s3 at₀ at₁ code at₂ (done ks at₃) c k = s4 at₀ at₁ code at₂ ks at₃ (loadUpvalues bytes at₃) c k refl
+    s3 at₀ at₁ code at₂ (refused e) c k = tt
 
-    s2 : (at₁ : ℕ) (X : Result (List ℕ)) → loadCode bytes at₁ ≡ X → AllRead bytes (bind X (then2 bytes P at₁))
-    s2 at₁ (done code at₂) c = s3 at₁ code at₂ (loadConstants bytes at₂) c refl
-    s2 at₁ (refused e) c = tt
+    s2 : (at₀ at₁ : ℕ) (X : Result (List ℕ)) → loadCode bytes at₁ ≡ X → AllRead bytes (bind X (then2 bytes P at₀ at₁))
+    s2 at₀ at₁ (done code at₂) c = s3 at₀ at₁ code at₂ (loadConstants bytes at₂) c refl
+    s2 at₀ at₁ (refused e) c = tt
 
-    s1 : (X : Result ℕ) → AllRead bytes (bind X (then1 bytes P))
-    s1 (done a at₁) = s2 at₁ (loadCode bytes at₁) refl
-    s1 (refused e) = tt
+    s1 : (at₀ : ℕ) (X : Result ℕ) → AllRead bytes (bind X (then1 bytes P at₀))
+    s1 at₀ (done a at₁) = s2 at₀ at₁ (loadCode bytes at₁) refl
+    s1 at₀ (refused e) = tt
 
     one-stands : (at : ℕ) → AllRead bytes (functionWith P bytes at)
     unfolding functionWith
-    one-stands at = s1 (loadHead bytes at)
+    one-stands at = s1 at (loadHead bytes at)
 
   module _ (r : Reader (List Function)) (each : (at : ℕ) → AllRead bytes (r bytes at)) where
     joins : (fs : List Function) (X : Result (List Function)) → AllStand bytes fs → AllRead bytes X → AllRead bytes (bind X (λ more at. done (fs ++ more) at))

@@ -5,13 +5,13 @@ use Prim.Native.Nat.{ℕ}
 use Rattle.chunk.specs.Reading.{Result, done, Reader, bind}
 use Rattle.chunk.specs.Lundump.{Function, Constant, Text, loadCode, loadConstants, loadUpvalues, loadLines, loadNames}
 
-abbrev pub own : ℕ → List ℕ → ℕ → List Constant → ℕ → ℕ → List Text → Function
-own at₁ code at₂ ks n at₆ names =
-    record { codeAt = at₁; words = code; constantsAt = at₂; constants = ks; upvalues = n; namesAt = at₆; names = names }
+abbrev pub own : ℕ → ℕ → List ℕ → ℕ → List Constant → ℕ → ℕ → List Text → Function
+own at₀ at₁ code at₂ ks n at₆ names =
+    record { firstAt = at₀; codeAt = at₁; words = code; constantsAt = at₂; constants = ks; upvalues = n; namesAt = at₆; names = names }
 
-module _ (bytes : List ℕ) (P : Reader (List Function)) where
+module _ (bytes : List ℕ) (P : Reader (List Function)) (at₀ : ℕ) where
   abbrev pub then7 : ℕ → List ℕ → ℕ → List Constant → ℕ → List Function → ℕ → List Text → ℕ → Result (List Function)
-  then7 at₁ code at₂ ks n inner at₆ names at₇ = done (own at₁ code at₂ ks n at₆ names ∷ inner) at₇
+  then7 at₁ code at₂ ks n inner at₆ names at₇ = done (own at₀ at₁ code at₂ ks n at₆ names ∷ inner) at₇
 
   abbrev pub then6 : ℕ → List ℕ → ℕ → List Constant → ℕ → List Function → List ℕ → ℕ → Result (List Function)
   then6 at₁ code at₂ ks n inner _ at₆ = bind (loadNames n bytes at₆) (then7 at₁ code at₂ ks n inner at₆)

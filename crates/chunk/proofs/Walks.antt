@@ -71,50 +71,50 @@ module _ (bytes : List ℕ) (P : Reader (List Function)) (s : Search) where
   abbrev from1 : Cursor → Walk
   from1 h = from2 h (step length loadCode bytes h)
 
-  at7 : (a at₁ : ℕ) (code : List ℕ) (at₂ : ℕ) (ks : List Constant) (at₃ n at₄ : ℕ) (inner : List Function) (at₅ z at₆ : ℕ) (X : Result (List Text))
+  at7 : (at₀ a at₁ : ℕ) (code : List ℕ) (at₂ : ℕ) (ks : List Constant) (at₃ n at₄ : ℕ) (inner : List Function) (at₅ z at₆ : ℕ) (X : Result (List Text))
       → end (At at₁ a) (At at₂ (length code)) (At at₃ (length ks)) (At at₄ n) (Past at₅ (search (passed s) inner)) (At at₆ z) (cursorOf none X)
-      ≡ walkOf s (bind X (then7 bytes P at₁ code at₂ ks n inner at₆))
-  at7 a at₁ code at₂ ks at₃ n at₄ inner at₅ z at₆ (done names at₇) = ap (Past at₇) (over-own s (own at₁ code at₂ ks n at₆ names) inner)
-  at7 a at₁ code at₂ ks at₃ n at₄ inner at₅ z at₆ (refused e) = refl
+      ≡ walkOf s (bind X (then7 bytes P at₀ at₁ code at₂ ks n inner at₆))
+  at7 at₀ a at₁ code at₂ ks at₃ n at₄ inner at₅ z at₆ (done names at₇) = ap (Past at₇) (over-own s (own at₀ at₁ code at₂ ks n at₆ names) inner)
+  at7 at₀ a at₁ code at₂ ks at₃ n at₄ inner at₅ z at₆ (refused e) = refl
 
-  at6 : (a at₁ : ℕ) (code : List ℕ) (at₂ : ℕ) (ks : List Constant) (at₃ n at₄ : ℕ) (inner : List Function) (at₅ : ℕ) (X : Result (List ℕ))
+  at6 : (at₀ a at₁ : ℕ) (code : List ℕ) (at₂ : ℕ) (ks : List Constant) (at₃ n at₄ : ℕ) (inner : List Function) (at₅ : ℕ) (X : Result (List ℕ))
       → from6 (At at₁ a) (At at₂ (length code)) (At at₃ (length ks)) (At at₄ n) (Past at₅ (search (passed s) inner)) (cursorOf length X)
-      ≡ walkOf s (bind X (then6 bytes P at₁ code at₂ ks n inner))
+      ≡ walkOf s (bind X (then6 bytes P at₀ at₁ code at₂ ks n inner))
   unfolding step
-  at6 a at₁ code at₂ ks at₃ n at₄ inner at₅ (done z at₆) = at7 a at₁ code at₂ ks at₃ n at₄ inner at₅ (length z) at₆ (loadNames n bytes at₆)
-  at6 a at₁ code at₂ ks at₃ n at₄ inner at₅ (refused e) = refl
+  at6 at₀ a at₁ code at₂ ks at₃ n at₄ inner at₅ (done z at₆) = at7 at₀ a at₁ code at₂ ks at₃ n at₄ inner at₅ (length z) at₆ (loadNames n bytes at₆)
+  at6 at₀ a at₁ code at₂ ks at₃ n at₄ inner at₅ (refused e) = refl
 
-  at5 : (a at₁ : ℕ) (code : List ℕ) (at₂ : ℕ) (ks : List Constant) (at₃ n at₄ : ℕ) (X : Result (List Function))
-      → from5 (At at₁ a) (At at₂ (length code)) (At at₃ (length ks)) (At at₄ n) (walkOf (passed s) X) ≡ walkOf s (bind X (then5 bytes P at₁ code at₂ ks n))
+  at5 : (at₀ a at₁ : ℕ) (code : List ℕ) (at₂ : ℕ) (ks : List Constant) (at₃ n at₄ : ℕ) (X : Result (List Function))
+      → from5 (At at₁ a) (At at₂ (length code)) (At at₃ (length ks)) (At at₄ n) (walkOf (passed s) X) ≡ walkOf s (bind X (then5 bytes P at₀ at₁ code at₂ ks n))
   unfolding step
-  at5 a at₁ code at₂ ks at₃ n at₄ (done inner at₅) = at6 a at₁ code at₂ ks at₃ n at₄ inner at₅ (loadLines bytes at₅)
-  at5 a at₁ code at₂ ks at₃ n at₄ (refused e) = refl
+  at5 at₀ a at₁ code at₂ ks at₃ n at₄ (done inner at₅) = at6 at₀ a at₁ code at₂ ks at₃ n at₄ inner at₅ (loadLines bytes at₅)
+  at5 at₀ a at₁ code at₂ ks at₃ n at₄ (refused e) = refl
 
-  at4 : (a at₁ : ℕ) (code : List ℕ) (at₂ : ℕ) (ks : List Constant) (at₃ : ℕ) (X : Result ℕ)
-      → from4 (At at₁ a) (At at₂ (length code)) (At at₃ (length ks)) (cursorOf same X) ≡ walkOf s (bind X (then4 bytes P at₁ code at₂ ks))
+  at4 : (at₀ a at₁ : ℕ) (code : List ℕ) (at₂ : ℕ) (ks : List Constant) (at₃ : ℕ) (X : Result ℕ)
+      → from4 (At at₁ a) (At at₂ (length code)) (At at₃ (length ks)) (cursorOf same X) ≡ walkOf s (bind X (then4 bytes P at₀ at₁ code at₂ ks))
   unfolding step walk
-  at4 a at₁ code at₂ ks at₃ (done n at₄) = at5 a at₁ code at₂ ks at₃ n at₄ (P bytes at₄)
-  at4 a at₁ code at₂ ks at₃ (refused e) = refl
+  at4 at₀ a at₁ code at₂ ks at₃ (done n at₄) = at5 at₀ a at₁ code at₂ ks at₃ n at₄ (P bytes at₄)
+  at4 at₀ a at₁ code at₂ ks at₃ (refused e) = refl
 
-  at3 : (a at₁ : ℕ) (code : List ℕ) (at₂ : ℕ) (X : Result (List Constant))
-      → from3 (At at₁ a) (At at₂ (length code)) (cursorOf length X) ≡ walkOf s (bind X (then3 bytes P at₁ code at₂))
+  at3 : (at₀ a at₁ : ℕ) (code : List ℕ) (at₂ : ℕ) (X : Result (List Constant))
+      → from3 (At at₁ a) (At at₂ (length code)) (cursorOf length X) ≡ walkOf s (bind X (then3 bytes P at₀ at₁ code at₂))
   unfolding step walk
-  at3 a at₁ code at₂ (done ks at₃) = at4 a at₁ code at₂ ks at₃ (loadUpvalues bytes at₃)
-  at3 a at₁ code at₂ (refused e) = refl
+  at3 at₀ a at₁ code at₂ (done ks at₃) = at4 at₀ a at₁ code at₂ ks at₃ (loadUpvalues bytes at₃)
+  at3 at₀ a at₁ code at₂ (refused e) = refl
 
-  at2 : (a at₁ : ℕ) (X : Result (List ℕ)) → from2 (At at₁ a) (cursorOf length X) ≡ walkOf s (bind X (then2 bytes P at₁))
+  at2 : (at₀ a at₁ : ℕ) (X : Result (List ℕ)) → from2 (At at₁ a) (cursorOf length X) ≡ walkOf s (bind X (then2 bytes P at₀ at₁))
   unfolding step walk
-  at2 a at₁ (done code at₂) = at3 a at₁ code at₂ (loadConstants bytes at₂)
-  at2 a at₁ (refused e) = refl
+  at2 at₀ a at₁ (done code at₂) = at3 at₀ a at₁ code at₂ (loadConstants bytes at₂)
+  at2 at₀ a at₁ (refused e) = refl
 
-  at1 : (X : Result ℕ) → from1 (cursorOf same X) ≡ walkOf s (bind X (then1 bytes P))
+  at1 : (at₀ : ℕ) (X : Result ℕ) → from1 (cursorOf same X) ≡ walkOf s (bind X (then1 bytes P at₀))
   unfolding step walk
-  at1 (done a at₁) = at2 a at₁ (loadCode bytes at₁)
-  at1 (refused e) = refl
+  at1 at₀ (done a at₁) = at2 at₀ a at₁ (loadCode bytes at₁)
+  at1 at₀ (refused e) = refl
 
   whole : (c : Cursor) → from1 (step same loadHead bytes c) ≡ walk (functionWith P) bytes c s
   unfolding step walk functionWith
-  whole (At at v) = at1 (loadHead bytes at)
+  whole (At at v) = at1 at (loadHead bytes at)
   whole (Refused e) = refl
 
   -- the code's steps, one after another

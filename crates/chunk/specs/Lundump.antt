@@ -146,8 +146,10 @@ namesFrom upvalues (suc n) bytes at = repeat loadName 0 upvalues bytes at
 unfoldable pub loadNames : ℕ → Reader (List Text)
 loadNames upvalues bytes at = bind (loadInt bytes at) (λ n at₁. namesFrom upvalues n bytes at₁)
 
--- a function: its words, constants and names, one for each upvalue, and where the count of each stands in the bytes
+-- a function: where its first byte stands in the bytes; its words, constants and names, one for each upvalue, and where the count of each
+-- stands
 pub record Function : Type 0 where
+  pub firstAt : ℕ
   pub codeAt : ℕ
   pub words : List ℕ
   pub constantsAt : ℕ
@@ -170,7 +172,7 @@ functionWith loadProtos bytes at =
     bind (loadProtos bytes at₄) (λ inner at₅.
     bind (loadLines bytes at₅) (λ _ at₆.
     bind (loadNames n bytes at₆) (λ names at₇.
-    done (record { codeAt = at₁; words = code; constantsAt = at₂; constants = k; upvalues = n; namesAt = at₆; names = names } ∷ inner) at₇)))))))
+    done (record { firstAt = at; codeAt = at₁; words = code; constantsAt = at₂; constants = k; upvalues = n; namesAt = at₆; names = names } ∷ inner) at₇)))))))
 
 -- loadProtos: n functions, each with those within it
 unfoldable pub several : Reader (List Function) → ℕ → Reader (List Function)

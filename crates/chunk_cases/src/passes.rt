@@ -15,6 +15,12 @@ pub fn count(label: &[u8], bytes: &[u8], k: usize) {
     print_cases::end();
 }
 
+fn longs(s: &[u64]) {
+    for i in 0..s.len() {
+        print_cases::number(s[i]);
+    }
+}
+
 fn show(words: &[u32], tags: &[u8], payloads: &[u64], names: &[u64]) {
     print_cases::text(b"  words");
     print_cases::numbers(words);
@@ -23,10 +29,10 @@ fn show(words: &[u32], tags: &[u8], payloads: &[u64], names: &[u64]) {
     print_cases::bytes(tags);
     print_cases::end();
     print_cases::text(b"  payloads");
-    print_cases::longs(payloads);
+    longs(payloads);
     print_cases::end();
     print_cases::text(b"  names");
-    print_cases::longs(names);
+    longs(names);
     print_cases::end();
 }
 

@@ -39,9 +39,3 @@ pub fn numbers(s: &[u32]) {
         number_u32(s[i]);
     }
 }
-
-pub fn longs(s: &[u64]) {
-    for i in 0..s.len() {
-        number(s[i]);
-    }
-}

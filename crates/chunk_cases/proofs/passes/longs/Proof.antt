@@ -1,8 +1,8 @@
 use Prim.Native.Nat.{_≤_, _-_}
 use lib.ListN.{length}
 use borrow.Author.Needs.{needs}
-use Rattle.print_cases.proofs.longs.Statement.{statement}
-use Rattle.print_cases.proofs.longs.Tie as tie
+use Rattle.chunk_cases.proofs.passes.longs.Statement.{statement}
+use Rattle.chunk_cases.proofs.passes.longs.Tie as tie
 
 abbrev Inv-loop : tie.InvT-loop
 Inv-loop s i₀ i-end i = (i ≤ i-end) × (i-end ≤ length s)
