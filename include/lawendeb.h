@@ -8,10 +8,10 @@
      libranges.a    the longest run by two tables: `rt staticlib ranges`. It needs memset.
      libservice.a   nearest service, crossing steps: `rt staticlib service`. It needs memset.
      libtouches.a   what a word reads and writes: `rt staticlib touches`. It needs memset.
-     libchunk.a     compiled scripts: `rt staticlib chunk`. @@CHUNKNEEDS@@
+     libchunk.a     compiled scripts: `rt staticlib chunk`. It needs memset.
    They write nothing but what a call is lent: no heap, no static data, and as measured less than
    1 kB of stack, but less than 2 kB for what a word touches and for a question about services, and
-   less than @@STACK@@ for a pass over a chunk, which goes down with its functions, 32 levels at most
+   less than 13 kB for a pass over a chunk, which goes down with its functions, 32 levels at most
    (docs/BENCHMARKS.md). So every call is reentrant, and calls on different memory may run at once,
    in threads or interrupts. A begin, a feed, a reset and what a word touches take a bounded time,
    whatever the number of words; a run and a question about services take time in proportion to the

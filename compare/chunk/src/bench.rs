@@ -45,7 +45,7 @@ pub fn run(scripts: &[Vec<u8>]) {
         println!("| {name} | {} | {functions} | {:.2} | {:.2} | {:.2} | {:.2} |", bytes.len(), times[0] / n, times[1] / n, times[2] / n, times[1] / times[2]);
     }
     for levels in [1, 32] {
-        let bytes = corpus::bare_levels(levels);
+        let bytes = ffi::real::compile(&corpus::nested(levels), false);
         let depth = stack::used(|| assert_eq!(ffi::count(&bytes, 0).number, 0));
         println!("stack bytes of the first pass, {levels} levels: {depth}");
         let depth = stack::used(|| assert_eq!(ffi::fill(&bytes, 0, &mut words, &mut tags, &mut payloads, &mut names).number, 0));
