@@ -18,7 +18,7 @@ use Rattle.chunk.specs.Chunk.{chosen, pick, countsOf, fits, roomFor, fil
 use Rattle.chunk.specs.Stands.{OneRead}
 use Rattle.chunk.specs.Laws.{Within, Numbered, Laws}
 use Rattle.chunk.proofs.Standing.{chosen-stands}
-use Rattle.chunk.proofs.Rising.{by-first-byte}
+use Rattle.chunk.proofs.Rising.{by-first-byte, few}
 
 -- ---- numbers and room
 small : (e : Refusal) → numberOf e ≤ 16
@@ -95,6 +95,7 @@ numbered bytes fs at h e =
       main = rw e at (some-undump bytes 0);
       counted = λ k d l. read-by k bytes (done fs at) h e ∙ picked k fs at d l;
       by-first-byte = by-first-byte bytes fs at e;
+      few = few bytes fs at e;
       none = λ k l. read-by k bytes (done fs at) h e ∙ not-picked k fs at l;
     }
 

@@ -1,12 +1,13 @@
--- Readers go forward, so that functions stand in the list in the order of their first bytes.
+-- Readers go forward, so that functions stand in the list in the order of their first bytes, and are no more than the bytes.
 -- Assumes nothing.
 use mathlib.Core.Path.{_≡_, refl}
 use mathlib.Core.Bool.{Bool, true, false, cond}
 use mathlib.Core.List.{List, [], _∷_, _++_}
-use Prim.Native.Nat.{ℕ, zero, suc, _+_, _*_, _/_, _%_, _≤_, _<_}
+use Prim.Native.Nat.{ℕ, zero, suc, _+_, _*_, _-_, _/_, _%_, _≤_, _<_}
 use native.Mathlib.Omega.{arith}
 use lib.Dec.{ltb, leb, eqb}
 use lib.ListN.{length, drop, getD, replicate}
+use borrow.Author.Tests.{ltb-true}
 use Rattle.values.specs.Values.{«TAG_NIL», «TAG_FALSE», «TAG_TRUE», «TAG_INTEGER», «TAG_FLOAT», «TAG_SHORT_STRING», «TAG_LONG_STRING»}
 use Rattle.common.specs.Limits.{mostWords, mostConstants, mostNames}
 use Rattle.chunk.specs.Limits.{levelsBelow, sizeMax, intMax}
@@ -183,125 +184,165 @@ module _ (bytes : List ℕ) where
       after at₃ (loadByte bytes at₃) _ (byte at₃) (λ _ at₄.
       after at₄ (loadByte bytes at₄) _ (byte at₄) (λ _ at₅. one-byte at₅)))))
 
--- ---- functions one after another, from a position to a position
-abbrev Between : ℕ → List Function → ℕ → Type 0
-Between lo [] hi = lo ≤ hi
-Between lo (f ∷ fs) hi = (lo ≤ f .firstAt) × Between (f .firstAt + 1) fs hi
+  -- and its first byte is one of those there are
+  abbrev Has : {A : Type 0} → ℕ → Result A → Type 0
+  Has at (done a next) = at < length bytes
+  Has at (refused e) = Unit
 
-lower : (lo lo₁ hi : ℕ) (fs : List Function) → lo ≤ lo₁ → Between lo₁ fs hi → Between lo fs hi
-lower lo lo₁ hi [] h k = omega (arith, h, k)
-lower lo lo₁ hi (f ∷ fs) h k = (omega (arith, h, k .0), k .1)
+  has-lower : {A : Type 0} (at at₁ : ℕ) (X : Result A) → at ≤ at₁ → Has at₁ X → Has at X
+  has-lower at at₁ (done a next) h k = omega (arith, h, k)
+  has-lower at at₁ (refused e) h k = tt
 
-higher : (lo hi hi₁ : ℕ) (fs : List Function) → hi ≤ hi₁ → Between lo fs hi → Between lo fs hi₁
-higher lo hi hi₁ [] h k = omega (arith, h, k)
-higher lo hi hi₁ (f ∷ fs) h k = (k .0, higher (f .firstAt + 1) hi hi₁ fs h (k .1))
+  has-later : {A B : Type 0} (at : ℕ) (X : Result A) (g : A → ℕ → Result B) → Up at X → ((a : A) (at₁ : ℕ) → Has at₁ (g a at₁)) → Has at (bind X g)
+  has-later at (done a at₁) g h k = has-lower at at₁ (g a at₁) h (k a at₁)
+  has-later at (refused e) g h k = tt
 
-joined : (lo mid hi : ℕ) (fs gs : List Function) → Between lo fs mid → Between mid gs hi → Between lo (fs ++ gs) hi
-joined lo mid hi [] gs h k = lower lo mid hi gs h k
-joined lo mid hi (f ∷ fs) gs h k = (h .0, joined (f .firstAt + 1) mid hi fs gs (h .1) k)
+  byte-has : (at : ℕ) → Has at (loadByte bytes at)
+  unfolding loadByte
+  byte-has at = go (ltb at (length bytes)) refl
+    where
+      go : (b : Bool) → ltb at (length bytes) ≡ b → Has at (only b (done (getD bytes at 0) (at + 1)))
+      go true e = ltb-true at (length bytes) e
+      go false e = tt
 
--- the first byte of each lies at the position or after it
-above : (lo hi k : ℕ) (fs : List Function) (d : Function) → Between lo fs hi → k < length fs → lo ≤ getD fs k d .firstAt
-above lo hi k [] d b h = absurd (omega arith)
-above lo hi zero (f ∷ fs) d b h = b .0
-above lo hi (suc k) (f ∷ fs) d b h = omega (arith, b .0, above (f .firstAt + 1) hi k fs d (b .1) (omega arith))
+  head-has : (at : ℕ) → Has at (loadHead bytes at)
+  unfolding loadHead
+  head-has at =
+      has-later at (loadStringN bytes at) _ (string-n at) (λ _ at₁.
+      has-later at₁ (loadInt bytes at₁) _ (int at₁) (λ _ at₂.
+      has-later at₂ (loadInt bytes at₂) _ (int at₂) (λ _ at₃.
+      has-later at₃ (loadByte bytes at₃) _ (byte at₃) (λ _ at₄.
+      has-later at₄ (loadByte bytes at₄) _ (byte at₄) (λ _ at₅. byte-has at₅)))))
 
-rises : (lo hi : ℕ) (fs : List Function) → Between lo fs hi → (j k : ℕ) (d : Function) → j < k → k < length fs → getD fs j d .firstAt < getD fs k d .firstAt
-rises lo hi [] b j k d h l = absurd (omega arith)
-rises lo hi (f ∷ fs) b j zero d h l = absurd (omega arith)
-rises lo hi (f ∷ fs) b zero (suc k) d h l = omega (arith, above (f .firstAt + 1) hi k fs d (b .1) (omega arith))
-rises lo hi (f ∷ fs) b (suc j) (suc k) d h l = rises (f .firstAt + 1) hi fs (b .1) j k d (omega arith) (omega arith)
+-- ---- functions one after another, from a position to a position, each with its first byte among so many
+abbrev Between : ℕ → ℕ → List Function → ℕ → Type 0
+Between size lo [] hi = lo ≤ hi
+Between size lo (f ∷ fs) hi = (lo ≤ f .firstAt) × ((f .firstAt < size) × Between size (f .firstAt + 1) fs hi)
 
-abbrev Read : ℕ → Result (List Function) → Type 0
-Read lo (done fs at) = Between lo fs at
-Read lo (refused e) = Unit
+module _ (size : ℕ) where
+  lower : (lo lo₁ hi : ℕ) (fs : List Function) → lo ≤ lo₁ → Between size lo₁ fs hi → Between size lo fs hi
+  lower lo lo₁ hi [] h k = omega (arith, h, k)
+  lower lo lo₁ hi (f ∷ fs) h k = (omega (arith, h, k .0), k .1)
 
-lower-read : (lo lo₁ : ℕ) (X : Result (List Function)) → lo ≤ lo₁ → Read lo₁ X → Read lo X
-lower-read lo lo₁ (done fs at) h k = lower lo lo₁ at fs h k
-lower-read lo lo₁ (refused e) h k = tt
+  higher : (lo hi hi₁ : ℕ) (fs : List Function) → hi ≤ hi₁ → Between size lo fs hi → Between size lo fs hi₁
+  higher lo hi hi₁ [] h k = omega (arith, h, k)
+  higher lo hi hi₁ (f ∷ fs) h k = (k .0, (k .1 .0, higher (f .firstAt + 1) hi hi₁ fs h (k .1 .1)))
 
--- after what goes forward
-read-bind : {A : Type 0} (at : ℕ) (X : Result A) (g : A → ℕ → Result (List Function)) → Up at X → ((a : A) (at₁ : ℕ) → Read at₁ (g a at₁)) → Read at (bind X g)
-read-bind at (done a at₁) g h k = lower-read at at₁ (g a at₁) h (k a at₁)
-read-bind at (refused e) g h k = tt
+  joined : (lo mid hi : ℕ) (fs gs : List Function) → Between size lo fs mid → Between size mid gs hi → Between size lo (fs ++ gs) hi
+  joined lo mid hi [] gs h k = lower lo mid hi gs h k
+  joined lo mid hi (f ∷ fs) gs h k = (h .0, (h .1 .0, joined (f .firstAt + 1) mid hi fs gs (h .1 .1) k))
+
+  -- the first byte of each lies at the position or after it
+  above : (lo hi k : ℕ) (fs : List Function) (d : Function) → Between size lo fs hi → k < length fs → lo ≤ getD fs k d .firstAt
+  above lo hi k [] d b h = absurd (omega arith)
+  above lo hi zero (f ∷ fs) d b h = b .0
+  above lo hi (suc k) (f ∷ fs) d b h = omega (arith, b .0, above (f .firstAt + 1) hi k fs d (b .1 .1) (omega arith))
+
+  rises : (lo hi : ℕ) (fs : List Function) → Between size lo fs hi → (j k : ℕ) (d : Function) → j < k → k < length fs → getD fs j d .firstAt < getD fs k d .firstAt
+  rises lo hi [] b j k d h l = absurd (omega arith)
+  rises lo hi (f ∷ fs) b j zero d h l = absurd (omega arith)
+  rises lo hi (f ∷ fs) b zero (suc k) d h l = omega (arith, above (f .firstAt + 1) hi k fs d (b .1 .1) (omega arith))
+  rises lo hi (f ∷ fs) b (suc j) (suc k) d h l = rises (f .firstAt + 1) hi fs (b .1 .1) j k d (omega arith) (omega arith)
+
+  -- so they are as many as the bytes from the position on, at most
+  fewer : (lo hi : ℕ) (fs : List Function) → Between size lo fs hi → length fs ≤ size - lo
+  fewer lo hi [] b = omega arith
+  fewer lo hi (f ∷ fs) b = omega (arith, b .0, b .1 .0, fewer (f .firstAt + 1) hi fs (b .1 .1))
+
+  abbrev Read : ℕ → Result (List Function) → Type 0
+  Read lo (done fs at) = Between size lo fs at
+  Read lo (refused e) = Unit
+
+  lower-read : (lo lo₁ : ℕ) (X : Result (List Function)) → lo ≤ lo₁ → Read lo₁ X → Read lo X
+  lower-read lo lo₁ (done fs at) h k = lower lo lo₁ at fs h k
+  lower-read lo lo₁ (refused e) h k = tt
+
+  -- after what goes forward
+  read-bind : {A : Type 0} (at : ℕ) (X : Result A) (g : A → ℕ → Result (List Function)) → Up at X → ((a : A) (at₁ : ℕ) → Read at₁ (g a at₁)) → Read at (bind X g)
+  read-bind at (done a at₁) g h k = lower-read at at₁ (g a at₁) h (k a at₁)
+  read-bind at (refused e) g h k = tt
 
 module _ (bytes : List ℕ) where
-  module _ (r : Reader (List Function)) (each : (at : ℕ) → Read at (r bytes at)) where
-    both : (lo : ℕ) (fs : List Function) (at : ℕ) → Between lo fs at → (X : Result (List Function)) → Read at X → Read lo (bind X (λ more at₂. done (fs ++ more) at₂))
-    both lo fs at h (done more at₂) k = joined lo at at₂ fs more h k
+  abbrev size : ℕ
+  size = length bytes
+
+  module _ (r : Reader (List Function)) (each : (at : ℕ) → Read size at (r bytes at)) where
+    both : (lo : ℕ) (fs : List Function) (at : ℕ) → Between size lo fs at → (X : Result (List Function)) → Read size at X → Read size lo (bind X (λ more at₂. done (fs ++ more) at₂))
+    both lo fs at h (done more at₂) k = joined size lo at at₂ fs more h k
     both lo fs at h (refused e) k = tt
 
-    several-on : (n lo : ℕ) → ((at : ℕ) → Read at (several r n bytes at)) → (X : Result (List Function)) → Read lo X
-        → Read lo (bind X (λ fs at₁. bind (several r n bytes at₁) (λ more at₂. done (fs ++ more) at₂)))
+    several-on : (n lo : ℕ) → ((at : ℕ) → Read size at (several r n bytes at)) → (X : Result (List Function)) → Read size lo X
+        → Read size lo (bind X (λ fs at₁. bind (several r n bytes at₁) (λ more at₂. done (fs ++ more) at₂)))
     several-on n lo later (done fs at) h = both lo fs at h (several r n bytes at) (later at)
     several-on n lo later (refused e) h = tt
 
-    several-rise : (n at : ℕ) → Read at (several r n bytes at)
+    several-rise : (n at : ℕ) → Read size at (several r n bytes at)
     unfolding several
     several-rise zero at = omega arith
     several-rise (suc n) at = several-on n at (several-rise n) (r bytes at) (each at)
 
   -- one function, which starts at at₀: those within it start later
-  module _ (P : Reader (List Function)) (inside : (at : ℕ) → Read at (P bytes at)) (at₀ : ℕ) where
-    r7 : (at₁ : ℕ) (ws : List ℕ) (at₂ : ℕ) (ks : List Constant) (n : ℕ) (inner : List Function) (at₅ at₆ : ℕ) (X : Result (List Text))
-        → Between (at₀ + 1) inner at₅ → at₅ ≤ at₆ → Up at₆ X → Read at₀ (bind X (then7 bytes P at₀ at₁ ws at₂ ks n inner at₆))
-    r7 at₁ ws at₂ ks n inner at₅ at₆ (done t at₇) b h u = (here at₀, higher (at₀ + 1) at₅ at₇ inner (omega (arith, h, u)) b)
-    r7 at₁ ws at₂ ks n inner at₅ at₆ (refused e) b h u = tt
+  module _ (P : Reader (List Function)) (inside : (at : ℕ) → Read size at (P bytes at)) (at₀ : ℕ) where
+    module _ (begun : at₀ < size) where
+      r7 : (at₁ : ℕ) (ws : List ℕ) (at₂ : ℕ) (ks : List Constant) (n : ℕ) (inner : List Function) (at₅ at₆ : ℕ) (X : Result (List Text))
+          → Between size (at₀ + 1) inner at₅ → at₅ ≤ at₆ → Up at₆ X → Read size at₀ (bind X (then7 bytes P at₀ at₁ ws at₂ ks n inner at₆))
+      r7 at₁ ws at₂ ks n inner at₅ at₆ (done t at₇) b h u = (here at₀, (begun, higher size (at₀ + 1) at₅ at₇ inner (omega (arith, h, u)) b))
+      r7 at₁ ws at₂ ks n inner at₅ at₆ (refused e) b h u = tt
 
-    r6 : (at₁ : ℕ) (ws : List ℕ) (at₂ : ℕ) (ks : List Constant) (n : ℕ) (inner : List Function) (at₅ : ℕ) (X : Result (List ℕ))
-        → Between (at₀ + 1) inner at₅ → Up at₅ X → Read at₀ (bind X (then6 bytes P at₀ at₁ ws at₂ ks n inner))
-    r6 at₁ ws at₂ ks n inner at₅ (done z at₆) b u = r7 at₁ ws at₂ ks n inner at₅ at₆ (loadNames n bytes at₆) b u (names bytes n at₆)
-    r6 at₁ ws at₂ ks n inner at₅ (refused e) b u = tt
+      r6 : (at₁ : ℕ) (ws : List ℕ) (at₂ : ℕ) (ks : List Constant) (n : ℕ) (inner : List Function) (at₅ : ℕ) (X : Result (List ℕ))
+          → Between size (at₀ + 1) inner at₅ → Up at₅ X → Read size at₀ (bind X (then6 bytes P at₀ at₁ ws at₂ ks n inner))
+      r6 at₁ ws at₂ ks n inner at₅ (done z at₆) b u = r7 at₁ ws at₂ ks n inner at₅ at₆ (loadNames n bytes at₆) b u (names bytes n at₆)
+      r6 at₁ ws at₂ ks n inner at₅ (refused e) b u = tt
 
-    r5 : (at₁ : ℕ) (ws : List ℕ) (at₂ : ℕ) (ks : List Constant) (n at₄ : ℕ) (X : Result (List Function))
-        → at₀ + 1 ≤ at₄ → Read at₄ X → Read at₀ (bind X (then5 bytes P at₀ at₁ ws at₂ ks n))
-    r5 at₁ ws at₂ ks n at₄ (done inner at₅) h b = r6 at₁ ws at₂ ks n inner at₅ (loadLines bytes at₅) (lower (at₀ + 1) at₄ at₅ inner h b) (lines bytes at₅)
-    r5 at₁ ws at₂ ks n at₄ (refused e) h b = tt
+      r5 : (at₁ : ℕ) (ws : List ℕ) (at₂ : ℕ) (ks : List Constant) (n at₄ : ℕ) (X : Result (List Function))
+          → at₀ + 1 ≤ at₄ → Read size at₄ X → Read size at₀ (bind X (then5 bytes P at₀ at₁ ws at₂ ks n))
+      r5 at₁ ws at₂ ks n at₄ (done inner at₅) h b = r6 at₁ ws at₂ ks n inner at₅ (loadLines bytes at₅) (lower size (at₀ + 1) at₄ at₅ inner h b) (lines bytes at₅)
+      r5 at₁ ws at₂ ks n at₄ (refused e) h b = tt
 
-    r4 : (at₁ : ℕ) (ws : List ℕ) (at₂ : ℕ) (ks : List Constant) (at₃ : ℕ) (X : Result ℕ)
-        → at₀ + 1 ≤ at₃ → Up at₃ X → Read at₀ (bind X (then4 bytes P at₀ at₁ ws at₂ ks))
-    r4 at₁ ws at₂ ks at₃ (done n at₄) h u = r5 at₁ ws at₂ ks n at₄ (P bytes at₄) (omega (arith, h, u)) (inside at₄)
-    r4 at₁ ws at₂ ks at₃ (refused e) h u = tt
+      r4 : (at₁ : ℕ) (ws : List ℕ) (at₂ : ℕ) (ks : List Constant) (at₃ : ℕ) (X : Result ℕ)
+          → at₀ + 1 ≤ at₃ → Up at₃ X → Read size at₀ (bind X (then4 bytes P at₀ at₁ ws at₂ ks))
+      r4 at₁ ws at₂ ks at₃ (done n at₄) h u = r5 at₁ ws at₂ ks n at₄ (P bytes at₄) (omega (arith, h, u)) (inside at₄)
+      r4 at₁ ws at₂ ks at₃ (refused e) h u = tt
 
-    r3 : (at₁ : ℕ) (ws : List ℕ) (at₂ : ℕ) (X : Result (List Constant))
-        → at₀ + 1 ≤ at₂ → Up at₂ X → Read at₀ (bind X (then3 bytes P at₀ at₁ ws at₂))
-    r3 at₁ ws at₂ (done ks at₃) h u = r4 at₁ ws at₂ ks at₃ (loadUpvalues bytes at₃) (omega (arith, h, u)) (upvalues bytes at₃)
-    r3 at₁ ws at₂ (refused e) h u = tt
+      r3 : (at₁ : ℕ) (ws : List ℕ) (at₂ : ℕ) (X : Result (List Constant))
+          → at₀ + 1 ≤ at₂ → Up at₂ X → Read size at₀ (bind X (then3 bytes P at₀ at₁ ws at₂))
+      r3 at₁ ws at₂ (done ks at₃) h u = r4 at₁ ws at₂ ks at₃ (loadUpvalues bytes at₃) (omega (arith, h, u)) (upvalues bytes at₃)
+      r3 at₁ ws at₂ (refused e) h u = tt
 
-    r2 : (at₁ : ℕ) (X : Result (List ℕ)) → at₀ + 1 ≤ at₁ → Up at₁ X → Read at₀ (bind X (then2 bytes P at₀ at₁))
-    r2 at₁ (done ws at₂) h u =
-        r3 at₁ ws at₂ (loadConstants bytes at₂) (omega (arith, h, u)) (items bytes mostConstants loadConstant (constant bytes) at₂)
-    r2 at₁ (refused e) h u = tt
+      r2 : (at₁ : ℕ) (X : Result (List ℕ)) → at₀ + 1 ≤ at₁ → Up at₁ X → Read size at₀ (bind X (then2 bytes P at₀ at₁))
+      r2 at₁ (done ws at₂) h u =
+          r3 at₁ ws at₂ (loadConstants bytes at₂) (omega (arith, h, u)) (items bytes mostConstants loadConstant (constant bytes) at₂)
+      r2 at₁ (refused e) h u = tt
 
-    r1 : (X : Result ℕ) → Up (at₀ + 1) X → Read at₀ (bind X (then1 bytes P at₀))
-    r1 (done m at₁) u = r2 at₁ (loadCode bytes at₁) u (code bytes at₁)
-    r1 (refused e) u = tt
+    r1 : (X : Result ℕ) → Has bytes at₀ X → Up (at₀ + 1) X → Read size at₀ (bind X (then1 bytes P at₀))
+    r1 (done m at₁) begun u = r2 begun at₁ (loadCode bytes at₁) u (code bytes at₁)
+    r1 (refused e) begun u = tt
 
-    one-rises : Read at₀ (functionWith P bytes at₀)
+    one-rises : Read size at₀ (functionWith P bytes at₀)
     unfolding functionWith
-    one-rises = r1 (loadHead bytes at₀) (head bytes at₀)
+    one-rises = r1 (loadHead bytes at₀) (head-has bytes at₀) (head bytes at₀)
 
-  none-rise : (n at : ℕ) → Read at (noneOf n bytes at)
+  none-rise : (n at : ℕ) → Read size at (noneOf n bytes at)
   unfolding noneOf
   none-rise zero at = omega arith
   none-rise (suc n) at = tt
 
-  protos-rise : (level at : ℕ) → Read at (loadProtos level bytes at)
+  protos-rise : (level at : ℕ) → Read size at (loadProtos level bytes at)
   unfolding loadProtos
-  protos-rise zero at = read-bind at (loadInt bytes at) (λ n at₁. noneOf n bytes at₁) (int bytes at) none-rise
+  protos-rise zero at = read-bind size at (loadInt bytes at) (λ n at₁. noneOf n bytes at₁) (int bytes at) none-rise
   protos-rise (suc level) at =
-      read-bind at (loadInt bytes at) (λ n at₁. several (functionWith (loadProtos level)) n bytes at₁) (int bytes at)
+      read-bind size at (loadInt bytes at) (λ n at₁. several (functionWith (loadProtos level)) n bytes at₁) (int bytes at)
       (several-rise (functionWith (loadProtos level)) (one-rises (loadProtos level) (protos-rise level)))
 
-  from-start : {A : Type 0} (X : Result A) (g : ℕ → Result (List Function)) → ((at : ℕ) → Read at (g at)) → Read 0 (bind X (λ _ at. g at))
-  from-start (done a at) g h = lower-read 0 at (g at) (omega arith) (h at)
+  from-start : {A : Type 0} (X : Result A) (g : ℕ → Result (List Function)) → ((at : ℕ) → Read size at (g at)) → Read size 0 (bind X (λ _ at. g at))
+  from-start (done a at) g h = lower-read size 0 at (g at) (omega arith) (h at)
   from-start (refused e) g h = tt
 
-  then-read : {A : Type 0} (X : Result A) (g : ℕ → Result (List Function)) → ((at : ℕ) → Read 0 (g at)) → Read 0 (bind X (λ _ at. g at))
+  then-read : {A : Type 0} (X : Result A) (g : ℕ → Result (List Function)) → ((at : ℕ) → Read size 0 (g at)) → Read size 0 (bind X (λ _ at. g at))
   then-read (done a at) g h = h at
   then-read (refused e) g h = tt
 
-  undump-rises : Read 0 (undump bytes 0)
+  undump-rises : Read size 0 (undump bytes 0)
   unfolding undump
   undump-rises =
       then-read (checkHeader bytes 0) (λ at. bind (loadByte bytes at) (λ _ at₁. loadFunction levelsBelow bytes at₁))
@@ -309,4 +350,7 @@ module _ (bytes : List ℕ) where
 
   pub by-first-byte : (fs : List Function) (at : ℕ) → undump bytes 0 ≡ done fs at
       → (j k : ℕ) (d : Function) → j < k → k < length fs → getD fs j d .firstAt < getD fs k d .firstAt
-  by-first-byte fs at e = rises 0 at fs (rw e at undump-rises)
+  by-first-byte fs at e = rises size 0 at fs (rw e at undump-rises)
+
+  pub few : (fs : List Function) (at : ℕ) → undump bytes 0 ≡ done fs at → length fs ≤ length bytes
+  few fs at e = omega (arith, fewer size 0 at fs (rw e at undump-rises))

@@ -29,6 +29,8 @@ pub record Numbered (bytes : List ℕ) (fs : List Function) (at : ℕ) : Type 0 
   pub counted : (k : ℕ) (d : Function) → k < length fs → chosen k bytes ≡ done (getD fs k d) at
   -- "by their first byte": of two functions the one with the lower number starts before the other
   pub by-first-byte : (j k : ℕ) (d : Function) → j < k → k < length fs → getD fs j d .firstAt < getD fs k d .firstAt
+  -- each has a first byte of its own
+  pub few : length fs ≤ length bytes
   -- "the chosen function does not exist"
   pub none : (k : ℕ) → length fs ≤ k → chosen k bytes ≡ refused Malformed
 

@@ -11,7 +11,8 @@ fn write_line(bytes: &[u8], k: usize) -> usize {
     r
 }
 
-// The first line that is empty ends the list. Each function has bytes of its own, so that there are fewer than the buffer has bytes.
+// The first line that is empty ends the list. So many numbers are enough, since there are no more functions than bytes: survey/specs/Claims.antt
+// has it as `enough`.
 fn write_lines(bytes: &[u8]) {
     for k in 0..262144 {
         if write_line(bytes, k) == 0 {

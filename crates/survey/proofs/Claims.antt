@@ -1,10 +1,13 @@
 -- `specs/Claims.antt` holds, and what the program's page needs of it. Assumes nothing.
 use mathlib.Core.Path.{_≡_, refl, sym, _∙_, ap}
+use mathlib.Core.Bool.{Bool, true, false}
 use mathlib.Core.List.{List, [], _∷_, _++_}
 use Prim.Native.Nat.{ℕ, zero, suc, _+_, _≤_, _<_}
 use native.Mathlib.Omega.{arith}
+use lib.Dec.{ltb}
 use lib.ListN.{length, take, getD, length-append}
 use lib.Seq.{length-take-le}
+use borrow.Author.Tests.{ltb-true, ltb-false}
 use Rattle.common.specs.Numbers.{«MALFORMED_CHUNK»}
 use Rattle.common.specs.Lists.{put}
 use Rattle.common.proofs.Put.{put-laws}
@@ -75,6 +78,19 @@ module _ (bytes : List ℕ) (e : Refusal) (all : (k : ℕ) → chosen k bytes �
         no-more = λ k. line-by (suc k) bytes (refused e) (all (suc k));
       }
 
+enough : (k : ℕ) (bytes : List ℕ) → 0 < k → length bytes ≤ k → lineOf k bytes ≡ []
+enough k bytes p h = by-size (ltb mostBytes (length bytes)) refl
+  where
+    by-read : length bytes ≤ mostBytes → (X : Result (List Function)) → undump bytes 0 ≡ X → lineOf k bytes ≡ []
+    by-read l (done fs at) e =
+        let few : length fs ≤ length bytes = laws .numbered bytes fs at l e .few in
+        listed bytes fs at l e .no-more k (omega arith)
+    by-read l (refused r) e = line-by k bytes (refused r) (laws .stopped k bytes r l e) ∙ later k r p
+
+    by-size : (b : Bool) → ltb mostBytes (length bytes) ≡ b → lineOf k bytes ≡ []
+    by-size true q = line-by k bytes (refused Malformed) (laws .too-long k bytes (ltb-true mostBytes (length bytes) q)) ∙ later k Malformed p
+    by-size false q = by-read (ltb-false mostBytes (length bytes) q) (undump bytes 0) refl
+
 pub claims : Claims
 claims =
     record {
@@ -82,6 +98,7 @@ claims =
       listed = listed;
       one-line = λ bytes e h q. one-line bytes e (λ k. laws .stopped k bytes e h q);
       too-long = λ bytes h. one-line bytes Malformed (λ k. laws .too-long k bytes h);
+      enough = enough;
     }
 
 -- ---- for the program's own page

@@ -34,6 +34,8 @@ pub record Claims : Type 0 where
   pub listed : (bytes : List ℕ) (fs : List Function) (at : ℕ) → length bytes ≤ mostBytes → undump bytes 0 ≡ done fs at → Listed bytes fs at
   pub one-line : (bytes : List ℕ) (e : Refusal) → length bytes ≤ mostBytes → undump bytes 0 ≡ refused e → OneLine bytes (numberOf e) (placeOf e)
   pub too-long : (bytes : List ℕ) → mostBytes < length bytes → OneLine bytes «MALFORMED_CHUNK» 0
+  -- there are no more functions than bytes: a program that tries the numbers below k, 1 at least, on k bytes or fewer leaves no line out
+  pub enough : (k : ℕ) (bytes : List ℕ) → 0 < k → length bytes ≤ k → lineOf k bytes ≡ []
 
 -- n counts bytes at the start of the page. The second part follows from the first; to write them out takes both
 abbrev pub Counted : ℕ → List ℕ → Type 0
