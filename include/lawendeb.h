@@ -264,12 +264,14 @@ struct lawendeb_indices {
 };
 
 /* The registers, constants and upvalues that Lua's own VM (lvm.c, 5.4.8) reads and writes in some
-   execution of a word. The reads and writes of a record are luad's, and differ. */
+   execution of a word; CALL, TAILCALL, TFORCALL and CONCAT by the formulas of lopcodes.h. What
+   closing and VARARGPREP touch and CLOSURE captures is left out; an execution that ends in an error
+   does not count. The reads and writes of a record are luad's, and differ. */
 struct lawendeb_touches {
     struct lawendeb_ranges reads;
     struct lawendeb_top reads_to_top;
     struct lawendeb_indices constants, upvalues;
-    struct lawendeb_ranges writes; /* on every way on */
+    struct lawendeb_ranges writes; /* on each step by some execution, not always: FORPREP's A+3 */
     struct lawendeb_top writes_to_top;
     struct lawendeb_indices upvalue_writes;
     struct lawendeb_ranges edge_writes; /* only on the way to word `edge`, one of the steps */
