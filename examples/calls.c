@@ -859,6 +859,131 @@ static void rehearsals(void) {
     CHECK(turned_away(rehearse(&l, 3, 1, 100), LAWENDEB_SHORT_SLICE, 0) && left_by(&l, 3));
 }
 
+/* ---- compiled scripts */
+
+/* A chunk of one function: a word, RETURN0 with a B of 1; the constant "x" (byte 46), the upvalue
+   _ENV (four bytes from 57 on). */
+static const uint8_t chunk[] = {
+    27,  76, 117, 97, 84, 0,   25, 147, 13,  10,  26,  10,  4,   8,   8,   120, 86, 0,  0,  0, 0,
+    0,   0,  0,   0,  0,  0,   0,  40,  119, 64,  1,   128, 128, 128, 0,   1,   2,  129, 71, 0, 1,
+    0,   129, 4,  130, 120, 129, 1, 0,   0,   128, 128, 128, 128, 129, 133, 95, 69, 78, 86};
+enum { SIZE = sizeof chunk };
+
+static int counted(struct lawendeb_counts c, uint64_t number, uint64_t place, uint64_t words,
+                   uint64_t constants, uint64_t names) {
+    return c.number == number && c.place == place && c.words == words &&
+           c.constants == constants && c.names == names;
+}
+
+static uint32_t chunk_words[2];
+static uint8_t chunk_tags[2];
+static uint64_t chunk_payloads[2], chunk_names[2];
+
+static void lend_chunk(void) {
+    memset(chunk_words, 165, sizeof chunk_words);
+    memset(chunk_tags, 165, sizeof chunk_tags);
+    memset(chunk_payloads, 165, sizeof chunk_payloads);
+    memset(chunk_names, 165, sizeof chunk_names);
+}
+
+static int chunk_lent_from(size_t i) {
+    for (; i < 2; i++)
+        if (chunk_words[i] != 2779096485u || chunk_tags[i] != 165 ||
+            chunk_payloads[i] != 11936128518282651045u || chunk_names[i] != 11936128518282651045u)
+            return 0;
+    return 1;
+}
+
+static struct lawendeb_counts fill(const uint8_t *bytes, size_t n, size_t k, size_t words,
+                                   size_t tags, size_t payloads, size_t names) {
+    return lawendeb_chunk_fill(bytes, n, k, chunk_words, words, chunk_tags, tags, chunk_payloads,
+                               payloads, chunk_names, names);
+}
+
+/* A chunk with the byte at an index changed. */
+static struct lawendeb_counts count_changed(size_t at, uint8_t to, size_t n) {
+    uint8_t bytes[SIZE];
+    memcpy(bytes, chunk, SIZE);
+    bytes[at] = to;
+    return lawendeb_chunk_count(bytes, n, 0);
+}
+
+static void chunks(void) {
+    CHECK(counted(lawendeb_chunk_count(chunk, SIZE, 0), LAWENDEB_ACCEPTED, 0, 1, 1, 1));
+    CHECK(counted(lawendeb_chunk_count(chunk, SIZE, 1), LAWENDEB_MALFORMED_CHUNK, 0, 0, 0, 0));
+    CHECK(counted(lawendeb_chunk_count(chunk, SIZE - 1, 0), LAWENDEB_MALFORMED_CHUNK, 0, 0, 0, 0));
+    CHECK(counted(lawendeb_chunk_count(chunk, 0, 0), LAWENDEB_MALFORMED_CHUNK, 0, 0, 0, 0));
+    CHECK(counted(count_changed(0, 28, SIZE), LAWENDEB_HEADER_DIFFERS, 0, 0, 0, 0));
+    CHECK(counted(count_changed(0, 28, 1), LAWENDEB_HEADER_DIFFERS, 0, 0, 0, 0));
+    CHECK(counted(count_changed(31, 99, SIZE), LAWENDEB_ACCEPTED, 0, 1, 1, 1));
+    CHECK(counted(count_changed(44, 5, SIZE), LAWENDEB_UNKNOWN_TAG, 0, 0, 0, 0));
+    CHECK(counted(count_changed(45, 128, SIZE), LAWENDEB_MALFORMED_CHUNK, 0, 0, 0, 0));
+    /* a count of names that is not 0 stands for one of each upvalue */
+    CHECK(counted(count_changed(55, 133, SIZE), LAWENDEB_ACCEPTED, 0, 1, 1, 1));
+
+    lend_chunk();
+    CHECK(counted(fill(chunk, SIZE, 0, 0, 2, 2, 2), LAWENDEB_SHORT_SLICE, 0, 0, 0, 0));
+    CHECK(counted(fill(chunk, SIZE, 0, 2, 0, 2, 2), LAWENDEB_SHORT_SLICE, 0, 0, 0, 0));
+    CHECK(counted(fill(chunk, SIZE, 0, 2, 2, 0, 2), LAWENDEB_SHORT_SLICE, 0, 0, 0, 0));
+    CHECK(counted(fill(chunk, SIZE, 0, 2, 2, 2, 0), LAWENDEB_SHORT_SLICE, 0, 0, 0, 0));
+    CHECK(counted(fill(chunk, SIZE, 1, 0, 0, 0, 0), LAWENDEB_MALFORMED_CHUNK, 0, 0, 0, 0));
+    CHECK(chunk_lent_from(0));
+    CHECK(counted(fill(chunk, SIZE, 0, 2, 2, 2, 2), LAWENDEB_ACCEPTED, 0, 1, 1, 1));
+    CHECK(chunk_words[0] == 65607 && chunk_tags[0] == LAWENDEB_TAG_SHORT_STRING);
+    CHECK(chunk_payloads[0] == place_of(46, 1) && chunk_names[0] == place_of(57, 4));
+    CHECK(chunk_lent_from(1));
+}
+
+/* ---- levels: functions within functions, each with nothing else */
+
+static size_t levels(uint8_t *bytes, size_t n) {
+    static const uint8_t start[10] = {128, 128, 128, 0, 0, 2, 128, 128, 128, 129};
+    size_t i, at = 32;
+    memcpy(bytes, chunk, 32);
+    for (i = 0; i < n; i++, at += 10)
+        memcpy(bytes + at, start, 10);
+    bytes[at - 1] = 128;
+    memset(bytes + at, 128, 4 * n);
+    return at + 4 * n;
+}
+
+static void deep(void) {
+    static uint8_t bytes[32 + 14 * 33];
+    CHECK(counted(lawendeb_chunk_count(bytes, levels(bytes, 32), 31), 0, 0, 0, 0, 0));
+    CHECK(counted(lawendeb_chunk_count(bytes, levels(bytes, 33), 0), LAWENDEB_TOO_DEEP, 0, 0, 0,
+                  0));
+}
+
+/* ---- names shown */
+
+static int named(struct lawendeb_name s, uint64_t number, uint64_t place, uint64_t in_chunk,
+                 uint64_t start, uint64_t size) {
+    return s.number == number && s.place == place && s.in_chunk == in_chunk && s.start == start &&
+           s.size == size;
+}
+
+static void shown(void) {
+    const uint8_t list[8] = {'o', 'u', 'r', ' ', 'l', 'i', 's', 't'};
+    const uint64_t own[3] = {place_of(57, 4), place_of(3, 0), LAWENDEB_UNNAMED};
+    const uint64_t other[3] = {place_of(0, 3), place_of(0, 3), place_of(4, 4)};
+    const uint64_t past[2] = {LAWENDEB_UNNAMED, place_of(8, 1)};
+    uint64_t full[LAWENDEB_MOST_NAMES + 1];
+    size_t i;
+    for (i = 0; i <= LAWENDEB_MOST_NAMES; i++)
+        full[i] = LAWENDEB_UNNAMED;
+#define NAME(own, own_n, other, other_n, i)                                                        \
+    lawendeb_upvalue_name(chunk, SIZE, own, own_n, list, sizeof list, other, other_n, i)
+    CHECK(named(NAME(own, 3, other, 3, 0), LAWENDEB_ACCEPTED, 0, 1, 57, 4));
+    /* a name that is there and empty is a name */
+    CHECK(named(NAME(own, 3, other, 3, 1), LAWENDEB_ACCEPTED, 0, 1, 3, 0));
+    CHECK(named(NAME(own, 3, other, 3, 2), LAWENDEB_ACCEPTED, 0, 0, 4, 4));
+    CHECK(named(NAME(own, 3, other, 3, 3), LAWENDEB_ACCEPTED, 0, 0, 0, 0));
+    CHECK(named(NAME(own, 3, past, 2, 0), LAWENDEB_NAMES, 1, 0, 0, 0));
+    CHECK(named(NAME(full, LAWENDEB_MOST_NAMES, other, 3, 0), LAWENDEB_ACCEPTED, 0, 0, 0, 3));
+    CHECK(named(NAME(full, LAWENDEB_MOST_NAMES + 1, past, 2, 0), LAWENDEB_NAMES, 0, 0, 0, 0));
+#undef NAME
+}
+
 int main(void) {
     weigh();
     steps();
@@ -874,6 +999,9 @@ int main(void) {
     refusals();
     touches();
     rehearsals();
+    chunks();
+    deep();
+    shown();
     printf("calls: %d checks, %d wrong\n", checks, wrong);
     return wrong != 0;
 }

@@ -1,7 +1,7 @@
 /* Lawendeb for C and C++, on x86-64 Linux (System V calls). What the functions do is proved; what
    is asked of the caller stands here.
 
-   Six archives, to be linked alone or side by side; all are made in target/staticlib/:
+   Seven archives, to be linked alone or side by side; all are made in target/staticlib/:
      libmeter.a     begin, feed and reset, for controllers: `rt staticlib meter`. It needs no
                     symbol.
      libexports.a   steps, the longest run, records: `rt staticlib exports`. It needs memset.
@@ -9,13 +9,15 @@
      libservice.a   nearest service, crossing steps: `rt staticlib service`. It needs memset.
      libtouches.a   what a word reads and writes: `rt staticlib touches`. It needs memset.
      librehearsal.a scripts in rotation: `rt staticlib rehearsal`. It needs memset.
-   They write nothing but what a call is lent: no heap, no static data, and as measured less than
-   1 kB of stack, but less than 2 kB for what a word touches, for a question about services and for
-   a rehearsal (docs/BENCHMARKS.md). So every call is reentrant, and calls on different memory may
-   run at once, in threads or interrupts. A begin, a feed, a reset and what a word touches take a
-   bounded time, whatever the number of words; a run and a question about services take time in
+     libchunk.a     compiled scripts: `rt staticlib chunk`. It needs memset.
+   They write nothing but what a call is lent: no heap, no static data, and as measured less than 1
+   kB of stack, but less than 2 kB for what a word touches, for a question about services and for a
+   rehearsal, and less than 13 kB for a pass over a chunk, which goes down with its functions, 32
+   levels at most (docs/BENCHMARKS.md). So every call is reentrant, and calls on different memory
+   may run at once, in threads or interrupts. A begin, a feed, a reset and what a word touches take
+   a bounded time, whatever the number of words; a run and a question about services take time in
    proportion to the words, a lift to words, constants and names, a rehearsal to the words of its
-   scripts, its choices and the words that it runs.
+   scripts, its choices and the words that it runs, a pass to the chunk's bytes.
 
    Each slice passes as a pointer and a length. The pointer is not null, even where the length is 0,
    and nobody writes the slice meanwhile. Slices that are written lie apart from all others. Any
@@ -53,13 +55,16 @@ extern "C" {
 #define LAWENDEB_UNKNOWN_TAG 3       /* of a constant; place: the lowest such index */
 #define LAWENDEB_STRING_PAST_BYTES 4 /* of a constant; place: the lowest such index */
 #define LAWENDEB_NAMES 5             /* too many; or one ends past the bytes, place: the lowest */
-#define LAWENDEB_SHORT_SLICE 6       /* a slice for results is shorter than the words */
+#define LAWENDEB_SHORT_SLICE 6       /* a slice for results is too short */
 #define LAWENDEB_NO_WORDS 7          /* there are none */
 #define LAWENDEB_REACHES_INVALID 8   /* control can reach a bad word; place: the lowest such word */
 #define LAWENDEB_NO_STEP 10          /* no step leads to the word fed, or the first is not 0 */
 #define LAWENDEB_FOREIGN_METER 11    /* not of this function, or its highest below its count */
 #define LAWENDEB_MALFORMED_LINE 12   /* of a sheet; by the program alone */
 #define LAWENDEB_TOO_MANY_LINES 13   /* of a sheet; by the program alone */
+#define LAWENDEB_HEADER_DIFFERS 14   /* a byte of a chunk's header */
+#define LAWENDEB_MALFORMED_CHUNK 15  /* it ends early; a count or number is over its limit; .. */
+#define LAWENDEB_TOO_DEEP 16         /* functions within functions, more than 32 levels */
 #define LAWENDEB_WEIGHTS_REFUSED 18  /* not 128 weights; or one is 0, place: the lowest such */
 #define LAWENDEB_LOW_ABOVE_HIGH 19   /* a low weight above its high one; place: the opcode */
 #define LAWENDEB_OUT_OF_RANGE 23     /* of a rehearsal: the count of scripts, q or a choice */
@@ -312,6 +317,49 @@ lawendeb_rehearse(const uint32_t *words0, size_t n0, const uint32_t *words1, siz
                   size_t count, uint32_t q, const uint8_t *choices, size_t choices_n,
                   uint32_t limit, uint8_t *marks, size_t marks_n, uint32_t *lengths,
                   size_t lengths_n);
+
+/* ---- compiled scripts: libchunk.a
+
+   A chunk is what `luac -o` writes, plain or stripped, for 4-byte words, 8-byte integers and 8-byte
+   floats, little-endian. It is read as lundump.c of Lua 5.4.8 reads it. Functions count from 0 by
+   their first byte, so that 0 is the main function and each comes before those within it. */
+
+/* What both passes answer: how many words, constants and names function k has, a name for each
+   upvalue. On a refusal the counts are 0. The chunk's length is tried first, then all of it is read
+   in order, and what is met first is the answer: 14; 15 if the bytes end early, a function has over
+   LAWENDEB_MOST_WORDS words, LAWENDEB_MOST_CONSTANTS constants or LAWENDEB_MOST_NAMES upvalues, a
+   number passes lundump.c's limit, a constant string is absent, the chunk is longer than
+   4,294,967,295 bytes, or, when all is read, there is no function k; 16 a level 33, main being 1;
+   3 an unknown constant tag, with the constant's index. Bytes behind main are ignored. */
+struct lawendeb_counts {
+    uint64_t number, place, words, constants, names;
+};
+
+/* The first pass: fills nothing. */
+struct lawendeb_counts lawendeb_chunk_count(const uint8_t *chunk, size_t n, size_t k);
+
+/* The second pass: the words, the tags and payloads of the constants, and the names. A string's tag
+   goes by its length, 4 up to 40 bytes and 20 above; the payload of nil, false and true is 0. The
+   place of a string or a name is one in the chunk's bytes; a name that the chunk lacks is
+   LAWENDEB_UNNAMED. Last of all is tried 6: a slice with fewer places than counted. What lies past
+   the counts stays as it was, and all of it on a refusal. */
+struct lawendeb_counts lawendeb_chunk_fill(const uint8_t *chunk, size_t n, size_t k,
+                                           uint32_t *words, size_t words_n, uint8_t *tags,
+                                           size_t tags_n, uint64_t *payloads, size_t payloads_n,
+                                           uint64_t *names, size_t names_n);
+
+/* The name shown for an upvalue: `size` bytes from `start` on, of the chunk if in_chunk is 1, else
+   of the list. With no name in either, and on a refusal, it is an empty part of the list. */
+struct lawendeb_name {
+    uint64_t number, place, in_chunk, start, size;
+};
+
+/* `own` are the places that lawendeb_chunk_fill gave, `other` those of a list of the caller's own,
+   which serves where the chunk has no name; both by upvalue index, and one past the places has no
+   name. Both are tried by 5, `own` against the chunk's bytes first, `other` against the list's. */
+struct lawendeb_name lawendeb_upvalue_name(const uint8_t *chunk, size_t n, const uint64_t *own,
+                                           size_t own_n, const uint8_t *list, size_t list_n,
+                                           const uint64_t *other, size_t other_n, size_t index);
 
 #ifdef __cplusplus
 }

@@ -12,7 +12,8 @@ use Rattle.common.specs.declared.answer.Answer.{Answer}
 use Rattle.common.specs.Limits.{mostWords, mostConstants, mostNames}
 use Rattle.common.specs.Chain.{choose, refuseIf, answer, accepted}
 use Rattle.records.specs.Lift.{liftOf}
-use Rattle.records.specs.Refusals.{firstUnknownTag, firstStringPast, firstNamePast, answerOf, planOf}
+use Rattle.values.specs.Spans.{firstNamePast}
+use Rattle.records.specs.Refusals.{firstUnknownTag, firstStringPast, answerOf, planOf}
 use Rattle.records.specs.Walk.{recordOrBlank}
 use Rattle.records.specs.Laws.{Recorded, PlanLaws}
 

@@ -1,6 +1,6 @@
 -- Document 01, "Refused inputs": what lifting refuses, numbers 1 to 6 in their order. The Rust refuses nothing: all of this is added.
 -- Assumes nothing.
-use Prim.Native.Nat.{ℕ, _+_, _/_, _%_, _^_}
+use Prim.Native.Nat.{ℕ}
 use mathlib.Core.Bool.{Bool, true, false, not}
 use mathlib.Core.List.{List}
 use lib.Dec.{ltb, eqb}
@@ -10,7 +10,8 @@ use Rattle.common.specs.Limits.{mostWords, mostConstants, mostNames}
 use Rattle.common.specs.Numbers.{«ACCEPTED», «TOO_MANY_WORDS», «CONSTANT_COUNT», «UNKNOWN_TAG», «STRING_PAST_BYTES», «NAMES», «SHORT_SLICE»}
 use Rattle.common.specs.Chain.{choose, refuseIf, answer, accepted}
 use Rattle.common.specs.Lowest.{lowest}
-use Rattle.values.specs.Values.{unnamed, «TAG_NIL», «TAG_FALSE», «TAG_TRUE», «TAG_INTEGER», «TAG_FLOAT», «TAG_SHORT_STRING», «TAG_LONG_STRING»}
+use Rattle.values.specs.Values.{«TAG_NIL», «TAG_FALSE», «TAG_TRUE», «TAG_INTEGER», «TAG_FLOAT», «TAG_SHORT_STRING», «TAG_LONG_STRING»}
+use Rattle.values.specs.Spans.{past, firstNamePast}
 use Rattle.records.specs.declared.refusals.Plan.{Plan}
 
 -- 3, "unknown tag"
@@ -26,20 +27,12 @@ unknownTag tag =
 unfoldable pub unknownTagAt : List ℕ → ℕ → Bool
 unknownTagAt tags index = unknownTag (getD tags index 0)
 
--- a span ends past the string bytes: start in the low 32 bits, length in the high 32. The sum is one of ℕ, and wraps nowhere.
-unfoldable pub past : ℕ → ℕ → Bool
-past bytes payload = ltb bytes (payload % 2 ^ 32 + payload / 2 ^ 32)
-
 unfoldable pub isString : ℕ → Bool
 isString tag = choose (eqb tag «TAG_SHORT_STRING») true (eqb tag «TAG_LONG_STRING»)
 
 -- 4, "string ends past the string bytes"
 unfoldable pub stringPastAt : List ℕ → List ℕ → ℕ → ℕ → Bool
 stringPastAt tags payloads bytes index = choose (isString (getD tags index 0)) (past bytes (getD payloads index 0)) false
-
--- 5, "a name past the string bytes"; one that is unnamed has no bytes
-unfoldable pub namePastAt : List ℕ → ℕ → ℕ → Bool
-namePastAt names bytes index = choose (eqb (getD names index 0) unnamed) false (past bytes (getD names index 0))
 
 -- "place: lowest index"; where there is none, the number of them
 
@@ -48,9 +41,6 @@ firstUnknownTag tags = lowest (unknownTagAt tags) (length tags)
 
 abbrev pub firstStringPast : List ℕ → List ℕ → ℕ → ℕ
 firstStringPast tags payloads bytes = lowest (stringPastAt tags payloads bytes) (length tags)
-
-abbrev pub firstNamePast : List ℕ → ℕ → ℕ
-firstNamePast names bytes = lowest (namePastAt names bytes) (length names)
 
 -- "Checks run in this order": 1, "more than 32,768 words"; 2, "tag and payload counts differ, or over 65,536"; 3, "unknown tag; place: lowest
 -- index"; 4, "string ends past the string bytes; place: lowest index"; 5, "over 255 names, or a name past the string bytes; place: lowest

@@ -1,16 +1,17 @@
 // What lifting refuses: numbers 1 to 6 of document 01's table, in its order.
 ghost use mathlib.Core.Path.{_≡_};
 ghost use mathlib.Core.Bool.{false};
-ghost use lib.Dec.{eqb};
 ghost use lib.ListN.{length};
 ghost use Rattle.common.specs.Chain.{choose, answer};
-ghost use Rattle.values.specs.Values.{unnamed};
-ghost use Rattle.records.specs.Refusals.{unknownTag, past, isString, firstUnknownTag, firstStringPast, firstNamePast};
+ghost use Rattle.values.specs.Spans.{past};
+ghost use Rattle.records.specs.Refusals.{unknownTag, isString, firstUnknownTag, firstStringPast};
 ghost use Rattle.records.specs.Refusals.{answerOf, planOf};
 use common::Answer;
 use common::limits::*;
 use common::numbers::*;
 use values::lookup::*;
+use values::spans::first_name_past;
+use values::spans::is_past;
 
 pub struct Plan {
     pub answer: Answer,
@@ -48,14 +49,6 @@ fn is_string(tag: u8) -> bool
     }
 }
 
-// The sum is below 2^33 and needs 64 bits.
-fn is_past(bytes: usize, payload: u64) -> bool
-    ensures { λ r. ⌜ r ≡ past bytes payload ⌝ }
-{
-    let end = payload % 4294967296 + payload / 4294967296;
-    bytes < end as usize
-}
-
 fn is_string_past(tag: u8, payload: u64, bytes: usize) -> bool
     ensures { λ r. ⌜ r ≡ choose (isString tag) (past bytes payload) false ⌝ }
 {
@@ -63,16 +56,6 @@ fn is_string_past(tag: u8, payload: u64, bytes: usize) -> bool
         is_past(bytes, payload)
     } else {
         false
-    }
-}
-
-fn is_name_past(payload: u64, bytes: usize) -> bool
-    ensures { λ r. ⌜ r ≡ choose (eqb payload unnamed) false (past bytes payload) ⌝ }
-{
-    if payload == UNNAMED {
-        false
-    } else {
-        is_past(bytes, payload)
     }
 }
 
@@ -98,19 +81,6 @@ fn first_string_past(tags: &[u8], payloads: &[u64], bytes: usize) -> usize
     let mut i: usize = 0;
     while i < tags.len() {
         if is_string_past(tags[i], payloads[i], bytes) {
-            return i;
-        }
-        i += 1;
-    }
-    i
-}
-
-fn first_name_past(names: &[u64], bytes: usize) -> usize
-    ensures { λ r. ⌜ r ≡ firstNamePast (now (names .entry)) bytes ⌝ }
-{
-    let mut i: usize = 0;
-    while i < names.len() {
-        if is_name_past(names[i], bytes) {
             return i;
         }
         i += 1;

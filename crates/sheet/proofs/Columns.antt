@@ -1,6 +1,6 @@
 -- Columns put over a part of a list, byte by byte and one after another. Assumes nothing.
 use mathlib.Core.Path.{_≡_, refl, sym, _∙_}
-use mathlib.Core.List.{List, [], _∷_, _++_}
+use mathlib.Core.List.{List, [], _∷_, _++_, append-nil}
 use Prim.Native.Nat.{ℕ, zero, suc, _+_, _-_, _/_, _≤_, _<_}
 use native.Mathlib.Omega.{arith}
 use lib.ListN.{length, drop, set, length-set}
@@ -59,6 +59,11 @@ dash-ending = refl
 pub number-cell : (v : ℕ) → columns 6 v ≡ cellOf (Number v)
 unfolding cellOf
 number-cell v = refl
+
+-- ---- one column alone
+
+pub one-filled : (l o a : List ℕ) → length l ≡ 6 → drop 6 l ≡ [] → length a ≡ 6 → o ≡ put l 0 a → o ≡ a
+one-filled l o a k n la e = e ∙ put-laws .start l a ∙ rw (la, n) (append-nil a)
 
 -- ---- lines filled column by column, over a line that ends with a newline
 

@@ -9,7 +9,7 @@ use Rattle.sheet.specs.declared.reading.Sheet.the-variants.{Words}
 use Rattle.sheet.specs.Format.{sheetOf, wordsOf, roomOf, tableAfter}
 use Rattle.sheet.specs.Claims.{Accepted}
 use Rattle.sheet.specs.Laws.{Laws}
-use Rattle.sheet.proofs.Widths.{length-row, length-pair}
+use Rattle.sheet.proofs.Widths.{length-cell, length-row, length-pair}
 use Rattle.sheet.proofs.Scanned.{length-words, table-is}
 use Rattle.sheet.proofs.Claims.{claims, length-text}
 
@@ -28,4 +28,4 @@ stored : (text table : List ℕ) (n : ℕ) → sheetOf (roomOf table) text ≡ W
 stored text table n e = rw (table-is text table (Words n) e) (take-at (wordsOf text n) (drop n table) n (length-words text n))
 
 pub laws : Laws
-laws = record { row = length-row; pair = length-pair; words = length-words; fits = fits; lines = lines; stored = stored }
+laws = record { cell = length-cell; row = length-row; pair = length-pair; words = length-words; fits = fits; lines = lines; stored = stored }

@@ -7,10 +7,11 @@ use lib.ListN.{length, take}
 use Rattle.sheet.specs.declared.reading.Sheet.the-variants.{Words}
 use Rattle.sheet.specs.declared.writing.Cell.{Cell}
 use Rattle.sheet.specs.Format.{sheetOf, wordsOf, roomOf, tableAfter}
-use Rattle.sheet.specs.Rows.{rowOf, pairOf}
+use Rattle.sheet.specs.Rows.{cellOf, rowOf, pairOf}
 
 pub record Laws : Type 0 where
-  -- the lines of the listing are of one length each
+  -- columns and the lines of the listing are of one length each
+  pub cell : (c : Cell) → length (cellOf c) ≡ 6
   pub row : (p opcode : ℕ) (first second : Cell) (segment : ℕ) → length (rowOf p opcode first second segment) ≡ 31
   pub pair : (left right : ℕ) → length (pairOf left right) ≡ 13
   pub words : (text : List ℕ) (n : ℕ) → length (wordsOf text n) ≡ n

@@ -9,6 +9,7 @@ pub use reading::number;
 pub use reading::place;
 pub use reading::read;
 pub use writing::Cell;
+pub use writing::column;
 pub use writing::last_line;
 pub use writing::refusal_line;
 pub use writing::row;

@@ -54,6 +54,15 @@ fn put_cell(out: &mut [u8], at: usize, c: Cell)
     }
 }
 
+// A column by itself.
+pub fn column(c: Cell) -> [u8; 6]
+    ensures { λ r. ⌜ r ≡ cellOf c ⌝ }
+{
+    let mut out = [b' '; 6];
+    put_cell(&mut out, 0, c);
+    out
+}
+
 // The line of word p.
 pub fn row(p: usize, opcode: u8, first: Cell, second: Cell, segment: u32) -> [u8; 31]
     ensures { λ r. ⌜ r ≡ rowOf p opcode first second segment ⌝ }

@@ -1,2 +1,3 @@
 -- Layer 4, its ground: the value types and the lookups.
 pub mod Values
+pub mod Spans

@@ -2,3 +2,4 @@
 pub mod ir;
 pub mod lookup;
 pub mod model;
+pub mod spans;

@@ -1,0 +1,127 @@
+-- Every function that is read stands where its positions say.
+-- Assumes nothing.
+use mathlib.Core.Path.{_≡_, refl}
+use mathlib.Core.Bool.{Bool, true, false}
+use mathlib.Core.List.{List, [], _∷_, _++_}
+use Prim.Native.Nat.{ℕ, zero, suc, _≤_}
+use native.Mathlib.Omega.{arith}
+use lib.Dec.{leb}
+use lib.ListN.{length}
+use Rattle.common.specs.Limits.{mostConstants, mostNames}
+use Rattle.chunk.specs.Reading.{Result, done, refused, Reader, bind, only}
+use Rattle.chunk.specs.Lundump.{loadByte, Function, Constant, Text, loadInt, loadHead, loadCode, loadConstant, loadConstants, loadUpvalues, loadLines, loadNames, functionWith, several, noneOf, loadProtos, loadFunction, checkHeader, undump}
+use Rattle.chunk.specs.Chunk.{pick, chosen}
+use Rattle.chunk.specs.Stands.{Stands, AllStand, AllRead, OneRead}
+use Rattle.chunk.proofs.Bounds.{names-length, few-words, few-upvalues, few-items}
+use Rattle.chunk.proofs.Thens.{own, then1, then2, then3, then4, then5, then6, then7}
+
+module _ (bytes : List ℕ) where
+  both : (fs gs : List Function) → AllStand bytes fs → AllStand bytes gs → AllStand bytes (fs ++ gs)
+  both [] gs h k = k
+  both (f ∷ fs) gs h k = (h .0, both fs gs (h .1) k)
+
+  module _ (P : Reader (List Function)) (within : (at : ℕ) → AllRead bytes (P bytes at)) where
+    s7 : (at₀ at₁ : ℕ) (code : List ℕ) (at₂ : ℕ) (ks : List Constant) (at₃ n : ℕ) (inner : List Function) (at₆ : ℕ) (X : Result (List Text))
+        → loadCode bytes at₁ ≡ done code at₂ → loadConstants bytes at₂ ≡ done ks at₃ → n ≤ mostNames → AllStand bytes inner → loadNames n bytes at₆ ≡ X
+        → AllRead bytes (bind X (then7 bytes P at₀ at₁ code at₂ ks n inner at₆))
+    s7 at₀ at₁ code at₂ ks at₃ n inner at₆ (done names at₇) c k u i m =
+        let e = names-length bytes n at₆ names at₇ m in
+        (record { codeNext = at₂; code = c; constantsNext = at₃; constants = k; namesNext = at₇; names = m; one-each = e; few-words = few-words bytes at₁ code at₂ c; few-constants = few-items bytes mostConstants loadConstant at₂ ks at₃ k; few-names = omega arith }, i)
+    s7 at₀ at₁ code at₂ ks at₃ n inner at₆ (refused e) c k u i m = tt
+
+    s6 : (at₀ at₁ : ℕ) (code : List ℕ) (at₂ : ℕ) (ks : List Constant) (at₃ n : ℕ) (inner : List Function) (X : Result (List ℕ))
+        → loadCode bytes at₁ ≡ done code at₂ → loadConstants bytes at₂ ≡ done ks at₃ → n ≤ mostNames → AllStand bytes inner
+        → AllRead bytes (bind X (then6 bytes P at₀ at₁ code at₂ ks n inner))
+    s6 at₀ at₁ code at₂ ks at₃ n inner (done z at₆) c k u i = s7 at₀ at₁ code at₂ ks at₃ n inner at₆ (loadNames n bytes at₆) c k u i refl
+    s6 at₀ at₁ code at₂ ks at₃ n inner (refused e) c k u i = tt
+
+    s5 : (at₀ at₁ : ℕ) (code : List ℕ) (at₂ : ℕ) (ks : List Constant) (at₃ n : ℕ) (X : Result (List Function))
+        → loadCode bytes at₁ ≡ done code at₂ → loadConstants bytes at₂ ≡ done ks at₃ → n ≤ mostNames → AllRead bytes X
+        → AllRead bytes (bind X (then5 bytes P at₀ at₁ code at₂ ks n))
+    s5 at₀ at₁ code at₂ ks at₃ n (done inner at₅) c k u i = s6 at₀ at₁ code at₂ ks at₃ n inner (loadLines bytes at₅) c k u i
+    s5 at₀ at₁ code at₂ ks at₃ n (refused e) c k u i = tt
+
+    s4 : (at₀ at₁ : ℕ) (code : List ℕ) (at₂ : ℕ) (ks : List Constant) (at₃ : ℕ) (X : Result ℕ)
+        → loadCode bytes at₁ ≡ done code at₂ → loadConstants bytes at₂ ≡ done ks at₃ → loadUpvalues bytes at₃ ≡ X → AllRead bytes (bind X (then4 bytes P at₀ at₁ code at₂ ks))
+    s4 at₀ at₁ code at₂ ks at₃ (done n at₄) c k u = s5 at₀ at₁ code at₂ ks at₃ n (P bytes at₄) c k (few-upvalues bytes at₃ n at₄ u) (within at₄)
+    s4 at₀ at₁ code at₂ ks at₃ (refused e) c k u = tt
+
+    s3 : (at₀ at₁ : ℕ) (code : List ℕ) (at₂ : ℕ) (X : Result (List Constant)) → loadCode bytes at₁ ≡ done code at₂ → loadConstants bytes at₂ ≡ X
+        → AllRead bytes (bind X (then3 bytes P at₀ at₁ code at₂))
+    s3 at₀ at₁ code at₂ (done ks at₃) c k = s4 at₀ at₁ code at₂ ks at₃ (loadUpvalues bytes at₃) c k refl
+    s3 at₀ at₁ code at₂ (refused e) c k = tt
+
+    s2 : (at₀ at₁ : ℕ) (X : Result (List ℕ)) → loadCode bytes at₁ ≡ X → AllRead bytes (bind X (then2 bytes P at₀ at₁))
+    s2 at₀ at₁ (done code at₂) c = s3 at₀ at₁ code at₂ (loadConstants bytes at₂) c refl
+    s2 at₀ at₁ (refused e) c = tt
+
+    s1 : (at₀ : ℕ) (X : Result ℕ) → AllRead bytes (bind X (then1 bytes P at₀))
+    s1 at₀ (done a at₁) = s2 at₀ at₁ (loadCode bytes at₁) refl
+    s1 at₀ (refused e) = tt
+
+    one-stands : (at : ℕ) → AllRead bytes (functionWith P bytes at)
+    unfolding functionWith
+    one-stands at = s1 at (loadHead bytes at)
+
+  module _ (r : Reader (List Function)) (each : (at : ℕ) → AllRead bytes (r bytes at)) where
+    joins : (fs : List Function) (X : Result (List Function)) → AllStand bytes fs → AllRead bytes X → AllRead bytes (bind X (λ more at. done (fs ++ more) at))
+    joins fs (done more at) h k = both fs more h k
+    joins fs (refused e) h k = tt
+
+    goes-on : (n : ℕ) → ((at : ℕ) → AllRead bytes (several r n bytes at)) → (X : Result (List Function)) → AllRead bytes X
+        → AllRead bytes (bind X (λ fs at₁. bind (several r n bytes at₁) (λ more at₂. done (fs ++ more) at₂)))
+    goes-on n later (done fs at) h = joins fs (several r n bytes at) h (later at)
+    goes-on n later (refused e) h = tt
+
+    several-stand : (n at : ℕ) → AllRead bytes (several r n bytes at)
+    unfolding several
+    several-stand zero at = tt
+    several-stand (suc n) at = goes-on n (several-stand n) (r bytes at) (each at)
+
+  none-stand : (n at : ℕ) → AllRead bytes (noneOf n bytes at)
+  unfolding noneOf
+  none-stand zero at = tt
+  none-stand (suc n) at = tt
+
+  on : (X : Result ℕ) (k : ℕ → ℕ → Result (List Function)) → ((n at : ℕ) → AllRead bytes (k n at)) → AllRead bytes (bind X k)
+  on (done n at) k h = h n at
+  on (refused e) k h = tt
+
+  within-stand : (level at : ℕ) → AllRead bytes (loadProtos level bytes at)
+  unfolding loadProtos
+  within-stand zero at = on (loadInt bytes at) (λ n at₁. noneOf n bytes at₁) none-stand
+  within-stand (suc level) at =
+      on (loadInt bytes at) (λ n at₁. several (functionWith (loadProtos level)) n bytes at₁)
+      (several-stand (functionWith (loadProtos level)) (one-stands (loadProtos level) (within-stand level)))
+
+  pub all-stand : (level at : ℕ) → AllRead bytes (loadFunction level bytes at)
+  all-stand level at = one-stands (loadProtos level) (within-stand level) at
+
+  pub on-unit : {A : Type 0} (X : Result A) (k : ℕ → Result (List Function)) → ((at : ℕ) → AllRead bytes (k at)) → AllRead bytes (bind X (λ _ at. k at))
+  on-unit (done n at) k h = h at
+  on-unit (refused e) k h = tt
+
+  chunk-stands : AllRead bytes (undump bytes 0)
+  unfolding undump
+  chunk-stands = on-unit (checkHeader bytes 0) (λ at. bind (loadByte bytes at) (λ _ at₁. loadFunction 31 bytes at₁))
+      (λ at. on-unit (loadByte bytes at) (λ at₁. loadFunction 31 bytes at₁) (all-stand 31))
+
+  pick-stands : (k : ℕ) (fs : List Function) (at : ℕ) → AllStand bytes fs → OneRead bytes (pick k fs at)
+  unfolding pick
+  pick-stands zero [] at h = tt
+  pick-stands (suc k) [] at h = tt
+  pick-stands zero (f ∷ fs) at h = h .0
+  pick-stands (suc k) (f ∷ fs) at h = pick-stands k fs at (h .1)
+
+  after : (k : ℕ) (X : Result (List Function)) → AllRead bytes X → OneRead bytes (bind X (pick k))
+  after k (done fs at) h = pick-stands k fs at h
+  after k (refused e) h = tt
+
+  -- the function that is chosen stands where its positions say
+  pub chosen-stands : (k : ℕ) → OneRead bytes (chosen k bytes)
+  unfolding chosen
+  chosen-stands k = go (leb (length bytes) 4294967295)
+    where
+      go : (b : Bool) → OneRead bytes (only b (bind (undump bytes 0) (pick k)))
+      go true = after k (undump bytes 0) chunk-stands
+      go false = tt
