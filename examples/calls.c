@@ -95,6 +95,10 @@ static int ran(struct lawendeb_run r, uint64_t number, uint64_t place, uint64_t 
     return r.number == number && r.place == place && r.longest == longest && r.first == first;
 }
 
+static int answered(struct lawendeb_answer a, uint64_t number, uint64_t place) {
+    return a.number == number && a.place == place;
+}
+
 /* Weights of 1, and others: LOADI 10, ADDI 20, MMBINI 30, JMP 40, the unknown 83 50, the rest 255;
    with a place more, to lend one too many. */
 static uint8_t ones[LAWENDEB_WEIGHTS], others[LAWENDEB_WEIGHTS + 1];
@@ -192,11 +196,152 @@ static void weighed_runs(void) {
     others[82] = others[127] = 255;
 }
 
-/* ---- the meter */
-
-static int answered(struct lawendeb_answer a, uint64_t number, uint64_t place) {
-    return a.number == number && a.place == place;
+/* Both runs, with so many weights of each table, and slices of 4 elements. */
+static struct lawendeb_run_range runs_by(const uint8_t *low, size_t low_n, const uint8_t *high,
+                                         size_t high_n, const uint32_t *words, size_t n) {
+    return lawendeb_longest_runs(words, n, low, low_n, high, high_n, marks, 4, lengths, 4);
 }
+
+static int ran_both(struct lawendeb_run_range r, uint64_t low_longest, uint64_t low_first,
+                    uint64_t high_longest, uint64_t high_first) {
+    return r.number == LAWENDEB_ACCEPTED && r.place == 0 && r.low_longest == low_longest &&
+           r.low_first == low_first && r.high_longest == high_longest && r.high_first == high_first;
+}
+
+static int refused_both(struct lawendeb_run_range r, uint64_t number, uint64_t place) {
+    return r.number == number && r.place == place && r.low_longest == 0 && r.low_first == 0 &&
+           r.high_longest == 0 && r.high_first == 0;
+}
+
+/* Runs by a low and by a high table: request C-18. */
+static void ranges(void) {
+    enum { W = LAWENDEB_WEIGHTS };
+    const uint32_t sums[4] = {100, 90, 70, 40};
+    /* a jump to a jump back to word 1, a MOVE and a return */
+    const uint32_t elsewhere[4] = {word_jump(2), 0, RETURN0, word_jump(-3)};
+    uint8_t low[W], high[W];
+    size_t i;
+    lend();
+    CHECK(ran_both(runs_by(ones, W, others, W, sheet, 4), 4, 0, 100, 0));
+    for (i = 0; i < 4; i++)
+        CHECK(marks[i] == 1 && lengths[i] == sums[i]);
+    CHECK(lent_from(4));
+    CHECK(ran_both(runs_by(others, W, others, W, sheet, 4), 100, 0, 100, 0));
+    memset(low, 1, W), memset(high, 3, W);
+    low[56] = 3, high[0] = 8;
+    CHECK(ran_both(runs_by(low, W, high, W, elsewhere, 4), 6, 0, 11, 1));
+
+    lend();
+    for (i = 0; i < W; i++) {
+        high[i] = 0;
+        CHECK(refused_both(runs_by(ones, W, high, W, sheet, 4), LAWENDEB_WEIGHTS_REFUSED, i));
+        high[i] = 1, low[i] = 4;
+        CHECK(refused_both(runs_by(low, W, high, W, sheet, 4), LAWENDEB_LOW_ABOVE_HIGH, i));
+        high[i] = 4;
+    }
+    /* 1 and 6 before 18, 18 of the low table before that of the high one, both before 19 */
+    high[3] = 1, high[9] = 0;
+    CHECK(refused_both(runs_by(low, W - 1, high, W, many, MANY), LAWENDEB_TOO_MANY_WORDS, 0));
+    CHECK(refused_both(runs_by(low, W - 1, high, W, many, 5), LAWENDEB_SHORT_SLICE, 0));
+    CHECK(refused_both(runs_by(low, W - 1, high, W, sheet, 4), LAWENDEB_WEIGHTS_REFUSED, 0));
+    CHECK(refused_both(runs_by(low, W, high, W, sheet, 4), LAWENDEB_WEIGHTS_REFUSED, 9));
+    CHECK(refused_both(runs_by(low, W, high, W - 1, sheet, 4), LAWENDEB_WEIGHTS_REFUSED, 0));
+    /* 19 before 7 and 8 */
+    high[9] = 4;
+    CHECK(refused_both(runs_by(low, W, high, W, sheet, 4), LAWENDEB_LOW_ABOVE_HIGH, 3));
+    CHECK(refused_both(runs_by(low, W, high, W, sheet, 0), LAWENDEB_LOW_ABOVE_HIGH, 3));
+    CHECK(refused_both(runs_by(low, W, high, W, unknown, 1), LAWENDEB_LOW_ABOVE_HIGH, 3));
+    CHECK(refused_both(runs_by(ones, W, others, W, sheet, 0), LAWENDEB_NO_WORDS, 0));
+    CHECK(lent_from(0));
+    CHECK(refused_both(runs_by(ones, W, others, W, unknown, 1), LAWENDEB_REACHES_INVALID, 0));
+    CHECK(marks[0] == 1 && lengths[0] == 0 && lent_from(1));
+}
+
+/* ---- nearest service and crossing steps */
+
+static uint8_t list[MANY];
+
+static int nearest_is(struct lawendeb_nearest a, uint64_t number, uint64_t place, uint64_t found,
+                      uint64_t fewest) {
+    return a.number == number && a.place == place && a.found == found && a.fewest == fewest;
+}
+
+static int crossed_is(struct lawendeb_crossed a, uint64_t number, uint64_t place, uint64_t count) {
+    return a.number == number && a.place == place && a.count == count;
+}
+
+static struct lawendeb_nearest nearest(const uint32_t *words, size_t n, size_t w) {
+    return lawendeb_distance_to_service(words, n, w, marks, n, lengths, n);
+}
+
+static struct lawendeb_crossed crossed(const uint32_t *words, size_t n, size_t w) {
+    return lawendeb_crossing_edges(words, n, w, marks, n, lengths, n);
+}
+
+/* The list of the first four words within d, lent anew, as a number of four bits, the first highest;
+   99 if it is not of 0s and 1s with its rest as lent. */
+static unsigned listed(const uint32_t *words, size_t n, size_t d) {
+    unsigned bits = 0;
+    size_t i;
+    memset(list, 165, sizeof list);
+    if (!answered(lawendeb_list_within(words, n, d, marks, n, lengths, n, list, n + 1), 0, 0))
+        return 99;
+    for (i = 0; i < 4; i++) {
+        if (i < n ? list[i] > 1 : list[i] != 165)
+            return 99;
+        bits = 2 * bits + (i < n ? list[i] : 0);
+    }
+    return list[n] == 165 ? bits : 99;
+}
+
+static void services(void) {
+    const uint32_t skips[4] = {word_jump(1), 83, 0, RETURN0};
+    const uint64_t fewest[4] = {3, 2, 2, 1};
+    size_t i;
+    lend();
+    for (i = 0; i < 4; i++)
+        CHECK(nearest_is(nearest(sheet, 4, i), LAWENDEB_ACCEPTED, 0, 1, fewest[i]));
+    CHECK(nearest_is(nearest(sheet, 4, 4), LAWENDEB_ACCEPTED, 0, 0, 0));
+    CHECK(nearest_is(nearest(sheet, 4, SIZE_MAX), LAWENDEB_ACCEPTED, 0, 0, 0));
+    CHECK(crossed_is(crossed(sheet, 4, 2), LAWENDEB_ACCEPTED, 0, 2));
+    CHECK(crossed_is(crossed(sheet, 4, 1), LAWENDEB_ACCEPTED, 0, 0));
+    CHECK(crossed_is(crossed(sheet, 4, 4), LAWENDEB_ACCEPTED, 0, 0));
+    CHECK(listed(sheet, 4, 0) == 0 && listed(sheet, 4, 1) == 1 && listed(sheet, 4, 2) == 7);
+    CHECK(listed(sheet, 4, 3) == 15 && listed(sheet, 4, SIZE_MAX) == 15);
+    /* the slices are the run's */
+    for (i = 0; i < 4; i++)
+        CHECK(marks[i] == 1 && lengths[i] == 4 - i);
+    CHECK(lent_from(4));
+
+    /* an unreachable word has none, and steps over it count */
+    CHECK(nearest_is(nearest(skips, 4, 0), LAWENDEB_ACCEPTED, 0, 1, 3));
+    CHECK(nearest_is(nearest(skips, 4, 1), LAWENDEB_ACCEPTED, 0, 0, 0));
+    CHECK(crossed_is(crossed(skips, 4, 1), LAWENDEB_ACCEPTED, 0, 1));
+    CHECK(listed(skips, 4, SIZE_MAX) == 11);
+    CHECK(marks[1] == 0 && lengths[0] == 3 && lengths[1] == 0 && lent_from(4));
+
+    /* refusals: 1, 6, 7, 8 in this order, the list under 6 */
+    lend();
+    memset(list, 165, sizeof list);
+    CHECK(nearest_is(lawendeb_distance_to_service(many, MANY, 0, marks, 0, lengths, 0),
+                     LAWENDEB_TOO_MANY_WORDS, 0, 0, 0));
+    CHECK(crossed_is(lawendeb_crossing_edges(sheet, 4, 0, marks, 3, lengths, 4),
+                     LAWENDEB_SHORT_SLICE, 0, 0));
+    CHECK(crossed_is(crossed(sheet, 0, 0), LAWENDEB_NO_WORDS, 0, 0));
+    CHECK(answered(lawendeb_list_within(many, MANY, 1, marks, 0, lengths, 0, list, 0),
+                   LAWENDEB_TOO_MANY_WORDS, 0));
+    CHECK(answered(lawendeb_list_within(unknown, 1, 1, marks, 1, lengths, 1, list, 0),
+                   LAWENDEB_SHORT_SLICE, 0));
+    CHECK(lent_from(0) && list[0] == 165);
+    CHECK(answered(lawendeb_list_within(unknown, 1, 1, marks, 1, lengths, 1, list, 1),
+                   LAWENDEB_REACHES_INVALID, 0));
+    CHECK(marks[0] == 1 && lengths[0] == 0 && lent_from(1) && list[0] == 165);
+    lend();
+    CHECK(nearest_is(nearest(unknown, 1, 0), LAWENDEB_REACHES_INVALID, 0, 0, 0));
+    CHECK(marks[0] == 1 && lengths[0] == 0 && lent_from(1));
+}
+
+/* ---- the meter */
 
 static int shows(struct lawendeb_meter m, uint32_t begun, uint32_t last, uint32_t count,
                  uint32_t services) {
@@ -520,6 +665,95 @@ static void refusals(void) {
     CHECK(lift_refuses(sheet, 4, &t, 3 * N, LAWENDEB_SHORT_SLICE, 0));
 }
 
+/* ---- what a word touches */
+
+static int ranged(struct lawendeb_ranges r, unsigned count, unsigned first, unsigned last) {
+    return r.count == count && r.items[0].first == first && r.items[0].last == last &&
+           !(r.items[1].first | r.items[1].last | r.items[2].first | r.items[2].last);
+}
+
+static int topped(struct lawendeb_top t, unsigned count, unsigned first) {
+    return t.count == count && t.first == first;
+}
+
+static int indexed(struct lawendeb_indices r, unsigned count, uint32_t first, uint32_t second) {
+    return r.count == count && r.items[0] == first && r.items[1] == second && r.items[2] == 0;
+}
+
+/* What a test does not name is empty. */
+static int nothing_else(struct lawendeb_touches t, int reads, int tops, int indices, int writes,
+                        int on_edge) {
+    return (reads || ranged(t.reads, 0, 0, 0)) &&
+           (tops || (topped(t.reads_to_top, 0, 0) && topped(t.writes_to_top, 0, 0))) &&
+           (indices || (indexed(t.constants, 0, 0, 0) && indexed(t.upvalues, 0, 0, 0) &&
+                        indexed(t.upvalue_writes, 0, 0, 0))) &&
+           (writes || ranged(t.writes, 0, 0, 0)) &&
+           (on_edge || (ranged(t.edge_writes, 0, 0, 0) && t.edge == 0));
+}
+
+static void touches(void) {
+    enum { MOVE = 0, LOADKX = 4, LOADNIL = 8, SETUPVAL = 10, GETTABLE = 12, SETTABUP = 15 };
+    enum { ADD = 34, MMBIN = 46, CALL = 68, RETURN = 70, FORPREP = 74, EXTRAARG = 82 };
+    const uint32_t k = 32768;
+    const uint32_t words[14] = {
+        word_abc(MOVE, 1, 2, 0),         word_abc(ADD, 3, 4, 5),
+        word_abc(MMBIN, 4, 5, 6),        word_abc(CALL, 7, 0, 0),
+        word_abc(LOADNIL, 255, 1, 0),    word_abc(GETTABLE, 9, 5, 4),
+        word_abc(SETTABUP, 2, 6, 6) + k, word_abc(LOADKX, 3, 0, 0),
+        EXTRAARG + 128 * 33554431u,      word_abc(SETUPVAL, 8, 2, 0),
+        word_abx(FORPREP, 10, 0),        word_abx(FORLOOP, 10, 0),
+        word_abc(ADD, 1, 2, 3),          word_abc(RETURN, 7, 0, 0)};
+    struct lawendeb_touches t;
+    size_t p;
+    t = lawendeb_touches(words, 14, 0);
+    CHECK(ranged(t.reads, 1, 2, 2) && ranged(t.writes, 1, 1, 1) && nothing_else(t, 1, 0, 0, 1, 0));
+    /* the sum goes to p + 2, past its metamethod word, which writes the A of the word before */
+    t = lawendeb_touches(words, 14, 1);
+    CHECK(ranged(t.reads, 1, 4, 5) && ranged(t.edge_writes, 1, 3, 3) && t.edge == 3);
+    CHECK(nothing_else(t, 1, 0, 0, 0, 1));
+    t = lawendeb_touches(words, 14, 2);
+    CHECK(ranged(t.reads, 1, 4, 5) && ranged(t.writes, 1, 3, 3) && nothing_else(t, 1, 0, 0, 1, 0));
+    /* the function called is read at every top */
+    t = lawendeb_touches(words, 14, 3);
+    CHECK(topped(t.reads_to_top, 1, 8) && topped(t.writes_to_top, 1, 7));
+    CHECK(ranged(t.reads, 1, 7, 7) && nothing_else(t, 1, 1, 0, 0, 0));
+    t = lawendeb_touches(words, 14, 4);
+    CHECK(ranged(t.writes, 1, 255, 256) && nothing_else(t, 0, 0, 0, 1, 0));
+    t = lawendeb_touches(words, 14, 5);
+    CHECK(ranged(t.reads, 1, 4, 5) && ranged(t.writes, 1, 9, 9) && nothing_else(t, 1, 0, 0, 1, 0));
+    /* key and value are one constant */
+    t = lawendeb_touches(words, 14, 6);
+    CHECK(indexed(t.constants, 1, 6, 0) && indexed(t.upvalues, 1, 2, 0));
+    CHECK(indexed(t.upvalue_writes, 0, 0, 0) && nothing_else(t, 0, 0, 1, 0, 0));
+    t = lawendeb_touches(words, 14, 7);
+    CHECK(indexed(t.constants, 1, 33554431, 0) && indexed(t.upvalues, 0, 0, 0));
+    CHECK(ranged(t.writes, 1, 3, 3) && nothing_else(t, 0, 0, 1, 1, 0));
+    t = lawendeb_touches(words, 14, 9);
+    CHECK(indexed(t.upvalue_writes, 1, 2, 0) && indexed(t.constants, 0, 0, 0));
+    CHECK(indexed(t.upvalues, 0, 0, 0));
+    CHECK(ranged(t.reads, 1, 8, 8) && nothing_else(t, 1, 0, 1, 0, 0));
+    /* the control variable is set before the loop is found not to run */
+    t = lawendeb_touches(words, 14, 10);
+    CHECK(ranged(t.reads, 1, 10, 12) && ranged(t.writes, 1, 13, 13));
+    CHECK(ranged(t.edge_writes, 1, 10, 12) && t.edge == 11 && nothing_else(t, 1, 0, 0, 1, 1));
+    /* with Bx 0 both ways lead to one word, and on one of them is written */
+    t = lawendeb_touches(words, 14, 11);
+    CHECK(ranged(t.reads, 1, 10, 12) && t.edge == 12 && t.edge_writes.count == 2);
+    CHECK(t.edge_writes.items[0].first == 10 && t.edge_writes.items[0].last == 11);
+    CHECK(t.edge_writes.items[1].first == 13 && t.edge_writes.items[1].last == 13);
+    CHECK(nothing_else(t, 1, 0, 0, 0, 1));
+    t = lawendeb_touches(words, 14, 13);
+    CHECK(topped(t.reads_to_top, 1, 7) && topped(t.writes_to_top, 0, 0));
+    CHECK(nothing_else(t, 0, 1, 0, 0, 0));
+    /* bad: an EXTRAARG, an ADD without its metamethod word, the last word, none */
+    for (p = 8; p < 16; p++)
+        if (p == 8 || p == 12 || p > 13)
+            CHECK(nothing_else(lawendeb_touches(words, 14, p), 0, 0, 0, 0, 0));
+    CHECK(nothing_else(lawendeb_touches(words, 1, 0), 0, 0, 0, 0, 0));
+    CHECK(nothing_else(lawendeb_touches(words, 14, SIZE_MAX), 0, 0, 0, 0, 0));
+    CHECK(nothing_else(lawendeb_touches(words, 0, 0), 0, 0, 0, 0, 0));
+}
+
 /* ---- four scripts */
 
 static struct lawendeb_meters four(struct lawendeb_meter axis, struct lawendeb_meter focuser,
@@ -613,12 +847,15 @@ int main(void) {
     steps();
     runs();
     weighed_runs();
+    ranges();
+    services();
     meters();
     weighed_meters();
     worst();
     records();
     values();
     refusals();
+    touches();
     fours();
     printf("calls: %d checks, %d wrong\n", checks, wrong);
     return wrong != 0;

@@ -1,17 +1,21 @@
 /* Lawendeb for C and C++, on x86-64 Linux (System V calls). What the functions do is proved; what
    is asked of the caller stands here.
 
-   Three archives, to be linked alone or side by side; all are made in target/staticlib/:
+   Six archives, to be linked alone or side by side; all are made in target/staticlib/:
      libmeter.a     begin, feed and reset, for controllers: `rt staticlib meter`. It needs no
                     symbol.
      libexports.a   steps, the longest run, records: `rt staticlib exports`. It needs memset.
+     libranges.a    the longest run by two tables: `rt staticlib ranges`. It needs memset.
+     libservice.a   nearest service, crossing steps: `rt staticlib service`. It needs memset.
+     libtouches.a   what a word reads and writes: `rt staticlib touches`. It needs memset.
      libbudget.a    begin, feed and reset of four scripts: `rt staticlib budget`. It needs no
                     symbol.
    They write nothing but what a call is lent: no heap, no static data, and as measured less than
-   1 kB of stack (docs/BENCHMARKS.md). So every call is reentrant, and calls on different memory may
-   run at once, in threads or interrupts. A begin, a feed and a reset take a bounded time, whatever
-   the number of words; a run takes time in proportion to the words, a lift to words, constants and
-   names.
+   1 kB of stack, but less than 2 kB for what a word touches and for a question about services
+   (docs/BENCHMARKS.md). So every call is reentrant, and calls on different memory may run at once,
+   in threads or interrupts. A begin, a feed, a reset and what a word touches take a bounded time,
+   whatever the number of words; a run and a question about services take time in proportion to the
+   words, a lift to words, constants and names.
 
    Each slice passes as a pointer and a length. The pointer is not null, even where the length is 0,
    and nobody writes the slice meanwhile. Slices that are written lie apart from all others. Any
@@ -53,10 +57,11 @@ extern "C" {
 #define LAWENDEB_NO_WORDS 7          /* there are none */
 #define LAWENDEB_REACHES_INVALID 8   /* control can reach a bad word; place: the lowest such word */
 #define LAWENDEB_NO_STEP 10          /* no step leads to the word fed, or the first is not 0 */
-#define LAWENDEB_FOREIGN_METER 11    /* the meter is not of this function */
+#define LAWENDEB_FOREIGN_METER 11    /* not of this function, or its highest below its count */
 #define LAWENDEB_MALFORMED_LINE 12   /* of a sheet; by the program alone */
 #define LAWENDEB_TOO_MANY_LINES 13   /* of a sheet; by the program alone */
 #define LAWENDEB_WEIGHTS_REFUSED 18  /* not 128 weights; or one is 0, place: the lowest such */
+#define LAWENDEB_LOW_ABOVE_HIGH 19   /* a low weight above its high one; place: the opcode */
 #define LAWENDEB_NO_SCRIPT 20        /* a script number above LAWENDEB_GUIDER */
 #define LAWENDEB_BUDGET_RANGE 21     /* the budget is 0 or above LAWENDEB_MOST_BUDGET */
 #define LAWENDEB_OVER_BUDGET 22      /* the sum of the four counts would be above the budget */
@@ -191,6 +196,58 @@ struct lawendeb_run lawendeb_longest_run(const uint32_t *words, size_t n, const 
                                          size_t weights_n, uint8_t *marks, size_t marks_n,
                                          uint32_t *lengths, size_t lengths_n);
 
+/* ---- the longest run by two tables of weights: libranges.a */
+
+/* The longest run by a table of low weights and by one of high weights, each with the lowest word
+   at which it begins; or a refusal's number and place. */
+struct lawendeb_run_range {
+    uint64_t number, place, low_longest, low_first, high_longest, high_first;
+};
+
+/* Both runs in one call, with one search. By any table between the two, entry by entry, the longest
+   run is at least low_longest and at most high_longest, accepted exactly if these are and else
+   refused alike; where it begins may be anywhere. Marks and lengths end as the run by the high
+   table leaves them. Refusals are 1, 6, 18 of the low table, 18 of the high one, 19, 7 and 8, tried
+   in this order; 8 leaves the marks and n zero lengths, the others alter nothing. */
+struct lawendeb_run_range lawendeb_longest_runs(const uint32_t *words, size_t n, const uint8_t *low,
+                                                size_t low_n, const uint8_t *high, size_t high_n,
+                                                uint8_t *marks, size_t marks_n, uint32_t *lengths,
+                                                size_t lengths_n);
+
+/* ---- nearest service and crossing steps: libservice.a
+
+   Questions about a function, of which a run with all weights 1 decides whether it is accepted.
+   Marks and lengths need n places at least, and get what that run leaves in them. Refusals are that
+   run's: 1, 6, 7 and 8, tried in this order. */
+
+/* The fewest words from word `w` on, itself counted, to a return or a word with a serving step: 1
+   if it is one. found is 0, and fewest too, if the word is not reachable or past the end. */
+struct lawendeb_nearest {
+    uint64_t number, place, found, fewest;
+};
+
+struct lawendeb_nearest lawendeb_distance_to_service(const uint32_t *words, size_t n, size_t w,
+                                                     uint8_t *marks, size_t marks_n,
+                                                     uint32_t *lengths, size_t lengths_n);
+
+/* Lists the reachable words whose fewest is at most `d`: the list needs n places at least, too,
+   and gets 1 for a listed word, else 0. What lies past n stays as it was, and all of it on a
+   refusal. A list that is too short is refused by 6, which leaves marks and lengths as they
+   were. */
+struct lawendeb_answer lawendeb_list_within(const uint32_t *words, size_t n, size_t d,
+                                            uint8_t *marks, size_t marks_n, uint32_t *lengths,
+                                            size_t lengths_n, uint8_t *list, size_t list_n);
+
+/* How many steps from reachable words pass strictly over word `w`, forward or back; 0 if it is past
+   the end. */
+struct lawendeb_crossed {
+    uint64_t number, place, count;
+};
+
+struct lawendeb_crossed lawendeb_crossing_edges(const uint32_t *words, size_t n, size_t w,
+                                                uint8_t *marks, size_t marks_n, uint32_t *lengths,
+                                                size_t lengths_n);
+
 /* ---- records: libexports.a */
 
 /* A constant has a tag and a payload: the integer, the float's bits, or a string's place in the
@@ -215,6 +272,59 @@ struct lawendeb_answer lawendeb_lift(const uint32_t *words, size_t n, const uint
                                      size_t tags_n, const uint64_t *payloads, size_t payloads_n,
                                      const uint64_t *names, size_t names_n, const uint8_t *bytes,
                                      size_t bytes_n, uint64_t *numbers, size_t numbers_n);
+
+/* ---- what a word touches: libtouches.a */
+
+/* Registers from the first to the last, both touched. */
+struct lawendeb_range {
+    uint16_t first, last;
+};
+
+/* Ranges that rise, each as long as can be. Places past the count hold 0, here and below. */
+struct lawendeb_ranges {
+    struct lawendeb_range items[3];
+    uint16_t count;
+};
+
+/* A range up to the stack top, by its first register past those touched at every top. The count is
+   0 or 1. */
+struct lawendeb_top {
+    uint16_t first, count;
+};
+
+/* Constants or upvalues, rising without repeats. */
+struct lawendeb_indices {
+    uint32_t items[3];
+    uint32_t count;
+};
+
+/* The registers, constants and upvalues that Lua's own VM (lvm.c, 5.4.8) reads and writes in some
+   execution of a word. The reads and writes of a record are luad's, and differ. */
+struct lawendeb_touches {
+    struct lawendeb_ranges reads;
+    struct lawendeb_top reads_to_top;
+    struct lawendeb_indices constants, upvalues;
+    struct lawendeb_ranges writes; /* on every way on */
+    struct lawendeb_top writes_to_top;
+    struct lawendeb_indices upvalue_writes;
+    struct lawendeb_ranges edge_writes; /* only on the way to word `edge`, one of the steps */
+    size_t edge;                        /* 0 if nothing is written so */
+};
+
+LAWENDEB_ASSERT(sizeof(struct lawendeb_ranges) == 14 && sizeof(struct lawendeb_indices) == 16 &&
+                    offsetof(struct lawendeb_touches, reads_to_top) == 14 &&
+                    offsetof(struct lawendeb_touches, constants) == 20 &&
+                    offsetof(struct lawendeb_touches, upvalues) == 36 &&
+                    offsetof(struct lawendeb_touches, writes) == 52 &&
+                    offsetof(struct lawendeb_touches, writes_to_top) == 66 &&
+                    offsetof(struct lawendeb_touches, upvalue_writes) == 72 &&
+                    offsetof(struct lawendeb_touches, edge_writes) == 88 &&
+                    offsetof(struct lawendeb_touches, edge) == 104 &&
+                    sizeof(struct lawendeb_touches) == 112,
+                "the layout that crates/touches has");
+
+/* What word p of the n words touches; a bad word, and a word number of n or more, nothing. */
+struct lawendeb_touches lawendeb_touches(const uint32_t *words, size_t n, size_t p);
 
 #ifdef __cplusplus
 }

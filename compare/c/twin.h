@@ -12,7 +12,10 @@ enum { TWIN_WORDS = 32768, TWIN_CONSTANTS = 65536, TWIN_NAMES = 255, TWIN_WEIGHT
 /* kind: 0 invalid, 1 stop, 2 one, 3 two; steps lower first */
 struct twin_successors { uint64_t kind, first, second; };
 struct twin_run { uint64_t number, place, longest, first; };
+struct twin_range { uint64_t number, place, low_longest, low_first, high_longest, high_first; };
 struct twin_answer { uint64_t number, place; };
+struct twin_nearest { uint64_t number, place, found, fewest; };
+struct twin_crossed { uint64_t number, place, count; };
 struct twin_meter { uint32_t begun, last, since, services, highest; };
 struct twin_meters { struct twin_meter of[4]; };
 
@@ -33,6 +36,14 @@ _Static_assert(sizeof(struct twin_record) == 53 * 8, "53 numbers");
 struct twin_successors twin_successors(const uint32_t *words, size_t n, size_t p);
 struct twin_run twin_longest_run(const uint32_t *words, size_t n, const uint8_t *weights, size_t weights_n, uint8_t *marks,
     size_t marks_n, uint32_t *lengths, size_t lengths_n);
+struct twin_range twin_longest_runs(const uint32_t *words, size_t n, const uint8_t *low, size_t low_n, const uint8_t *high,
+    size_t high_n, uint8_t *marks, size_t marks_n, uint32_t *lengths, size_t lengths_n);
+struct twin_nearest twin_distance_to_service(const uint32_t *words, size_t n, size_t w, uint8_t *marks, size_t marks_n,
+    uint32_t *lengths, size_t lengths_n);
+struct twin_answer twin_list_within(const uint32_t *words, size_t n, size_t d, uint8_t *marks, size_t marks_n,
+    uint32_t *lengths, size_t lengths_n, uint8_t *list, size_t list_n);
+struct twin_crossed twin_crossing_edges(const uint32_t *words, size_t n, size_t w, uint8_t *marks, size_t marks_n,
+    uint32_t *lengths, size_t lengths_n);
 void twin_begin(struct twin_meter *m);
 void twin_reset(struct twin_meter *m);
 struct twin_answer twin_feed(const uint32_t *words, size_t n, const uint8_t *weights, size_t weights_n, struct twin_meter *m,

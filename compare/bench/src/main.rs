@@ -163,6 +163,66 @@ fn run_rows(columns: &Columns, sides: &[Side], rounds: usize, (name, make): Kind
     }
 }
 
+/// By a low and a high table in one call, beside a run by one table.
+fn range_rows(columns: &Columns, sides: &[Side], rounds: usize, (name, make): Kind) {
+    let [(_, low), (_, high)] = &tables_of_weights();
+    let mut rows = vec![];
+    for n in SIZES {
+        let words = make(n);
+        let repeat = 65_536 / n;
+        let mut calls: Vec<Box<dyn FnMut()>> = vec![];
+        for both in [false, true] {
+            for side in sides {
+                let (words, mut marks, mut lengths) = (&words, vec![0u8; n], vec![0u32; n]);
+                calls.push(Box::new(move || {
+                    for _ in 0..repeat {
+                        let (words, low, high) = (black_box(words), black_box(low), black_box(high));
+                        let number = if both {
+                            (side.runs)(words, low, high, &mut marks, &mut lengths).number
+                        } else {
+                            (side.run)(words, high, &mut marks, &mut lengths).number
+                        };
+                        assert_eq!(number, 0);
+                    }
+                }));
+            }
+        }
+        let times = best(rounds, &mut calls);
+        rows.push(columns.row("longest run, one table and both", name, n, &times, (repeat * n) as f64));
+    }
+    columns.flat_row(&rows);
+}
+
+/// The three questions of request C-22: of the middle word, and of d 8.
+fn service_rows(columns: &Columns, sides: &[Side], rounds: usize, (name, make): Kind) {
+    type Ask = fn(&Side, &[u32], &mut [u8], &mut [u32], &mut [u8]) -> u64;
+    let questions: [(&str, Ask); 3] = [
+        ("distance to service", |side, words, marks, lengths, _| (side.nearest)(words, words.len() / 2, marks, lengths).number),
+        ("list within 8", |side, words, marks, lengths, list| (side.within)(words, 8, marks, lengths, list).number),
+        ("crossing edges", |side, words, marks, lengths, _| (side.crossed)(words, words.len() / 2, marks, lengths).number),
+    ];
+    for (what, ask) in questions {
+        let mut rows = vec![];
+        for n in SIZES {
+            let words = make(n);
+            let repeat = 65_536 / n;
+            let work = sides.iter().map(|_| (vec![0u8; n], vec![0u32; n], vec![0u8; n]));
+            let mut calls: Vec<Box<dyn FnMut()>> = vec![];
+            for (side, (mut marks, mut lengths, mut list)) in sides.iter().zip(work) {
+                let words = &words;
+                calls.push(Box::new(move || {
+                    for _ in 0..repeat {
+                        assert_eq!(ask(side, black_box(words), &mut marks, &mut lengths, &mut list), 0);
+                    }
+                }));
+            }
+            let times = best(rounds, &mut calls);
+            rows.push(columns.row(what, name, n, &times, (repeat * n) as f64));
+        }
+        columns.flat_row(&rows);
+    }
+}
+
 fn feed_rows(columns: &Columns, sides: &[Side], rounds: usize, (name, make): Kind) {
     for (weighed, weights) in &tables_of_weights() {
         let mut rows = vec![];
@@ -274,6 +334,8 @@ fn memory_rows(sides: &[Side]) {
         let mut m = Meter::default();
         let run = stack::used(|| assert_eq!((side.run)(&input.words, &ones, &mut marks, &mut lengths).number, 0));
         println!("| longest run | {} | 5 | 0 | {run} |", side.name);
+        let runs = stack::used(|| assert_eq!((side.runs)(&input.words, &ones, &ones, &mut marks, &mut lengths).number, 0));
+        println!("| longest run, both tables | {} | 5 | 0 | {runs} |", side.name);
         (side.feed)(&input.words, &ones, &mut m, 0);
         let feed = stack::used(|| assert_eq!((side.feed)(&input.words, &ones, &mut m, 1).number, 0));
         println!("| feed | {} | 0 | 0 | {feed} |", side.name);
@@ -303,12 +365,21 @@ fn main() {
         run_rows(&columns, &sides, rounds, kind);
     }
     for kind in KINDS {
+        service_rows(&columns, &sides, rounds, kind);
+    }
+    for kind in KINDS {
         feed_rows(&columns, &sides, rounds, kind);
     }
     for kind in KINDS {
         for turn in [1, 16] {
             four_rows(&columns, &sides, rounds, kind, turn);
         }
+    }
+    let names = vec!["C twin", "Rattle", "C twin, both", "Rattle, both"];
+    let columns = Columns { names, quotients: vec![(2, 0), (3, 1), (3, 2)] };
+    columns.head();
+    for kind in KINDS {
+        range_rows(&columns, &sides, rounds, kind);
     }
     let lifting: Vec<Side> = sides.into_iter().filter(|s| s.lift.is_some()).collect();
     let mut columns = Columns::over_first(lifting.iter().map(|s| s.name).chain(["luad"]).collect());

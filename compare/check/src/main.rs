@@ -1,13 +1,16 @@
 //! check [SEED [RECORDS [FUNCTIONS [LISTS]]]]: the differential tests, counted, with this many random records, functions and
-//! lists of calls beside the systematic ones. Ends with status 1 at the first mismatch. Times go to standard error: what
-//! stands on standard output is the same at every run with the same numbers.
+//! lists of calls beside the systematic ones, and a tenth as many functions for nearest service. Ends with status 1 at the first
+//! mismatch. Times go to standard error: what stands on standard output is the same at every run with the same numbers.
 
 mod fours;
 mod gen;
 mod meters;
+mod patches;
+mod ranges;
 mod records;
 mod rng;
 mod runs;
+mod services;
 mod shrink;
 mod weights;
 mod wrong;
@@ -54,6 +57,33 @@ fn main() {
     println!(
         "runs: {} functions of {} words, {} steps, each side against the model; {} functions against the definitions by brute force; answers by number: {}",
         c.functions, c.words, c.edges, c.brute, by_number(&c.answers)
+    );
+    eprintln!("  {:.1} s", start.elapsed().as_secs_f64());
+
+    let start = Instant::now();
+    let c = ranges::all(&sides, seed, functions / 4);
+    println!(
+        "ranges: {} functions by a low and a high table, each side against the model; {} runs by tables between them; {} begin at other words by the two; answers by number: {}",
+        c.functions, c.between, c.elsewhere, by_number(&c.answers)
+    );
+    eprintln!("  {:.1} s", start.elapsed().as_secs_f64());
+
+    let start = Instant::now();
+    let c = services::all(&sides, seed, functions / 10);
+    println!(
+        "services: {} questions of {} functions, each side against the model; {} functions against every stretch; answers of the lists by number: {}",
+        c.questions,
+        c.functions,
+        c.brute,
+        by_number(&c.answers)
+    );
+    eprintln!("  {:.1} s", start.elapsed().as_secs_f64());
+
+    let start = Instant::now();
+    let c = patches::all(&sides, seed, functions / 8);
+    println!(
+        "patches: {} words of {} lists, dead words of {} functions, {} of them real: each side answers the same; next to a reachable word {} lists, answered otherwise {} with the patch between two and {} before one",
+        c.words, c.lists, c.functions, c.real, c.near, c.between, c.before
     );
     eprintln!("  {:.1} s", start.elapsed().as_secs_f64());
 

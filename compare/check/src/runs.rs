@@ -29,12 +29,12 @@ fn function(words: &[u32], weights: &Weights) -> Function {
 }
 
 /// Slices that are longer than the words by these, or shorter if negative.
-type Spare = (isize, isize);
+pub type Spare = (isize, isize);
 
 const MARK: u8 = 0xa5;
 const LENGTH: u32 = 0xa5a5_a5a5;
 
-fn lent(n: usize, spare: Spare) -> (Vec<u8>, Vec<u32>) {
+pub fn lent(n: usize, spare: Spare) -> (Vec<u8>, Vec<u32>) {
     let len = |s: isize| (n as isize + s).max(0) as usize;
     (vec![MARK; len(spare.0)], vec![LENGTH; len(spare.1)])
 }
@@ -78,6 +78,11 @@ fn compare_brute(f: &Function) -> Result<(), String> {
         return Err(format!("{got:?}, by the definitions {want:?}"));
     }
     Ok(())
+}
+
+/// By document 01 the function is accepted with these weights.
+pub fn accepted(words: &[u32], weights: &Weights) -> bool {
+    run(words, &weights.0, &mut vec![0; words.len()], &mut vec![0; words.len()]).number == 0
 }
 
 fn smaller(f: &Function) -> Vec<Function> {

@@ -46,3 +46,18 @@ pub fn words(list: &[u32]) -> Vec<Vec<u32>> {
     all.extend(plainer(list));
     all
 }
+
+/// Two equally long lists of words, both with a part removed or with one word, the same in both or not, made simpler.
+pub fn shorter_both(first: &[u32], second: &[u32]) -> Vec<(Vec<u32>, Vec<u32>)> {
+    let mut all: Vec<_> = shorter(first).into_iter().zip(shorter(second)).collect();
+    all.extend(plainer(first).into_iter().filter_map(|f| {
+        let i = (0..first.len()).find(|&i| f[i] != first[i])?;
+        let mut copy = second.to_vec();
+        if first[i] == second[i] {
+            copy[i] = f[i];
+        }
+        Some((f, copy))
+    }));
+    all.extend(plainer(second).into_iter().map(|s| (first.to_vec(), s)));
+    all
+}

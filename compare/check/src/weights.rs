@@ -75,14 +75,16 @@ pub fn any(rng: &mut Rng) -> Weights {
     }
 }
 
-/// With one weight, or all, made 1; a zero and the count stay.
+/// With these weights made 1; a zero and the count stay.
+pub fn plain(weights: &Weights, at: impl Fn(usize) -> bool) -> Weights {
+    let one = |(i, &w): (usize, &u8)| if at(i) { w.min(1) } else { w };
+    Weights(weights.0.iter().enumerate().map(one).collect())
+}
+
+/// With one weight, or all, made 1.
 pub fn smaller(weights: &Weights) -> Vec<Weights> {
-    let plain = |at: &dyn Fn(usize) -> bool| {
-        let one = |(i, &w): (usize, &u8)| if at(i) { w.min(1) } else { w };
-        Weights(weights.0.iter().enumerate().map(one).collect())
-    };
-    let mut each = vec![plain(&|_| true)];
-    each.extend((0..weights.0.len()).map(|i| plain(&|j| i == j)));
+    let mut each = vec![plain(weights, |_| true)];
+    each.extend((0..weights.0.len()).map(|i| plain(weights, |j| i == j)));
     each.retain(|w| w != weights);
     each
 }

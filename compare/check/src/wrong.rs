@@ -1,16 +1,29 @@
-//! Wrong on purpose: records, a step, runs, feeds, a begin, a reset and feeds of four scripts that are each a little off must be caught,
-//! or the comparison is blind.
+//! Wrong on purpose: records, a step, runs, ranges, answers on nearest service, feeds, a begin, a reset, feeds of four scripts and
+//! rules of what may change that are each a little off must be caught, or the comparison is blind.
 
 use crate::rng::Rng;
-use crate::{fours, gen, meters, records, runs, weights};
+use crate::{fours, gen, meters, patches, ranges, records, runs, services, weights};
 use model::flat::Record;
 use model::input::Input;
+use model::range::RangeAnswer;
 use model::Answer;
-use sides::{ffi::twin, Side, Successors};
+use sides::{
+    ffi::{rattle, twin},
+    Side, Successors,
+};
 
 /// Every wrong side with the report that caught it; panics if one was not caught.
 pub fn all(seed: u64) -> Vec<String> {
-    vec![record(seed), past(seed), room(seed), step(seed), stretch(seed), table(seed), taken_along(seed), service(seed), first(seed), zero(seed), forgotten(seed), cleared(seed), below(seed), wrapped(seed), stale(seed), moved(seed), early(seed)]
+    let of_records = [record, past, room];
+    let of_runs = [step, stretch, table, taken_along];
+    let of_ranges = [twice, low_lengths, order_of_tables];
+    let of_services = [itself, beside, unreachable, left];
+    let of_meters = [service, first, zero, forgotten, cleared, below];
+    let of_fours = [wrapped, stale, moved, early];
+    let all: [&[fn(u64) -> String]; 6] = [&of_records, &of_runs, &of_ranges, &of_services, &of_meters, &of_fours];
+    let mut caught: Vec<String> = all.iter().flat_map(|group| group.iter()).map(|wrong| wrong(seed)).collect();
+    caught.extend(patches::wrong(&rattle::side(), seed));
+    caught
 }
 
 fn lift(input: &Input, out: &mut [Record]) -> Answer {
@@ -142,6 +155,141 @@ fn by_runs(seed: u64, side: &Side) -> String {
         let function = runs::Function { words, weights: weights::any(&mut rng) };
         if runs::compare(side, &function, (0, 0)).is_err() {
             return runs::report(side.name, &function, |f| runs::compare(side, f, (0, 0)).map(|_| ()));
+        }
+    }
+    panic!("{} was not caught", side.name);
+}
+
+fn twice(seed: u64) -> String {
+    // The high table's report stands for both.
+    let side = Side {
+        name: "wrong low report",
+        runs: |words, low, high, marks, lengths| {
+            let r = (twin::side().runs)(words, low, high, marks, lengths);
+            RangeAnswer { low_longest: r.high_longest, low_first: r.high_first, ..r }
+        },
+        ..twin::side()
+    };
+    by_ranges(seed, &side)
+}
+
+fn low_lengths(seed: u64) -> String {
+    // The slices end as the low table's run leaves them.
+    let side = Side {
+        name: "wrong lengths",
+        runs: |words, low, high, marks, lengths| {
+            let r = (twin::side().runs)(words, low, high, marks, lengths);
+            if r.number == 0 {
+                (twin::side().run)(words, low, marks, lengths);
+            }
+            r
+        },
+        ..twin::side()
+    };
+    by_ranges(seed, &side)
+}
+
+fn order_of_tables(seed: u64) -> String {
+    // 19 is looked for before 18.
+    let side = Side {
+        name: "wrong order",
+        runs: |words, low, high, marks, lengths| {
+            let r = (twin::side().runs)(words, low, high, marks, lengths);
+            match low.iter().zip(high).position(|(l, h)| l > h) {
+                Some(place) if r.number == 18 => RangeAnswer { number: 19, place: place as u64, ..r },
+                _ => r,
+            }
+        },
+        ..twin::side()
+    };
+    by_ranges(seed, &side)
+}
+
+/// Wrong runs by two tables are tried on random functions and ranges.
+fn by_ranges(seed: u64, side: &Side) -> String {
+    let mut rng = Rng::new(seed);
+    for _ in 0..1_000_000 {
+        let words = gen::function(&mut rng, 24);
+        let range = ranges::range(&mut rng, words);
+        if ranges::compare(side, &range, (0, 0)).is_err() {
+            return ranges::report(side.name, &range, (0, 0), |r, spare| ranges::compare(side, r, spare).map(|_| ()));
+        }
+    }
+    panic!("{} was not caught", side.name);
+}
+
+fn itself(seed: u64) -> String {
+    // The word itself is not counted.
+    let side = Side {
+        name: "wrong fewest",
+        nearest: |words, w, marks, lengths| {
+            let mut answer = (twin::side().nearest)(words, w, marks, lengths);
+            answer.fewest -= answer.found;
+            answer
+        },
+        ..twin::side()
+    };
+    by_services(seed, &side)
+}
+
+fn beside(seed: u64) -> String {
+    // A step from a word or to it passes over it.
+    let side = Side {
+        name: "wrong crossing",
+        crossed: |words, w, marks, lengths| {
+            let mut answer = (twin::side().crossed)(words, w, marks, lengths);
+            if answer.number == 0 && w < words.len() && marks[w] == 1 {
+                answer.count += (twin::side().successors)(words, w).list.iter().flatten().count() as u64;
+            }
+            answer
+        },
+        ..twin::side()
+    };
+    by_services(seed, &side)
+}
+
+fn unreachable(seed: u64) -> String {
+    // Words that are not reachable are listed, where everything is near enough.
+    let side = Side {
+        name: "wrong list",
+        within: |words, d, marks, lengths, list| {
+            let answer = (twin::side().within)(words, d, marks, lengths, list);
+            if answer.number == 0 && d > words.len() {
+                list[..words.len()].fill(1);
+            }
+            answer
+        },
+        ..twin::side()
+    };
+    by_services(seed, &side)
+}
+
+fn left(seed: u64) -> String {
+    // The lengths are left as distances.
+    let side = Side {
+        name: "wrong lengths",
+        within: |words, d, marks, lengths, list| {
+            let answer = (twin::side().within)(words, d, marks, lengths, list);
+            if answer.number == 0 {
+                for p in (0..words.len()).filter(|&p| marks[p] == 1) {
+                    let (mut m, mut l) = (marks.to_vec(), lengths.to_vec());
+                    lengths[p] = (twin::side().nearest)(words, p, &mut m, &mut l).fewest as u32;
+                }
+            }
+            answer
+        },
+        ..twin::side()
+    };
+    by_services(seed, &side)
+}
+
+/// A wrong answer is tried on random functions.
+fn by_services(seed: u64, side: &Side) -> String {
+    let mut rng = Rng::new(seed);
+    for _ in 0..1_000_000 {
+        let case = services::case(&mut rng, 24);
+        if services::compare(side, &case).is_err() {
+            return services::report(side.name, &case, |c| services::compare(side, c).map(|_| ()));
         }
     }
     panic!("{} was not caught", side.name);

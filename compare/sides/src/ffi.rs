@@ -8,7 +8,9 @@ use model::flat::Record;
 use model::four::{Meters, ALLOWANCE};
 use model::input::Input;
 use model::meter::Meter;
+use model::range::RangeAnswer;
 use model::run::RunAnswer;
+use model::service::{Crossed, Nearest};
 use model::Answer;
 
 /// The meter as it is lent: include/lawendeb.h. begun is 0, or any other number.
@@ -81,6 +83,47 @@ pub mod twin {
             lengths: *mut u32,
             lengths_n: usize,
         ) -> RunAnswer;
+        fn twin_longest_runs(
+            words: *const u32,
+            n: usize,
+            low: *const u8,
+            low_n: usize,
+            high: *const u8,
+            high_n: usize,
+            marks: *mut u8,
+            marks_n: usize,
+            lengths: *mut u32,
+            lengths_n: usize,
+        ) -> RangeAnswer;
+        fn twin_distance_to_service(
+            words: *const u32,
+            n: usize,
+            w: usize,
+            marks: *mut u8,
+            marks_n: usize,
+            lengths: *mut u32,
+            lengths_n: usize,
+        ) -> Nearest;
+        fn twin_list_within(
+            words: *const u32,
+            n: usize,
+            d: usize,
+            marks: *mut u8,
+            marks_n: usize,
+            lengths: *mut u32,
+            lengths_n: usize,
+            list: *mut u8,
+            list_n: usize,
+        ) -> Answer;
+        fn twin_crossing_edges(
+            words: *const u32,
+            n: usize,
+            w: usize,
+            marks: *mut u8,
+            marks_n: usize,
+            lengths: *mut u32,
+            lengths_n: usize,
+        ) -> Crossed;
         fn twin_begin(m: *mut LentMeter);
         fn twin_reset(m: *mut LentMeter);
         fn twin_feed(words: *const u32, n: usize, weights: *const u8, weights_n: usize, m: *mut LentMeter, q: usize) -> Answer;
@@ -118,6 +161,19 @@ pub mod twin {
             successors: |w, p| unsafe { twin_successors(w.as_ptr(), w.len(), p) }.into(),
             run: |w, t, m, l| unsafe {
                 twin_longest_run(w.as_ptr(), w.len(), t.as_ptr(), t.len(), m.as_mut_ptr(), m.len(), l.as_mut_ptr(), l.len())
+            },
+            runs: |w, a, b, m, l| unsafe {
+                let (marks, lengths) = (m.as_mut_ptr(), l.as_mut_ptr());
+                twin_longest_runs(w.as_ptr(), w.len(), a.as_ptr(), a.len(), b.as_ptr(), b.len(), marks, m.len(), lengths, l.len())
+            },
+            nearest: |w, p, m, l| unsafe {
+                twin_distance_to_service(w.as_ptr(), w.len(), p, m.as_mut_ptr(), m.len(), l.as_mut_ptr(), l.len())
+            },
+            within: |w, d, m, l, s| unsafe {
+                twin_list_within(w.as_ptr(), w.len(), d, m.as_mut_ptr(), m.len(), l.as_mut_ptr(), l.len(), s.as_mut_ptr(), s.len())
+            },
+            crossed: |w, p, m, l| unsafe {
+                twin_crossing_edges(w.as_ptr(), w.len(), p, m.as_mut_ptr(), m.len(), l.as_mut_ptr(), l.len())
             },
             begin: |m| lend(m, |m| unsafe { twin_begin(m) }),
             reset: |m| lend(m, |m| unsafe { twin_reset(m) }),
@@ -182,6 +238,47 @@ pub mod rattle {
             lengths: *mut u32,
             lengths_n: usize,
         ) -> RunAnswer;
+        fn lawendeb_longest_runs(
+            words: *const u32,
+            n: usize,
+            low: *const u8,
+            low_n: usize,
+            high: *const u8,
+            high_n: usize,
+            marks: *mut u8,
+            marks_n: usize,
+            lengths: *mut u32,
+            lengths_n: usize,
+        ) -> RangeAnswer;
+        fn lawendeb_distance_to_service(
+            words: *const u32,
+            n: usize,
+            w: usize,
+            marks: *mut u8,
+            marks_n: usize,
+            lengths: *mut u32,
+            lengths_n: usize,
+        ) -> Nearest;
+        fn lawendeb_list_within(
+            words: *const u32,
+            n: usize,
+            d: usize,
+            marks: *mut u8,
+            marks_n: usize,
+            lengths: *mut u32,
+            lengths_n: usize,
+            list: *mut u8,
+            list_n: usize,
+        ) -> Answer;
+        fn lawendeb_crossing_edges(
+            words: *const u32,
+            n: usize,
+            w: usize,
+            marks: *mut u8,
+            marks_n: usize,
+            lengths: *mut u32,
+            lengths_n: usize,
+        ) -> Crossed;
         fn lawendeb_begin_4(m: *mut LentMeter);
         fn lawendeb_reset(m: *mut LentMeter);
         fn lawendeb_feed_4(words: *const u32, n: usize, weights: *const u8, weights_n: usize, m: *mut LentMeter, q: usize) -> Answer;
@@ -205,6 +302,19 @@ pub mod rattle {
             successors: |w, p| unsafe { lawendeb_successors(w.as_ptr(), w.len(), p) }.into(),
             run: |w, t, m, l| unsafe {
                 lawendeb_longest_run_3(w.as_ptr(), w.len(), t.as_ptr(), t.len(), m.as_mut_ptr(), m.len(), l.as_mut_ptr(), l.len())
+            },
+            runs: |w, a, b, m, l| unsafe {
+                let (marks, lengths) = (m.as_mut_ptr(), l.as_mut_ptr());
+                lawendeb_longest_runs(w.as_ptr(), w.len(), a.as_ptr(), a.len(), b.as_ptr(), b.len(), marks, m.len(), lengths, l.len())
+            },
+            nearest: |w, p, m, l| unsafe {
+                lawendeb_distance_to_service(w.as_ptr(), w.len(), p, m.as_mut_ptr(), m.len(), l.as_mut_ptr(), l.len())
+            },
+            within: |w, d, m, l, s| unsafe {
+                lawendeb_list_within(w.as_ptr(), w.len(), d, m.as_mut_ptr(), m.len(), l.as_mut_ptr(), l.len(), s.as_mut_ptr(), s.len())
+            },
+            crossed: |w, p, m, l| unsafe {
+                lawendeb_crossing_edges(w.as_ptr(), w.len(), p, m.as_mut_ptr(), m.len(), l.as_mut_ptr(), l.len())
             },
             begin: |m| lend(m, |m| unsafe { lawendeb_begin_4(m) }),
             reset: |m| lend(m, |m| unsafe { lawendeb_reset(m) }),

@@ -4,7 +4,9 @@ use model::flat::Record;
 use model::four::{Meters, ALLOWANCE};
 use model::input::Input;
 use model::meter::Meter;
+use model::range::RangeAnswer;
 use model::run::RunAnswer;
+use model::service::{Crossed, Nearest};
 use model::Answer;
 
 pub mod ffi;
@@ -21,6 +23,14 @@ pub struct Side {
     pub successors: fn(&[u32], usize) -> Successors,
     /// Words, weights, marks, lengths.
     pub run: fn(&[u32], &[u8], &mut [u8], &mut [u32]) -> RunAnswer,
+    /// Words, low and high weights, marks, lengths.
+    pub runs: fn(&[u32], &[u8], &[u8], &mut [u8], &mut [u32]) -> RangeAnswer,
+    /// Words, word number, marks, lengths.
+    pub nearest: fn(&[u32], usize, &mut [u8], &mut [u32]) -> Nearest,
+    /// Words, d, marks, lengths, list.
+    pub within: fn(&[u32], usize, &mut [u8], &mut [u32], &mut [u8]) -> Answer,
+    /// Words, word number, marks, lengths.
+    pub crossed: fn(&[u32], usize, &mut [u8], &mut [u32]) -> Crossed,
     pub begin: fn(&mut Meter),
     pub reset: fn(&mut Meter),
     /// Words, weights, meter, word number.
@@ -52,6 +62,10 @@ pub fn model_side() -> Side {
             Successors { bad: s.bad, list: [s.list().first().copied(), s.list().get(1).copied()] }
         },
         run: model::run::run,
+        runs: model::range::runs,
+        nearest: model::service::nearest,
+        within: model::service::within,
+        crossed: model::service::crossed,
         begin: model::meter::begin,
         reset: model::meter::reset,
         feed: model::meter::feed,

@@ -42,7 +42,7 @@ abbrev pub «REACHES_INVALID» : ℕ
 abbrev pub «NO_STEP» : ℕ
 «NO_STEP» = 10
 
--- "meter not of this function"
+-- "meter not of this function"; "A highest below the count falls under number 11"
 abbrev pub «FOREIGN_METER» : ℕ
 «FOREIGN_METER» = 11
 
@@ -57,6 +57,10 @@ abbrev pub «TOO_MANY_LINES» : ℕ
 -- request C-17: "a weight count other than 128, or a weight of 0"
 abbrev pub «WEIGHTS_REFUSED» : ℕ
 «WEIGHTS_REFUSED» = 18
+
+-- request C-18: "a low above its high"
+abbrev pub «LOW_ABOVE_HIGH» : ℕ
+«LOW_ABOVE_HIGH» = 19
 
 -- request C-20: "a script number above 3"
 abbrev pub «NO_SCRIPT» : ℕ

@@ -29,7 +29,7 @@ pub const REACHES_INVALID: u8 = 8;
 // The fed word is n or more, or no step from the last, or the first is not 0.
 pub const NO_STEP: u8 = 10;
 
-// The meter is not of this function.
+// The meter is not of this function, or its highest is below its count.
 pub const FOREIGN_METER: u8 = 11;
 
 // A sheet's line is malformed or over 4,294,967,295.
@@ -40,6 +40,9 @@ pub const TOO_MANY_LINES: u8 = 13;
 
 // Request C-17: a weight count other than 128, or a weight of 0.
 pub const WEIGHTS_REFUSED: u8 = 18;
+
+// Request C-18: a low weight above its high.
+pub const LOW_ABOVE_HIGH: u8 = 19;
 
 // Request C-20: a script number above 3.
 pub const NO_SCRIPT: u8 = 20;

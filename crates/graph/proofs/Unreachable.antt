@@ -9,10 +9,11 @@ use lib.Dec.{eqb}
 use Rattle.common.proofs.Order.{bit}
 use Rattle.common.specs.Lowest.{lowestFrom}
 use Rattle.common.proofs.Lowest.{lowest-laws}
-use Rattle.graph.specs.Graph.{Graph, In, Lawful, Reachable}
+use Rattle.graph.specs.Graph.{Graph, In, Lawful, Reachable, Segment}
 use Rattle.graph.specs.Marks.{markOf}
 use Rattle.graph.specs.Longest.{best, within, heaviest, lengthOf, most, longest, first}
 use Rattle.graph.specs.Unreachable.{SameWhereReachable, Unreachable}
+use Rattle.graph.proofs.Paths.{Free, reach-of, reachable-of, segment-free, segment-start, segment-of}
 use Rattle.graph.proofs.Numbers.{most-same}
 use Rattle.graph.proofs.Lengths.{length-marked, length-unmarked}
 use Rattle.graph.proofs.Laws.{reaching, marking}
@@ -33,6 +34,28 @@ module _ (g h : Graph) (w v : ℕ → ℕ) (lg : Lawful g) (lh : Lawful h) (s : 
   back p r =
       reaching h lh .induction (λ q. Reachable g q) (reaching g lg .start (omega (arith, s .size, reaching h lh .below p r)))
       (λ o q ro u i. reaching g lg .next o q u (subst (λ (l : List ℕ). In q l) (sym (s .edges o u)) i)) p r
+
+  free-there : (p : ℕ) (ps : List ℕ) → Reachable g p → Free g p ps → Free h p ps
+  free-there p [] r f = tt
+  free-there p (q ∷ qs) r f = (
+    (subst (λ (l : List ℕ). In q l) (s .edges p r) (f .0 .0), sym (s .serving p q r) ∙ f .0 .1),
+    free-there q qs (reaching g lg .next p q r (f .0 .0)) (f .1),
+  )
+
+  segment-there : (p : ℕ) (ps : List ℕ) → Segment g p ps → Segment h p ps
+  segment-there p ps x =
+      let r : Reachable g p = reachable-of g (segment-start g x) in
+      segment-of h lh ps (reach-of h (there p r)) (free-there p ps r (segment-free g x))
+
+  -- the other way about
+  turned : SameWhereReachable h g v w
+  turned =
+      record {
+        size = sym (s .size);
+        edges = λ p r. sym (s .edges p (back p r));
+        serving = λ p q r. sym (s .serving p q (back p r));
+        weights = λ p r. sym (s .weights p (back p r));
+      }
 
   mark-same : (p : ℕ) → p < g .size → markOf g p ≡ markOf h p
   mark-same p l =
@@ -78,6 +101,7 @@ pub unreachable : Unreachable
 unreachable =
     record {
       reachable = λ g h w v lg lh s p. (there g h w v lg lh s p, back g h w v lg lh s p);
+      segments = λ g h w v lg lh s p ps. (segment-there g h w v lg lh s p ps, segment-there h g v w lh lg (turned g h w v lg lh s) p ps);
       marks = mark-same;
       lengths = length-same;
       longest-run = longest-same;

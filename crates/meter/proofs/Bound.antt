@@ -5,19 +5,21 @@ use mathlib.Core.Bool.{Bool, true, false, cond, _||_, true≢false}
 use mathlib.Core.Path.{_≡_, refl, sym, ap, subst, _∙_}
 use mathlib.Core.List.{List, [], _∷_, _++_, append-assoc, append-nil}
 use native.Mathlib.Omega.{arith}
+use lib.Dec.{eqb}
 use lib.ListN.{length, replicate}
 use borrow.Author.Tests.{eq-eqb, lt-ltb}
+use Rattle.common.specs.Numbers.{«ACCEPTED»}
 use Rattle.graph.specs.Graph.{In, Graph, Along, Path, Unserved, Segment, weigh}
 use Rattle.graph.proofs.Laws.{laws}
 use Rattle.meter.specs.declared.step.Meter.{Meter}
-use Rattle.meter.specs.Feed.{Scale, follows, ceiling, beginOf, resetOf}
+use Rattle.meter.specs.Feed.{Scale, follows, ceiling, beginOf, resetOf, feedOf}
 use Rattle.meter.specs.Model.{Call, begin, feed, reset, Model, emptyModel, lastFrom, writes, servesTo, fed, called, answerTo, modelAfter, modelAnswers, anyServes, sinceService, weightSince}
-use Rattle.meter.specs.Calls.{meterCalled, meterAfter}
+use Rattle.meter.specs.Calls.{meterAfter}
 use Rattle.meter.specs.Highest.{countsShown, largest, hasReset}
 use Rattle.meter.specs.Bound.{feeds, ShownOn, Bound, fresh, Worst}
 use Rattle.meter.proofs.Paths.{last-more}
 use Rattle.meter.proofs.Calls.{Sound, first-word, follows-model}
-use Rattle.meter.proofs.Highest.{Covers, risen}
+use Rattle.meter.proofs.Highest.{risen}
 
 module _ (scale : Scale) (sound : Sound scale) where
   abbrev g : Graph
@@ -197,11 +199,18 @@ module _ (scale : Scale) (sound : Sound scale) where
     shown-most : (h : Meter) → ((calls : List Call) → meterAfter scale h calls .count ≤ longest) → (calls : List Call)
         → largest (countsShown scale h calls) ≤ longest
     shown-most h below [] = omega arith
-    shown-most h below (c ∷ cs) =
-        let first : meterCalled scale h c .count ≤ longest = below (c ∷ []) in
-        let next : Meter = meterCalled scale h c in
-        let later : largest (countsShown scale next cs) ≤ longest = shown-most next (λ calls. below (c ∷ calls)) cs in
+    shown-most h below (begin ∷ cs) =
+        let first : beginOf h .count ≤ longest = below (begin ∷ []) in
+        let later : largest (countsShown scale (beginOf h) cs) ≤ longest = shown-most (beginOf h) (λ calls. below (begin ∷ calls)) cs in
         omega arith
+    shown-most h below (feed q ∷ cs) =
+        go (eqb (feedOf scale h q .answer .number) «ACCEPTED») (below (feed q ∷ [])) (shown-most (feedOf scale h q .meter) (λ calls. below (feed q ∷ calls)) cs)
+      where
+        go : (t : Bool) → feedOf scale h q .meter .count ≤ longest → largest (countsShown scale (feedOf scale h q .meter) cs) ≤ longest
+            → largest (cond t (feedOf scale h q .meter .count ∷ countsShown scale (feedOf scale h q .meter) cs) (countsShown scale (feedOf scale h q .meter) cs)) ≤ longest
+        go true first later = omega arith
+        go false first later = later
+    shown-most h below (reset ∷ cs) = shown-most (resetOf h) (λ calls. below (reset ∷ calls)) cs
 
     only-feeds : (words : List ℕ) → hasReset (feeds words) ≡ false
     only-feeds [] = refl
@@ -214,8 +223,7 @@ module _ (scale : Scale) (sound : Sound scale) where
     fresh-highest : (words : List ℕ) → meterAfter scale (fresh m) (feeds words) .highest ≡ largest (countsShown scale (fresh m) (feeds words))
     fresh-highest words =
         let at-0 = fresh-at-0 in
-        let covers : Covers (fresh m) = omega arith in
-        let shown = risen scale (fresh m) covers (feeds words) (only-feeds words) in
+        let shown = risen scale (fresh m) (feeds words) (only-feeds words) in
         omega arith
 
     pub worst : Worst scale m longest

@@ -1,11 +1,11 @@
--- The highest of a meter, by any scale: every call but a reset makes it the larger of itself and the count, and a reset the count.
+-- The highest of a meter, by any scale: a begin and a feed that is accepted make it the larger of itself and the count, and a reset the count.
 -- Assumes nothing.
 use Prim.Native.Nat.{ℕ, _≤_, max}
 use mathlib.Core.Bool.{Bool, true, false, cond, true≢false, false≢true}
-use mathlib.Core.Path.{_≡_, refl}
+use mathlib.Core.Path.{_≡_, refl, sym, ap, subst, _∙_}
 use mathlib.Core.List.{List, [], _∷_}
 use native.Mathlib.Omega.{arith}
-use lib.Dec.{ltb}
+use lib.Dec.{ltb, eqb}
 use Rattle.common.specs.Limits.{mostWords}
 use Rattle.common.specs.Numbers.{«ACCEPTED», «TOO_MANY_WORDS», «NO_STEP», «FOREIGN_METER», «WEIGHTS_REFUSED»}
 use Rattle.runs.specs.Weights.{refusesWeights, weightsPlace}
@@ -24,12 +24,14 @@ Covers m = m .count ≤ m .highest
 abbrev AtCount : Meter → Type 0
 AtCount m = m .highest ≡ m .count
 
--- a call that is no reset led from one meter to the other
+-- a call that shows a count led from one meter to the other
 record Risen (m next : Meter) : Type 0 where
   larger : next .highest ≡ max (m .highest) (next .count)
 
+-- a feed of m was accepted and shows a count, or was refused and left m
 record RisenBy (m : Meter) (f : Fed) : Type 0 where
-  risen : Risen m (f .meter)
+  risen : eqb (f .answer .number) «ACCEPTED» ≡ true → Risen m (f .meter)
+  still : eqb (f .answer .number) «ACCEPTED» ≡ false → f .meter ≡ m
 
 held : (count highest : ℕ) → count ≤ highest → highest ≡ max highest count
 held count highest c = omega arith
@@ -54,19 +56,14 @@ module _ (s : Scale) where
   unfolding movedTo
   moved m q = either m (isBegun m) _ _ (either m (s .graph .serves (m .last) q) _ _ (shown m _ _ _) (shown m _ _ _)) (shown m _ _ _)
 
-  fed-by : (m : Meter) (q : ℕ) → Covers m → RisenBy m (feedOf s m q)
+  fed : (m : Meter) (q : ℕ) → RisenBy m (feedOf s m q)
   unfolding feedOf
-  fed-by m q c =
-      let still : Risen m m = record { larger = held (m .count) (m .highest) c } in
-      let stays : (number place : ℕ) → RisenBy m (refusal number place m) = λ number place. record { risen = still } in
-      either-fed m (ltb mostWords (s .graph .size)) _ _ (stays «TOO_MANY_WORDS» 0)
-      (either-fed m (refusesWeights (s .table)) _ _ (stays «WEIGHTS_REFUSED» (weightsPlace (s .table)))
-      (either-fed m (isForeign (s .graph .size) m) _ _ (stays «FOREIGN_METER» 0)
-      (either-fed m (isStray (s .graph) m q) _ (record { meter = movedTo s m q; answer = record { number = «ACCEPTED»; place = 0 } }) (stays «NO_STEP» 0)
-      (record { risen = moved m q }))))
-
-  fed : (m : Meter) (q : ℕ) → Covers m → Risen m (feedOf s m q .meter)
-  fed m q c = fed-by m q c .risen
+  fed m q =
+      either-fed m (ltb mostWords (s .graph .size)) _ _ (record { risen = λ e. absurd (false≢true e); still = λ e. refl })
+      (either-fed m (refusesWeights (s .table)) _ _ (record { risen = λ e. absurd (false≢true e); still = λ e. refl })
+      (either-fed m (isForeign (s .graph .size) m) _ _ (record { risen = λ e. absurd (false≢true e); still = λ e. refl })
+      (either-fed m (isStray (s .graph) m q) _ (record { meter = movedTo s m q; answer = record { number = «ACCEPTED»; place = 0 } }) (record { risen = λ e. absurd (false≢true e); still = λ e. refl })
+      (record { risen = λ e. moved m q; still = λ e. absurd (true≢false e) }))))
 
   begun : (m : Meter) → Risen m (beginOf m)
   unfolding beginOf
@@ -78,7 +75,11 @@ module _ (s : Scale) where
 
   called-covers : (m : Meter) (c : Call) → Covers m → Covers (meterCalled s m c)
   called-covers m begin c = covered (m .highest) (beginOf m .count) (beginOf m .highest) (begun m .larger)
-  called-covers m (feed q) c = covered (m .highest) (feedOf s m q .meter .count) (feedOf s m q .meter .highest) (fed m q c .larger)
+  called-covers m (feed q) c = go (eqb (feedOf s m q .answer .number) «ACCEPTED») refl
+    where
+      go : (t : Bool) → eqb (feedOf s m q .answer .number) «ACCEPTED» ≡ t → Covers (feedOf s m q .meter)
+      go true e = covered (m .highest) (feedOf s m q .meter .count) (feedOf s m q .meter .highest) (fed m q .risen e .larger)
+      go false e = subst Covers (sym (fed m q .still e)) c
   called-covers m reset c = let e = left m in omega arith
 
   -- calls with no reset among them
@@ -86,16 +87,19 @@ module _ (s : Scale) where
   further : (before count highest largest last : ℕ) → highest ≡ max before count → last ≡ max highest largest → last ≡ max before (max count largest)
   further before count highest largest last e d = omega arith
 
-  pub risen : (m : Meter) → Covers m → (cs : List Call) → hasReset cs ≡ false
-      → meterAfter s m cs .highest ≡ max (m .highest) (largest (countsShown s m cs))
-  risen m c [] e = held 0 (m .highest) (omega arith)
-  risen m c (begin ∷ cs) e =
+  pub risen : (m : Meter) (cs : List Call) → hasReset cs ≡ false → meterAfter s m cs .highest ≡ max (m .highest) (largest (countsShown s m cs))
+  risen m [] e = held 0 (m .highest) (omega arith)
+  risen m (begin ∷ cs) e =
       let next : Meter = beginOf m in
-      further (m .highest) (next .count) (next .highest) (largest (countsShown s next cs)) _ (begun m .larger) (risen next (called-covers m begin c) cs e)
-  risen m c (feed q ∷ cs) e =
-      let next : Meter = feedOf s m q .meter in
-      further (m .highest) (next .count) (next .highest) (largest (countsShown s next cs)) _ (fed m q c .larger) (risen next (called-covers m (feed q) c) cs e)
-  risen m c (reset ∷ cs) e = absurd (true≢false e)
+      further (m .highest) (next .count) (next .highest) (largest (countsShown s next cs)) _ (begun m .larger) (risen next cs e)
+  risen m (feed q ∷ cs) e = go (eqb (feedOf s m q .answer .number) «ACCEPTED») refl (risen (feedOf s m q .meter) cs e)
+    where
+      go : (t : Bool) → eqb (feedOf s m q .answer .number) «ACCEPTED» ≡ t
+          → meterAfter s (feedOf s m q .meter) cs .highest ≡ max (feedOf s m q .meter .highest) (largest (countsShown s (feedOf s m q .meter) cs))
+          → meterAfter s (feedOf s m q .meter) cs .highest ≡ max (m .highest) (largest (cond t (feedOf s m q .meter .count ∷ countsShown s (feedOf s m q .meter) cs) (countsShown s (feedOf s m q .meter) cs)))
+      go true d rest = further (m .highest) (feedOf s m q .meter .count) (feedOf s m q .meter .highest) (largest (countsShown s (feedOf s m q .meter) cs)) _ (fed m q .risen d .larger) rest
+      go false d rest = rest ∙ ap (λ (x : Meter). max (x .highest) (largest (countsShown s (feedOf s m q .meter) cs))) (fed m q .still d)
+  risen m (reset ∷ cs) e = absurd (true≢false e)
 
   -- any calls
 
@@ -113,10 +117,14 @@ module _ (s : Scale) where
       go true d later = later d
       go false d later = rw (no-reset (resetOf m) cs d) (left m)
 
-  pub highest-after : (m : Meter) → Covers m → (calls : List Call) → HighestAfter s m calls
-  highest-after m k [] = record { highest = held 0 (m .highest) (omega arith); at-reset = λ e. absurd (false≢true e); since = refl; covers = k }
-  highest-after m k (c ∷ cs) = go (hasReset (c ∷ cs)) refl (highest-after (meterCalled s m c) (called-covers m c k) cs)
+  covers-after : (m : Meter) (cs : List Call) → Covers m → Covers (meterAfter s m cs)
+  covers-after m [] k = k
+  covers-after m (c ∷ cs) k = covers-after (meterCalled s m c) cs (called-covers m c k)
+
+  pub highest-after : (m : Meter) (calls : List Call) → HighestAfter s m calls
+  highest-after m [] = record { highest = held 0 (m .highest) (omega arith); at-reset = λ e. absurd (false≢true e); since = refl; covers = λ k. k }
+  highest-after m (c ∷ cs) = go (hasReset (c ∷ cs)) refl (highest-after (meterCalled s m c) cs)
     where
       go : (t : Bool) → hasReset (c ∷ cs) ≡ t → HighestAfter s (meterCalled s m c) cs → HighestAfter s m (c ∷ cs)
-      go true e rest = record { highest = rw e (rest .highest); at-reset = at-reset m (c ∷ cs); since = rw e (rest .since); covers = rest .covers }
-      go false e rest = record { highest = rw e (risen m k (c ∷ cs) e); at-reset = at-reset m (c ∷ cs); since = rw e; covers = rest .covers }
+      go true e rest = record { highest = rw e (rest .highest); at-reset = at-reset m (c ∷ cs); since = rw e (rest .since); covers = covers-after m (c ∷ cs) }
+      go false e rest = record { highest = rw e (risen m (c ∷ cs) e); at-reset = at-reset m (c ∷ cs); since = rw e; covers = covers-after m (c ∷ cs) }

@@ -38,5 +38,5 @@ pub record Demand3 (ws weights : List ℕ) : Type 0 where
   -- above L."
   pub worst : (marks lengths : ℕ) → numberOf (runOf ws weights marks lengths) ≡ «ACCEPTED» → (m : Meter) → m .services ≤ ceiling
       → Worst (scaleOf ws weights) m (longestOf (runOf ws weights marks lengths))
-  -- and what the highest is after any list of calls, on any meter whose highest is not below its count
-  pub highest : (m : Meter) → m .count ≤ m .highest → (calls : List Call) → HighestAfter (scaleOf ws weights) m calls
+  -- and what the highest is after any list of calls, on any meter
+  pub highest : (m : Meter) (calls : List Call) → HighestAfter (scaleOf ws weights) m calls

@@ -1,19 +1,28 @@
 -- Request C-19, "the highest count a meter has shown, held in the meter", after any list of calls. proofs/Highest.antt proves `HighestAfter`
--- for any meter whose highest is not below its count, as number 11 asks; a meter just begun is one, whatever highest it holds.
+-- for any meter.
 -- Assumes nothing.
 use mathlib.Core.Path.{_≡_}
 use mathlib.Core.Bool.{Bool, true, false, cond}
 use mathlib.Core.List.{List, [], _∷_}
 use Prim.Native.Nat.{ℕ, _≤_, max}
+use lib.Dec.{eqb}
+use Rattle.common.specs.Numbers.{«ACCEPTED»}
 use Rattle.meter.specs.declared.step.Meter.{Meter}
-use Rattle.meter.specs.Feed.{Scale}
+use Rattle.meter.specs.declared.step.Fed.{Fed}
+use Rattle.meter.specs.Feed.{Scale, beginOf, resetOf, feedOf}
 use Rattle.meter.specs.Model.{Call, begin, feed, reset}
 use Rattle.meter.specs.Calls.{meterCalled, meterAfter}
 
--- the counts that a meter shows, one after each call
+-- the count that a feed shows, before those that are shown later: a feed that is refused changes nothing and shows none
+abbrev pub shownBy : Fed → List ℕ → List ℕ
+shownBy f later = cond (eqb (f .answer .number) «ACCEPTED») (f .meter .count ∷ later) later
+
+-- the counts that a meter comes to show, by its begins and its feeds; a reset leaves the count as it is
 abbrev pub countsShown : Scale → Meter → List Call → List ℕ
 countsShown s m [] = []
-countsShown s m (c ∷ cs) = meterCalled s m c .count ∷ countsShown s (meterCalled s m c) cs
+countsShown s m (begin ∷ cs) = beginOf m .count ∷ countsShown s (beginOf m) cs
+countsShown s m (feed q ∷ cs) = shownBy (feedOf s m q) (countsShown s (feedOf s m q .meter) cs)
+countsShown s m (reset ∷ cs) = countsShown s (resetOf m) cs
 
 -- the largest of them, 0 if there is none
 abbrev pub largest : List ℕ → ℕ
@@ -44,5 +53,5 @@ pub record HighestAfter (s : Scale) (m : Meter) (calls : List Call) : Type 0 whe
   pub at-reset : hasReset calls ≡ true → atReset s m calls .highest ≡ atReset s m calls .count
   -- the calls since that moment lead on to the meter after all of them
   pub since : meterAfter s (atReset s m calls) (sinceReset calls) ≡ meterAfter s m calls
-  -- and it is not below the count: number 11 refuses no meter for its highest that it let through before the calls
-  pub covers : meterAfter s m calls .count ≤ meterAfter s m calls .highest
+  -- and it is not below the count if it was not at the start: number 11 refuses no meter for its highest that it let through before the calls
+  pub covers : m .count ≤ m .highest → meterAfter s m calls .count ≤ meterAfter s m calls .highest

@@ -94,7 +94,7 @@ fn one_service(s: u32) -> u32
     CEILING
 }
 
-// Number 11: no meter of a function of n words.
+// Number 11: no meter of a function of n words, or one whose highest is below its count.
 fn is_foreign(n: usize, m: Meter) -> bool
     ensures { λ r. ⌜ r ≡ isForeign n m ⌝ }
 {

@@ -4,6 +4,7 @@ use Rattle.runs.proofs.Steps.{forward}
 use Rattle.runs.proofs.Words.{below}
 use Rattle.runs.proofs.Lawful.{lawful}
 use Rattle.runs.proofs.Lvm.{agreement-holds}
+use Rattle.runs.proofs.Between.{ends, table-refused}
 use Rattle.runs.proofs.Counted.{earlier-run, ones-accepted, ones-weigh}
 use Rattle.runs.proofs.Demand.{demand}
 use Rattle.runs.proofs.Slices.{enough, slices}
@@ -23,4 +24,6 @@ laws =
       ones-accepted = ones-accepted;
       ones-weigh = ones-weigh;
       weights = weight-laws;
+      ends = ends;
+      table-refused = table-refused;
     }

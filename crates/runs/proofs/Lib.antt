@@ -1,3 +1,5 @@
+pub mod Between
+pub mod BothTables
 pub mod Columns
 pub mod Counted
 pub mod Demand
@@ -9,6 +11,7 @@ pub mod Lvm
 pub mod Measures
 pub mod Moves
 pub mod Outcome
+pub mod Searched
 pub mod Slices
 pub mod Steps
 pub mod Turn

@@ -36,6 +36,15 @@ next-unserved p = lt-leb (p + 1) p (omega arith)
 abbrev pub beyondOf : List ℕ → ℕ → ℕ → ℕ
 beyondOf l p q = cond (servesOf p q) 0 (getD l q 0)
 
+-- and the same where p's own place was cleared
+pub beyond-cleared : (l : List ℕ) (p q v : ℕ) → beyondOf (set l p v) p q ≡ beyondOf l p q
+unfolding servesOf
+beyond-cleared l p q v = go (leb q p) refl
+  where
+    go : (b : Bool) → leb q p ≡ b → cond b 0 (getD (set l p v) q 0) ≡ cond b 0 (getD l q 0)
+    go true e = refl
+    go false e = getD-set-other l p q v 0 (λ x. omega (arith, leb-false q p e))
+
 best-ordered : (l : List ℕ) (p q r : ℕ) → best (graphIn l) p (at l) (listOf (ordered q r)) ≡ max (beyondOf l p q) (beyondOf l p r)
 unfolding ordered
 best-ordered l p q r = go (ltb q r) refl (ltb r q) refl

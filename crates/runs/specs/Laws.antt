@@ -15,6 +15,8 @@ use Rattle.runs.specs.Instance.{graphOf}
 use Rattle.runs.specs.Run.{runOf, numberOf}
 use Rattle.runs.specs.Weights.{heaviestWeight, weightOf, refusesWeights, WeightLaws}
 use Rattle.runs.specs.Counted.{ones, EarlierRun}
+use Rattle.runs.specs.Range.{refusesRange}
+use Rattle.runs.specs.Between.{Ends, TableRefused}
 use Rattle.runs.specs.Demand.{Demand}
 use Rattle.runs.specs.Slices.{Slices}
 
@@ -49,3 +51,6 @@ pub record Laws : Type 0 where
   pub ones-weigh : (ws : List ℕ) → weightOf ws ones ≡ unitWeight
   -- what number 18 lets through weighs every word
   pub weights : WeightLaws
+  -- request C-18: every table between two gives a run between theirs, and both ends are reached
+  pub ends : (ws low high : List ℕ) (marks lengths : ℕ) → refusesRange low high ≡ false → Ends ws low high marks lengths
+  pub table-refused : (ws low high : List ℕ) (marks lengths : ℕ) → TableRefused ws low high marks lengths

@@ -6,6 +6,8 @@ pub mod Lvm
 pub mod Instance
 pub mod Weights
 pub mod Run
+pub mod Range
+pub mod Between
 pub mod Counted
 pub mod Demand
 pub mod Slices

@@ -6,7 +6,7 @@ use mathlib.Core.Bool.{cond}
 use mathlib.Core.List.{List}
 use Prim.Native.Nat.{ℕ, _+_, _*_, _%_, _≤_, _<_}
 use lib.Dec.{eqb}
-use lib.ListN.{length, getD}
+use lib.ListN.{length, getD, set}
 use Rattle.common.specs.Limits.{mostWords}
 use Rattle.graph.specs.Graph.{Graph, In, Lawful}
 use Rattle.graph.specs.Longest.{best, lengthOf}
@@ -60,6 +60,10 @@ pub record Measuring (limit : ℕ) (m l : List ℕ) (p a : ℕ) : Type 0 where
 pub record Measures (w : ℕ → ℕ) (m l : List ℕ) (p i v i′ : ℕ) : Type 0 where
   pub length-is : v ≡ lengthIn w m l p
   pub invalid-is : i′ ≡ invalidFrom m l p i
+
+-- two lists differ at p alone: whatever is put there, they are the same
+abbrev pub SameBut : ℕ → List ℕ → List ℕ → Type 0
+SameBut p l l′ = (v : ℕ) → set l′ p v ≡ set l p v
 
 -- what the pass asks: the entries, and the marks of the graph that they hold
 pub record FillAsks (m l : List ℕ) : Type 0 where

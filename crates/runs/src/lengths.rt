@@ -3,14 +3,14 @@
 ghost use mathlib.Core.Path.{_≡_};
 ghost use mathlib.Core.Bool.{cond};
 ghost use mathlib.Core.List.{_++_};
-ghost use Prim.Native.Nat.{_≤_, _<_};
+ghost use Prim.Native.Nat.{_≤_, _<_, max};
 ghost use lib.Dec.{eqb};
-ghost use lib.ListN.{length, getD, drop, replicate};
+ghost use lib.ListN.{length, drop, replicate};
 ghost use Rattle.common.specs.Lowest.{lowest};
 ghost use Rattle.graph.specs.Longest.{most};
 ghost use Rattle.runs.specs.Steps.{servesOf};
 ghost use Rattle.runs.specs.Weights.{weightCount, heaviestWeight, weightOf};
-ghost use Rattle.runs.specs.PassInvariants.{mostWeight, FillAsks, Fills, Measuring, Measures, at};
+ghost use Rattle.runs.specs.PassInvariants.{mostWeight, FillAsks, Fills, Measuring, Measures, SameBut, at};
 use crate::edges::serves;
 use crate::packing::ENTRIES;
 use crate::packing::KIND_NEXT;
@@ -20,15 +20,33 @@ use crate::packing::RETURNS;
 use crate::packing::TARGETS;
 use crate::weighing::weigh;
 
-// What an edge from p to q adds to a segment.
-fn beyond(lengths: &[u32], p: usize, q: usize) -> u32
-    requires { ⌜ q < length (now lengths) ⌝ }
-    ensures { λ r. ⌜ r ≡ cond (servesOf p q) 0 (getD (now (lengths .entry)) q 0) ⌝ }
+// The later of two words.
+fn later(p: usize, q: usize) -> usize
+    ensures { λ r. ⌜ r ≡ cond (servesOf p q) p q ⌝ }
 {
     if serves(p, q) {
-        return 0;
+        return p;
     }
-    lengths[q]
+    q
+}
+
+// What an edge from p to q adds to a segment, where p's own place holds 0: an edge that serves adds what stands there. So the compiler
+// puts no jump here, of which a processor would guess every other one wrong in scattered code.
+fn beyond(lengths: &[u32], p: usize, q: usize) -> u32
+    requires { ⌜ (p < length (now lengths)) × (q < length (now lengths)) × (at (now lengths) p ≡ 0) ⌝ }
+    ensures { λ r. ⌜ r ≡ cond (servesOf p q) 0 (at (now (lengths .entry)) q) ⌝ }
+{
+    lengths[later(p, q)]
+}
+
+// The larger of two lengths.
+fn larger(x: u32, y: u32) -> u32
+    ensures { λ r. ⌜ r ≡ max x y ⌝ }
+{
+    if x < y {
+        return y;
+    }
+    x
 }
 
 // The length of a word, and the lowest reachable invalid word from it on.
@@ -38,10 +56,11 @@ struct Measured {
 }
 
 // Word p, of this weight, measured, where the words above it are, `above` is the length of the next, and `invalid` the lowest invalid one among them.
-// The next word's length is handed on, so that a turn need not wait for what the one before it stored.
+// The next word's length is handed on, so that a turn need not wait for what the one before it stored. What is left at p is for the caller to
+// overwrite.
 fn measure(
     marks: &[u8],
-    lengths: &[u32],
+    lengths: &mut [u32],
     p: usize,
     weight: u32,
     above: u32,
@@ -49,6 +68,7 @@ fn measure(
 ) -> Measured
     requires { ⌜ Measuring mostWeight (now marks) (now lengths) p above × (weight ≤ heaviestWeight) ⌝ }
     ensures { λ r. ⌜ Measures (λ _. weight) (now (marks .entry)) (now (lengths .entry)) p invalid (r .length) (r .invalid) ⌝ }
+    ensures { λ _. ⌜ SameBut p (now (lengths .entry)) (now (lengths .exit)) ⌝ }
 {
     if marks[p] == 0 {
         return Measured { length: 0, invalid };
@@ -73,6 +93,7 @@ fn measure(
             invalid: p,
         };
     }
+    lengths[p] = 0;
     let x = beyond(lengths, p, (entry % TARGETS) as usize);
     if kind == KIND_TARGET {
         return Measured {
@@ -80,14 +101,8 @@ fn measure(
             invalid,
         };
     }
-    if x < above {
-        return Measured {
-            length: above + weight,
-            invalid,
-        };
-    }
     Measured {
-        length: x + weight,
+        length: larger(above, x) + weight,
         invalid,
     }
 }

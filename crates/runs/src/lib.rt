@@ -3,6 +3,7 @@ pub mod edges;
 mod lengths;
 pub mod longest;
 mod packing;
+pub mod range;
 mod search;
 mod settling;
 pub mod successors;
@@ -10,3 +11,5 @@ pub mod weighing;
 
 pub use longest::Run;
 pub use longest::longest_run;
+pub use range::RunRange;
+pub use range::longest_runs;

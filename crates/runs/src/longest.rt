@@ -3,7 +3,8 @@ ghost use mathlib.Core.Path.{_≡_};
 ghost use lib.ListN.{length};
 ghost use Rattle.runs.specs.Run.{runOf, marksAfter, lengthsAfter};
 ghost use Rattle.runs.specs.SearchInvariants.{Lent};
-ghost use Rattle.runs.specs.Outcome.{Decided};
+ghost use Rattle.fields.specs.Table.{opcodeTable};
+ghost use Rattle.runs.specs.Outcome.{Searched, Decided};
 ghost use Rattle.runs.specs.Weights.{weightCount};
 use crate::lengths::clear_lengths;
 use crate::lengths::fill_lengths;
@@ -21,15 +22,21 @@ pub enum Run {
     Refused { number: u8, place: usize },
 }
 
-// The run of words that pass the checks of their number and of the slices.
-fn run_of_words(words: &[u32], weights: &[u8], marks: &mut [u8], lengths: &mut [u32]) -> Run
-    requires { ⌜ Lent (length (now words)) (now marks) (now lengths) × (length (now weights) ≡ weightCount) ⌝ }
-    ensures { λ r. ⌜ Decided (now (words .entry)) (now (weights .entry)) r (now (marks .exit)) (now (lengths .exit)) ⌝ }
+// The entries of the words, in the lengths, and the marks.
+pub(crate) fn search_words(table: &[u8; 512], words: &[u32], marks: &mut [u8], lengths: &mut [u32])
+    requires { ⌜ (now table ≡ opcodeTable) × Lent (length (now words)) (now marks) (now lengths) ⌝ }
+    ensures { λ _. ⌜ Searched (now (words .entry)) (now (marks .exit)) (now (lengths .exit)) ⌝ }
+{
+    settle_edges(table, words, lengths);
+    mark_reachable(marks, lengths);
+}
+
+// The run by a table of weights, of words that are searched: their lengths take the place of their entries.
+pub(crate) fn measure_run(words: &[u32], weights: &[u8], marks: &[u8], lengths: &mut [u32]) -> Run
+    requires { ⌜ Searched (now words) (now marks) (now lengths) × (length (now weights) ≡ weightCount) ⌝ }
+    ensures { λ r. ⌜ Decided (now (words .entry)) (now (weights .entry)) r (now (marks .entry)) (now (lengths .exit)) ⌝ }
 {
     let n = words.len();
-    let table = fields::lookup::table();
-    settle_edges(&table, words, lengths);
-    mark_reachable(marks, lengths);
     let invalid = fill_lengths(words, weights, marks, lengths);
     if invalid < n {
         clear_lengths(lengths, n);
@@ -41,6 +48,16 @@ fn run_of_words(words: &[u32], weights: &[u8], marks: &mut [u8], lengths: &mut [
     let longest = find_longest(lengths, n);
     let first = find_first(lengths, n, longest);
     Run::Accepted { longest, first }
+}
+
+// The run of words that pass the checks of their number and of the slices.
+fn run_of_words(words: &[u32], weights: &[u8], marks: &mut [u8], lengths: &mut [u32]) -> Run
+    requires { ⌜ Lent (length (now words)) (now marks) (now lengths) × (length (now weights) ≡ weightCount) ⌝ }
+    ensures { λ r. ⌜ Decided (now (words .entry)) (now (weights .entry)) r (now (marks .exit)) (now (lengths .exit)) ⌝ }
+{
+    let table = fields::lookup::table();
+    search_words(&table, words, marks, lengths);
+    measure_run(words, weights, marks, lengths)
 }
 
 // The longest run and the lowest word at which it begins, or the first refusal that applies. The slices get, for each word, whether

@@ -1,6 +1,7 @@
 // Cases at the edges of the table of steps and of the longest run. What is printed is held to the stored output.
 mod long;
 mod print;
+mod range;
 mod short;
 mod steps;
 mod words;
@@ -8,5 +9,6 @@ mod words;
 fn main() {
     steps::rows();
     short::runs_of_few();
+    range::runs_by_ranges();
     long::runs_of_many();
 }

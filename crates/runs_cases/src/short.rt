@@ -5,7 +5,7 @@ use fields::opcodes::*;
 use fields::word::OFFSET_SJ;
 use runs::longest_run;
 
-fn slices(marks: &[u8], lengths: &[u32]) {
+pub fn slices(marks: &[u8], lengths: &[u32]) {
     print::text(b" marks");
     print::bytes(marks);
     print::text(b" lengths");
@@ -100,7 +100,7 @@ fn lent(mv: u32, ret: u32) {
 }
 
 // All weights 1, but for one.
-fn but_one(opcode: usize, weight: u8) -> [u8; 128] {
+pub fn but_one(opcode: usize, weight: u8) -> [u8; 128] {
     let mut weights = [1u8; 128];
     if opcode < 128 {
         weights[opcode] = weight;

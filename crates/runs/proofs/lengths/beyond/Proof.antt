@@ -1,12 +1,40 @@
+use mathlib.Core.Path.{_≡_, refl, sym, ap, subst, _∙_}
+use mathlib.Core.Bool.{Bool, true, false, cond}
+use mathlib.Core.List.{List}
+use Prim.Native.Nat.{ℕ, _<_}
+use native.Mathlib.Omega.{arith}
+use lib.ListN.{length}
 use borrow.Author.Needs.{needs}
+use Rattle.runs.specs.Steps.{servesOf}
+use Rattle.runs.specs.PassInvariants.{at}
 use Rattle.runs.proofs.lengths.beyond.Statement.{statement}
 use Rattle.runs.proofs.lengths.beyond.Tie as tie
 
-returns : tie.Need-returns
-returns c = simp (← c .before .serves .ensures, c .if1 .taken)
+-- either of two words, by whether the edge serves
+either-in : (b : Bool) (l : List ℕ) (p q : ℕ) → p < length l → q < length l → cond b p q < length l
+either-in true l p q h k = h
+either-in false l p q h k = k
 
-returns-2 : tie.Need-returns-2
-returns-2 c = simp (← c .before .before .serves .ensures, c .before .if1 .left)
+either-adds : (b : Bool) (l : List ℕ) (p q : ℕ) → at l p ≡ 0 → at l (cond b p q) ≡ cond b 0 (at l q)
+either-adds true l p q e = e
+either-adds false l p q e = refl
+
+-- where the length is read
+module _ (c : tie.After-later) where
+  abbrev start : tie.Start
+  start = c .before .before
+
+  abbrev l : List ℕ
+  l = start .args .lengths .now
+
+  abbrev served : Bool
+  served = servesOf (start .args .p) (start .args .q)
+
+  inside : c .later .result < length l
+  inside = subst (λ (x : ℕ). x < length l) (sym (c .later .ensures)) (either-in served l (start .args .p) (start .args .q) (start .pre .0) (start .pre .1))
+
+  adds : at l (c .later .result) ≡ cond served 0 (at l (start .args .q))
+  adds = ap (at l) (c .later .ensures) ∙ either-adds served l (start .args .p) (start .args .q) (start .pre .2)
 
 pub beyond-spec : {M : Type 1} → statement M
-beyond-spec = tie.close (tie.spec (λ c κs. search needs) returns (λ c. search needs) (λ c. search needs) returns-2)
+beyond-spec = tie.close (tie.spec (λ c κs. search needs) (λ c. omega (arith, inside c)) (λ c. inside (c .before)) (λ c. adds (c .before)))

@@ -42,6 +42,18 @@ module _ (c : tie.In-loop Inv-loop μ-loop) where
   in-words : word < length (start .args .words .now)
   in-words = let f = filling .filled in omega (arith, in-lengths, f .l-same, entries-length (start .args .lengths .now), start .pre .1)
 
+-- the lengths, by another name
+filling-left : {w : ℕ → ℕ} {l₀ m l l′ : List ℕ} {i a v : ℕ} → Filling w l₀ m l i a v → l ≡ l′ → Filling w l₀ m l′ i a v
+filling-left {w} {l₀} {m} {i = i} {a = a} {v = v} f e = subst (λ (x : List ℕ). Filling w l₀ m x i a v) e f
+
+-- the lengths after a turn's measuring
+module _ (c : tie.After-measure Inv-loop μ-loop) where
+  abbrev turn : tie.In-loop Inv-loop μ-loop
+  turn = c .before .before .before .before
+
+  in-measured : word turn < length (c .measure .last .1 .0)
+  in-measured = omega (arith, c .measure .kept .1 .0, in-lengths turn)
+
 pub fill-lengths-spec : {M : Type 1} → statement M
 fill-lengths-spec =
     tie.close
@@ -54,9 +66,9 @@ fill-lengths-spec =
     (λ c. in-words (c .before))
     (λ c κs. start (c .before) .pre .2)
     (λ c κs. let d = c .before .before .before in (filling-asks (w d) heaviestWeight (light d) _ _ _ _ _ _ (filling d), c .before .weigh .ensures .1))
-    (λ c. let d = c .before .before .before .before in omega (arith, in-lengths d))
-    (λ c. in-lengths (c .before .before .before .before))
-    (λ c. omega (arith, c .before .before .before .before .loop-test .taken))
-    (λ c. let d = c .before .before .before .before in filling-more (w d) heaviestWeight (light d) _ _ _ _ _ _ (filling d) (measures-at (w d) _ _ _ _ (c .before .before .weigh .ensures .0) (c .measure .ensures)))
+    (λ c. omega (arith, in-measured (c .before .before)))
+    (λ c. in-measured (c .before .before))
+    (λ c. omega (arith, turn (c .before .before) .loop-test .taken))
+    (λ c. let k = c .before .before in let d = turn k in filling-left (filling-more (w d) heaviestWeight (light d) _ _ _ _ _ _ (filling d) (measures-at (w d) _ _ _ _ (k .before .before .weigh .ensures .0) (k .measure .ensures .0))) (sym (k .measure .ensures .1 _)))
     (λ c. let f = c .before .loop .inv .filled in f .l-same ∙ entries-length _)
     (λ c. filling-done (c .before .loop .inv) (c .loop-test .left)))

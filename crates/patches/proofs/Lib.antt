@@ -1,0 +1,3 @@
+pub mod Needed
+pub mod Patches
+pub mod Reading

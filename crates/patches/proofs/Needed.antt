@@ -1,0 +1,54 @@
+-- Words next to reachable ones may not change, by computing; and of fewer than three words those that are not reachable may, since none of them stands
+-- before a reachable one. Assumes nothing.
+use mathlib.Core.Path.{_≡_, refl}
+use mathlib.Core.List.{List}
+use Prim.Native.Nat.{ℕ, _+_, _<_}
+use native.Mathlib.Omega.{arith}
+use lib.ListN.{length}
+use Rattle.common.specs.Lowest.{lowestFrom}
+use Rattle.common.specs.Numbers.{«ACCEPTED»}
+use Rattle.fields.specs.Table.{classOf, companionOf}
+use Rattle.graph.specs.Graph.{Reachable}
+use Rattle.graph.specs.Marks.{leads, markOf}
+use Rattle.graph.specs.Longest.{within, heaviest, lengthOf, most, longest, first}
+use Rattle.graph.proofs.Laws as graph
+use Rattle.runs.specs.Steps.{unless, one, ordered, two, servesOf}
+use Rattle.runs.specs.Successors.{opcodeAt, isBetween, companionPresent, successorsOf}
+use Rattle.runs.specs.Instance.{graphOf}
+use Rattle.runs.specs.Weights.{lowestZero, refusesWeights}
+use Rattle.runs.specs.Run.{numberOf, lowestInvalid, runOf}
+use Rattle.runs.proofs.Laws.{laws}
+use Rattle.patches.specs.Needed.{smallest, DifferBeforeNone, DifferUnreachable, Needed}
+use Rattle.patches.proofs.Patches.{answer-before-none}
+
+-- word 0 is reachable if any is, and so the lists differ in word 1 at most: the word after it is past the end
+few-before-none : (ws vs : List ℕ) → length ws < smallest → DifferUnreachable ws vs → DifferBeforeNone ws vs
+few-before-none ws vs few differ p h d = (differ p h d, next-out)
+  where
+    next-out : Reachable (graphOf ws) (p + 1) → ⊥
+    next-out r =
+        let inside : p + 1 < length ws = graph.laws .reaching (graphOf ws) (laws .lawful ws) .below (p + 1) r in
+        let first-word : p ≡ 0 = omega (arith, inside, few) in
+        differ p h d (rw first-word (graph.laws .reaching (graphOf ws) (laws .lawful ws) .start (omega (arith, inside))))
+
+none-smaller :
+    (ws vs weights : List ℕ) (m l : ℕ) → length ws < smallest → length ws ≡ length vs → numberOf (runOf ws weights m l) ≡ «ACCEPTED»
+    → DifferUnreachable ws vs → runOf ws weights m l ≡ runOf vs weights m l
+none-smaller ws vs weights m l few count accepted differ = answer-before-none ws vs weights m l count accepted (few-before-none ws vs few differ)
+
+pub needed : Needed
+unfolding unless one ordered two opcodeAt isBetween companionPresent successorsOf servesOf classOf companionOf leads markOf within heaviest lengthOf most lowestFrom longest first lowestZero refusesWeights lowestInvalid runOf
+needed =
+    record {
+      smallest-unreachable = refl;
+      smallest-accepted = refl;
+      smallest-refused = refl;
+      none-smaller = none-smaller;
+      before-unreachable = (refl, refl);
+      before-accepted = refl;
+      before-refused = refl;
+      after-alone = answer-before-none;
+      second-unreachable = (refl, refl, refl);
+      second-accepted = refl;
+      second-refused = refl;
+    }

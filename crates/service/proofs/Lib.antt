@@ -1,0 +1,8 @@
+pub mod Near
+pub mod Cross
+pub mod Slices
+pub mod Writing
+pub mod Outcome
+pub mod Nearest
+pub mod ListedWords
+pub mod Crossings

@@ -1,0 +1,11 @@
+use borrow.Author.Tests.{eq-eqb, ne-eqb, le-leb, lt-leb}
+use Rattle.service.proofs.within.listed.Statement.{statement}
+use Rattle.service.proofs.within.listed.Tie as tie
+
+pub listed-spec : {M : Type 1} → statement M
+listed-spec =
+    tie.close
+    (tie.spec
+    (λ c. rw (eq-eqb _ _ (c .before .if1 .taken), le-leb _ _ (c .if2 .taken)))
+    (λ c. rw (eq-eqb _ _ (c .before .if1 .taken), lt-leb _ _ (c .if2 .left)))
+    (λ c. rw (ne-eqb _ _ (c .if1 .left))))

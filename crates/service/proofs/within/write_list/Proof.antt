@@ -1,0 +1,31 @@
+use Prim.Native.Nat.{_-_}
+use native.Mathlib.Omega.{arith}
+use borrow.Author.Needs.{needs}
+use Rattle.service.specs.Pass.{listedBy}
+use Rattle.service.proofs.Writing.{Writing, writing-none, writing-more, writing-done}
+use Rattle.service.proofs.within.write_list.Statement.{statement}
+use Rattle.service.proofs.within.write_list.Tie as tie
+
+abbrev Inv-loop : tie.InvT-loop
+Inv-loop n d marks lengths list₀ i₀ list i = Writing (listedBy d marks lengths) n list₀ list i
+
+abbrev μ-loop : tie.MeasureT-loop
+μ-loop n d marks lengths list₀ i₀ list i = n - i
+
+pub write-list-spec : {M : Type 1} → statement M
+write-list-spec =
+    tie.close
+    (tie.spec
+    Inv-loop
+    μ-loop
+    (λ c. writing-none _ _ _ (c .before .before .before .pre .2))
+    (λ c. let s = c .before .before .before .before .before .before in omega (arith, c .before .loop-test .taken, s .pre .0))
+    (λ c. let s = c .before .before .before .before .before .before in omega (arith, c .before .loop-test .taken, s .pre .1))
+    (λ c. let s = c .before .before .before .before .before .before .before in omega (arith, c .before .before .loop-test .taken, s .pre .1))
+    (λ c κs. search needs)
+    (λ c. let v = c .before .before .before .before .loop .inv in omega (arith, c .before .before .before .loop-test .taken, v .same, v .long))
+    (λ c. omega (arith, c .before .before .before .loop-test .taken))
+    (λ c. omega (arith, c .before .before .before .loop-test .taken))
+    (λ c. writing-more _ _ _ (c .before .before .before .before .loop .inv) (c .before .before .before .loop-test .taken) (c .listed .ensures))
+    (λ c. c .before .loop .inv .same)
+    (λ c. writing-done _ _ _ (c .before .loop .inv) (c .loop-test .left)))

@@ -1,0 +1,7 @@
+-- Request C-22: the distance to service, and crossing edges.
+pub mod Questions
+pub mod Nearest
+pub mod ListedWords
+pub mod Crossings
+pub mod Flat
+pub mod Pass

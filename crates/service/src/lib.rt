@@ -1,0 +1,13 @@
+// Over runs, by its public functions: how far each word is from a service, and how many edges pass over a word (request C-22).
+pub mod crossing;
+pub mod distance;
+pub mod exported;
+mod pass;
+mod unit;
+pub mod within;
+
+pub use crossing::Crossed;
+pub use crossing::crossing_edges;
+pub use distance::Nearest;
+pub use distance::distance_to_service;
+pub use within::list_within;

@@ -1,0 +1,281 @@
+-- A case and its executions agree: tests of the 83 opcodes, which antt computes, and what they say of any cell.
+-- Assumes nothing.
+use Prim.Native.Nat.{ℕ, _+_, _<_}
+use mathlib.Core.Path.{_≡_, refl, ap, sym, subst, _∙_}
+use mathlib.Core.Logic.{_⊎_, inl, inr, ⊎-elim, _↔_}
+use mathlib.Core.Bool.{Bool, true, false, cond}
+use mathlib.Core.List.{List, [], _∷_}
+use native.Mathlib.Omega.{arith}
+use lib.Dec.{T, eqb, eqb→eq}
+use Rattle.fields.specs.declared.word.RawInstruction54.{RawInstruction54}
+use Rattle.fields.specs.Laws.{all}
+use Rattle.fields.proofs.Laws.{laws}
+use Rattle.touches.specs.Operands.{Operand, «R[A]», «R[A+1]», «R[A+2]», «R[A+3]», locationOf}
+use Rattle.touches.specs.Cases.{Accesses, accessesOf}
+use Rattle.touches.specs.Table.{numberOf, operandFrom}
+use Rattle.touches.specs.Executions.{Cell, register, constant, upvalue, upToTop, Access, names, Way, waysOf, wayReads, wayStores, Any, All}
+use Rattle.touches.proofs.Rows.{operand-back}
+use Rattle.touches.proofs.Choices.{every, some, left-of, right-of, one-of, any-to, any-map, all-map, every-any, every-all, some-any, some-all}
+use Rattle.touches.proofs.Cells.{At, kind, index, one-register, meant, named}
+use Rattle.touches.proofs.Ways.{goOf, leads}
+use Rattle.touches.proofs.Sorts.{bars, barred, topsLast}
+
+-- Operands in lists
+
+abbrev isSame : Operand → Operand → Bool
+isSame x y = eqb (numberOf x) (numberOf y)
+
+is-same : (x y : Operand) → T (isSame x y) → x ≡ y
+is-same x y t = sym (operand-back x) ∙ (ap operandFrom (eqb→eq (numberOf x) (numberOf y) t) ∙ operand-back y)
+
+abbrev has : List Operand → Operand → Bool
+has xs x = some (isSame x) xs
+
+abbrev meants : List Access → List Operand
+meants [] = []
+meants (x ∷ xs) = meant x ∷ meants xs
+
+abbrev reads : Way → List Operand
+reads w = meants (wayReads w)
+
+abbrev stores : Way → List Operand
+stores w = meants (wayStores w)
+
+-- two operands that never stand for the same cell: the control variable of a numeric loop and what is below it
+abbrev isApart : Operand → Operand → Bool
+isApart x y = cond (has («R[A]» ∷ «R[A+1]» ∷ «R[A+2]» ∷ []) x) (has («R[A+3]» ∷ []) y) false
+
+-- The tests of a case
+
+abbrev allRead : Accesses → List Way → Bool
+allRead a ways = every (λ (w : Way). every (has (a .reads)) (reads w)) ways
+
+abbrev readSomewhere : Accesses → List Way → Bool
+readSomewhere a ways = every (λ (x : Operand). some (λ (w : Way). has (reads w) x) ways) (a .reads)
+
+-- what a way stores is written on every way, or listed with the edge that it leads over
+abbrev listedStore : Accesses → Way → Operand → Bool
+listedStore a w x = cond (has (a .writes) x) true (cond (leads (a .edge) (goOf w)) (has (a .«edge-writes») x) false)
+
+abbrev allListed : Accesses → List Way → Bool
+allListed a ways = every (λ (w : Way). every (listedStore a w) (stores w)) ways
+
+abbrev writtenOnAll : Accesses → List Way → Bool
+writtenOnAll a ways = every (λ (w : Way). every (has (stores w)) (a .writes)) ways
+
+abbrev writtenOverEdge : Accesses → List Way → Bool
+writtenOverEdge a ways =
+    every (λ (x : Operand). some (λ (w : Way). cond (leads (a .edge) (goOf w)) (has (stores w) x) false) ways) (a .«edge-writes»)
+
+-- what is listed with an edge is not written on some way
+abbrev missing : Operand → List Way → Bool
+missing x ways = some (λ (w : Way). every (isApart x) (stores w)) ways
+
+abbrev notOnAll : Accesses → List Way → Bool
+notOnAll a ways = every (λ (x : Operand). missing x ways) (a .«edge-writes»)
+
+-- what an answer has no list for
+abbrev isListed : Accesses → Bool
+isListed a =
+    cond (every (bars 1) (a .writes))
+    (cond (every (bars 1) (a .«edge-writes»)) (cond (every (bars 2) (a .«edge-writes»)) (every (bars 3) (a .«edge-writes»)) false) false)
+    false
+
+abbrev tests : Accesses → List Way → List Bool
+tests a ways =
+    allRead a ways
+    ∷ readSomewhere a ways
+    ∷ allListed a ways
+    ∷ writtenOnAll a ways
+    ∷ writtenOverEdge a ways
+    ∷ notOnAll a ways
+    ∷ some (λ (w : Way). true) ways
+    ∷ isListed a
+    ∷ topsLast (a .reads)
+    ∷ topsLast (a .writes)
+    ∷ []
+
+pub record Agrees (a : Accesses) (ways : List Way) : Type 0 where
+  pub all-read : T (allRead a ways)
+  pub read-somewhere : T (readSomewhere a ways)
+  pub all-listed : T (allListed a ways)
+  pub written-on-all : T (writtenOnAll a ways)
+  pub written-over-edge : T (writtenOverEdge a ways)
+  pub not-on-all : T (notOnAll a ways)
+  pub some-way : T (some (λ (w : Way). true) ways)
+  pub no-constants : T (every (bars 1) (a .writes))
+  pub no-edge-constants : T (every (bars 1) (a .«edge-writes»))
+  pub no-edge-upvalues : T (every (bars 2) (a .«edge-writes»))
+  pub no-edge-tops : T (every (bars 3) (a .«edge-writes»))
+  pub one-read-top : T (topsLast (a .reads))
+  pub one-written-top : T (topsLast (a .writes))
+
+abbrev passes : List Bool → Bool
+passes [] = true
+passes (b ∷ bs) = cond b (passes bs) false
+
+agrees-by : (a : Accesses) (ways : List Way) → T (passes (tests a ways)) → Agrees a ways
+agrees-by a ways t =
+    let t2 = right-of (allRead a ways) _ t in
+    let t3 = right-of (readSomewhere a ways) _ t2 in
+    let t4 = right-of (allListed a ways) _ t3 in
+    let t5 = right-of (writtenOnAll a ways) _ t4 in
+    let t6 = right-of (writtenOverEdge a ways) _ t5 in
+    let t7 = right-of (notOnAll a ways) _ t6 in
+    let t8 = right-of (some (λ (w : Way). true) ways) _ t7 in
+    let t9 = right-of (isListed a) _ t8 in
+    let t10 = right-of (topsLast (a .reads)) _ t9 in
+    let l = left-of (isListed a) _ t8 in
+    let l2 = right-of (every (bars 1) (a .writes)) _ l in
+    let l3 = right-of (every (bars 1) (a .«edge-writes»)) _ l2 in
+    record {
+      all-read = left-of (allRead a ways) _ t;
+      read-somewhere = left-of (readSomewhere a ways) _ t2;
+      all-listed = left-of (allListed a ways) _ t3;
+      written-on-all = left-of (writtenOnAll a ways) _ t4;
+      written-over-edge = left-of (writtenOverEdge a ways) _ t5;
+      not-on-all = left-of (notOnAll a ways) _ t6;
+      some-way = left-of (some (λ (w : Way). true) ways) _ t7;
+      no-constants = left-of (every (bars 1) (a .writes)) _ l;
+      no-edge-constants = left-of (every (bars 1) (a .«edge-writes»)) _ l2;
+      no-edge-upvalues = left-of (every (bars 2) (a .«edge-writes»)) _ l3;
+      no-edge-tops = right-of (every (bars 2) (a .«edge-writes»)) _ l3;
+      one-read-top = left-of (topsLast (a .reads)) _ t9;
+      one-written-top = left-of (topsLast (a .writes)) _ t10;
+    }
+
+agrees-at : ℕ → Bool
+agrees-at o = passes (tests (accessesOf o) (waysOf o))
+
+agrees-below : T (all agrees-at 128)
+unfolding agrees-at accessesOf waysOf
+agrees-below = tt
+
+pub agree : (o : ℕ) → o < 128 → Agrees (accessesOf o) (waysOf o)
+unfolding agrees-at
+agree o h = agrees-by (accessesOf o) (waysOf o) (laws .each-below agrees-at 128 agrees-below o h)
+
+-- What the tests say of a cell c in a word i, between pi and ni
+
+module _ (i pi ni : RawInstruction54) (c : Cell) where
+  -- the cell is one that the operand stands for
+  abbrev pub Is : Operand → Type 0
+  Is x = At c (locationOf x i (pi .a) (ni .ax))
+
+  abbrev Touched : List Access → Type 0
+  Touched xs = Any (names i pi ni c) xs
+
+  from-accesses : (xs : List Access) → Touched xs → Any Is (meants xs)
+  from-accesses [] t = t
+  from-accesses (x ∷ xs) t = ⊎-elim (λ h. inl (named i pi ni c x .0 h)) (λ h. inr (from-accesses xs h)) t
+
+  into-accesses : (xs : List Access) → Any Is (meants xs) → Touched xs
+  into-accesses [] t = t
+  into-accesses (x ∷ xs) t = ⊎-elim (λ h. inl (named i pi ni c x .1 h)) (λ h. inr (into-accesses xs h)) t
+
+  -- an operand of a list
+  found : (x : Operand) (xs : List Operand) → T (has xs x) → Is x → Any Is xs
+  found x xs t h = some-any Is (isSame x) xs t (λ y s. subst Is (is-same x y s) h)
+
+  -- operands that are apart stand for no common cell
+  low : (x : Operand) → T (has («R[A]» ∷ «R[A+1]» ∷ «R[A+2]» ∷ []) x) → Is x → index c < i .a + 3
+  low x t h =
+      ⊎-elim (λ e. omega (arith, ap index (one-register (i .a) (i .a + 1) (omega arith) c .1 e)))
+      (⊎-elim (λ e. omega (arith, ap index (one-register (i .a + 1) (i .a + 2) (omega arith) c .1 e)))
+      (⊎-elim (λ e. omega (arith, ap index (one-register (i .a + 2) (i .a + 3) (omega arith) c .1 e))) (λ b. absurd b)))
+      (found x («R[A]» ∷ «R[A+1]» ∷ «R[A+2]» ∷ []) t h)
+
+  high : (y : Operand) → T (has («R[A+3]» ∷ []) y) → Is y → index c ≡ i .a + 3
+  high y t h =
+      ⊎-elim (λ e. ap index (one-register (i .a + 3) (i .a + 4) (omega arith) c .1 e)) (λ b. absurd b) (found y («R[A+3]» ∷ []) t h)
+
+  apart : (x y : Operand) → T (isApart x y) → Is x → Is y → ⊥
+  apart x y t h k =
+      let below = low x (left-of (has («R[A]» ∷ «R[A+1]» ∷ «R[A+2]» ∷ []) x) _ t) h in
+      let above = high y (right-of (has («R[A]» ∷ «R[A+1]» ∷ «R[A+2]» ∷ []) x) _ t) k in
+      omega (arith, below, above)
+
+  module _ (a : Accesses) (ways : List Way) (agrees : Agrees a ways) where
+    abbrev ReadOn : Way → Type 0
+    ReadOn w = Touched (wayReads w)
+
+    abbrev StoredOn : Way → Type 0
+    StoredOn w = Touched (wayStores w)
+
+    pub reads-from : Any ReadOn ways → Any Is (a .reads)
+    reads-from r =
+        every-any ReadOn (λ (w : Way). every (has (a .reads)) (reads w)) ways (agrees .all-read) r
+        (λ w t h. every-any Is (has (a .reads)) (reads w) t (from-accesses (wayReads w) h) (λ x s g. found x (a .reads) s g))
+
+    pub reads-into : Any Is (a .reads) → Any ReadOn ways
+    reads-into r =
+        every-any Is (λ (x : Operand). some (λ (w : Way). has (reads w) x) ways) (a .reads) (agrees .read-somewhere) r
+        (λ x t h. some-any ReadOn (λ (w : Way). has (reads w) x) ways t (λ w s. into-accesses (wayReads w) (found x (reads w) s h)))
+
+    on-all : (x : Operand) → T (has (a .writes) x) → Is x → Any Is (a .writes)
+    on-all x t h = found x (a .writes) t h
+
+    -- what is written on every way
+    every-way : Any Is (a .writes) → All StoredOn ways
+    every-way r =
+        every-all StoredOn (λ (w : Way). every (has (stores w)) (a .writes)) ways (agrees .written-on-all)
+        (λ w t. into-accesses (wayStores w) (every-any Is (has (stores w)) (a .writes) t r (λ x s h. found x (stores w) s h)))
+
+    -- what is listed with an edge is not
+    not-every-way : Any Is (a .«edge-writes») → All StoredOn ways → ⊥
+    not-every-way r all =
+        every-any Is (λ (x : Operand). missing x ways) (a .«edge-writes») (agrees .not-on-all) r
+        (λ x t h.
+        some-all StoredOn (λ (w : Way). every (isApart x) (stores w)) ways t all
+        (λ w s k. every-any Is (isApart x) (stores w) s (from-accesses (wayStores w) k) (λ y u g. apart x y u h g)))
+
+    -- a store is listed
+    listed : (w : Way) → T (every (listedStore a w) (stores w)) → StoredOn w → Any Is (a .writes) ⊎ (T (leads (a .edge) (goOf w)) × Any Is (a .«edge-writes»))
+    listed w t k =
+        every-any Is (listedStore a w) (stores w) t (from-accesses (wayStores w) k)
+        (λ x s h.
+        ⊎-elim (λ u. inl (found x (a .writes) u h))
+        (λ u. inr (left-of (leads (a .edge) (goOf w)) _ u, found x (a .«edge-writes») (right-of (leads (a .edge) (goOf w)) _ u) h))
+        (one-of (has (a .writes) x) _ s))
+
+    pub writes-from : Any StoredOn ways × All StoredOn ways → Any Is (a .writes)
+    writes-from r =
+        every-any StoredOn (λ (w : Way). every (listedStore a w) (stores w)) ways (agrees .all-listed) (r .0)
+        (λ w t k. ⊎-elim (λ h. h) (λ (h : T (leads (a .edge) (goOf w)) × Any Is (a .«edge-writes»)). absurd (not-every-way (h .1) (r .1))) (listed w t k))
+
+    pub writes-into : Any Is (a .writes) → Any StoredOn ways × All StoredOn ways
+    writes-into r = (some-of ways (agrees .some-way) (every-way r), every-way r)
+      where
+        some-of : (ws : List Way) → T (some (λ (w : Way). true) ws) → All StoredOn ws → Any StoredOn ws
+        some-of [] t all = absurd t
+        some-of (w ∷ ws) t all = inl (all .0)
+
+    -- over the edge, for what it means that a way leads to a word
+    module _ (Leads : Way → Type 0) where
+      pub edge-from :
+          {Q : Type 0} → Any (λ (w : Way). Leads w × StoredOn w) ways → (All StoredOn ways → ⊥) →
+          ((w : Way) → Leads w → T (leads (a .edge) (goOf w)) → Any Is (a .«edge-writes») → Q) → Q
+      edge-from r none f =
+          every-any (λ (w : Way). Leads w × StoredOn w) (λ (w : Way). every (listedStore a w) (stores w)) ways (agrees .all-listed) r
+          (λ w t (k : Leads w × StoredOn w).
+          ⊎-elim (λ h. absurd (none (every-way h))) (λ (h : T (leads (a .edge) (goOf w)) × Any Is (a .«edge-writes»)). f w (k .0) (h .0) (h .1))
+          (listed w t (k .1)))
+
+      pub edge-into :
+          ((w : Way) → T (leads (a .edge) (goOf w)) → Leads w) → Any Is (a .«edge-writes») →
+          Any (λ (w : Way). Leads w × StoredOn w) ways × (All StoredOn ways → ⊥)
+      edge-into over r = (
+        every-any Is (λ (x : Operand). some (λ (w : Way). cond (leads (a .edge) (goOf w)) (has (stores w) x) false) ways) (a .«edge-writes») (agrees .written-over-edge) r
+            (λ x t h.
+            some-any (λ (w : Way). Leads w × StoredOn w) (λ (w : Way). cond (leads (a .edge) (goOf w)) (has (stores w) x) false) ways t
+            (λ w s. (
+              over w (left-of (leads (a .edge) (goOf w)) _ s),
+              into-accesses (wayStores w) (found x (stores w) (right-of (leads (a .edge) (goOf w)) _ s) h),
+            ))),
+        not-every-way r,
+      )
+
+    -- kinds that an answer has no list for
+    pub never : (k : ℕ) (xs : List Operand) → T (every (bars k) xs) → kind c ≡ k → Any Is xs → ⊥
+    never k xs t e r =
+        every-any Is (bars k) xs t r (λ x s h. barred i (pi .a) (ni .ax) c x (subst (λ (m : ℕ). T (bars m x)) (sym e) s) h)

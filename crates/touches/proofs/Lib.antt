@@ -1,0 +1,14 @@
+pub mod Order
+pub mod Ranges
+pub mod Rising
+pub mod Unique
+pub mod Rows
+pub mod Answers
+pub mod Choices
+pub mod Cells
+pub mod Ways
+pub mod Sorts
+pub mod Agree
+pub mod Whole
+pub mod Meaning
+pub mod Laws

@@ -1,0 +1,363 @@
+-- lvm.c of Lua 5.4.8 once more, for what a word touches, in the C's own shape and order: for each case of
+-- luaV_execute's switch the ways on, and on each way the executions that take it, with what they read and what they
+-- store. specs/Meaning.antt says that the lists of specs/Touches.antt are those that follow from here: "the
+-- registers, constants and upvalues that lvm.c reads and writes in some execution". An execution that ends in an
+-- error goes on nowhere and is left out.
+-- Assumes nothing.
+use Prim.Native.Nat.{ℕ, suc, _+_, _-_, _≤_, _<_}
+use mathlib.Core.Path.{_≡_}
+use mathlib.Core.Logic.{_⊎_}
+use mathlib.Core.Bool.{cond}
+use mathlib.Core.List.{List, [], _∷_, _++_}
+use lib.Dec.{eqb}
+use lib.IntN.{ℤ, pos, _+ℤ_, _-ℤ_}
+use lib.ListN.{getD}
+use Rattle.fields.specs.declared.word.RawInstruction54.{RawInstruction54}
+use Rattle.fields.specs.Opcodes.{«OP_MOVE», «OP_LOADI», «OP_LOADF», «OP_LOADK», «OP_LOADKX», «OP_LOADFALSE», «OP_LFALSESKIP», «OP_LOADTRUE», «OP_LOADNIL», «OP_GETUPVAL», «OP_SETUPVAL», «OP_GETTABUP», «OP_GETTABLE», «OP_GETI», «OP_GETFIELD», «OP_SETTABUP», «OP_SETTABLE», «OP_SETI», «OP_SETFIELD», «OP_NEWTABLE», «OP_SELF», «OP_ADDI», «OP_ADDK», «OP_SUBK», «OP_MULK», «OP_MODK», «OP_POWK», «OP_DIVK», «OP_IDIVK», «OP_BANDK», «OP_BORK», «OP_BXORK», «OP_SHRI», «OP_SHLI», «OP_ADD», «OP_SUB», «OP_MUL», «OP_MOD», «OP_POW», «OP_DIV», «OP_IDIV», «OP_BAND», «OP_BOR», «OP_BXOR», «OP_SHR», «OP_SHL», «OP_MMBIN», «OP_MMBINI», «OP_MMBINK», «OP_UNM», «OP_BNOT», «OP_NOT», «OP_LEN», «OP_CONCAT», «OP_CLOSE», «OP_TBC», «OP_JMP», «OP_EQ», «OP_LT», «OP_LE», «OP_EQK», «OP_EQI», «OP_LTI», «OP_LEI», «OP_GTI», «OP_GEI», «OP_TEST», «OP_TESTSET», «OP_CALL», «OP_TAILCALL», «OP_RETURN», «OP_RETURN0», «OP_RETURN1», «OP_FORLOOP», «OP_FORPREP», «OP_TFORPREP», «OP_TFORCALL», «OP_TFORLOOP», «OP_SETLIST», «OP_CLOSURE», «OP_VARARG», «OP_VARARGPREP», «OP_EXTRAARG»}
+use Rattle.graph.specs.Graph.{In}
+use Rattle.fields.specs.Lopcodes.{«GET_OPCODE», «GETARG_Bx», «GETARG_sJ», «TESTARG_k», instruction}
+
+-- What can be touched.
+pub data Cell : Type 0 where
+  register : ℕ → Cell
+  constant : ℕ → Cell
+  upvalue : ℕ → Cell
+  -- the registers from this one up to the stack top, however high that is
+  upToTop : ℕ → Cell
+
+-- What a case reads or stores, as the C names it.
+pub data Access : Type 0 where
+  «ra» : Access
+  «ra+1» : Access
+  «ra+2» : Access
+  «ra+3» : Access
+  «ra+4» : Access
+  vRB : Access
+  vRC : Access
+  RKC : Access
+  KB : Access
+  KC : Access
+  -- k + GETARG_Bx(i)
+  «k+Bx» : Access
+  -- k + GETARG_Ax(*pc)
+  «k+Ax» : Access
+  -- RA(pi), where pi is *(pc - 2)
+  «RA-pi» : Access
+  -- cl->upvals[GETARG_A(i)]
+  «upvals[A]» : Access
+  -- cl->upvals[GETARG_B(i)]
+  «upvals[B]» : Access
+  -- do { setnilvalue(s2v(ra++)); } while (b--);
+  nils : Access
+  -- "CALL, TAILCALL, TFORCALL and CONCAT go by their formulas in lopcodes.h": R[A].. ... ..R[A + B - 1]
+  pieces : Access
+  -- R[A+1], ... ,R[A+B-1], "if (B == 0) then B = top - A"
+  arguments : Access
+  -- R[A], ... ,R[A+C-2], "if (C == 0), then 'top' is set to last_result+1"; of VARARG the values that luaT_getvarargs
+  -- copies, C - 1 or all
+  results : Access
+  -- R[A+4], ... ,R[A+3+C]
+  iterated : Access
+  -- the n values from ra on that luaD_poscall moves: n = GETARG_B(i) - 1, or L->top.p - ra
+  returned : Access
+  -- for (; n > 0; n--) { TValue *val = s2v(ra + n); .. }, where n = GETARG_B(i), or L->top.p - ra - 1
+  elements : Access
+
+-- A cell that an access names in the word i, by lopcodes.h's macros; pi is the word before i, ni the one after it.
+abbrev pub names : RawInstruction54 → RawInstruction54 → RawInstruction54 → Cell → Access → Type 0
+names i pi ni c «ra» = c ≡ register (i .a)
+names i pi ni c «ra+1» = c ≡ register (i .a + 1)
+names i pi ni c «ra+2» = c ≡ register (i .a + 2)
+names i pi ni c «ra+3» = c ≡ register (i .a + 3)
+names i pi ni c «ra+4» = c ≡ register (i .a + 4)
+names i pi ni c vRB = c ≡ register (i .b)
+names i pi ni c vRC = c ≡ register (i .c)
+-- #define RKC(i)  ((TESTARG_k(i)) ? k + GETARG_C(i) : s2v(base + GETARG_C(i)))
+names i pi ni c RKC = ((i .k ≡ 0) × (c ≡ register (i .c))) ⊎ ((i .k ≡ 0 → ⊥) × (c ≡ constant (i .c)))
+names i pi ni c KB = c ≡ constant (i .b)
+names i pi ni c KC = c ≡ constant (i .c)
+names i pi ni c «k+Bx» = c ≡ constant (i .bx)
+names i pi ni c «k+Ax» = c ≡ constant (ni .ax)
+names i pi ni c «RA-pi» = c ≡ register (pi .a)
+names i pi ni c «upvals[A]» = c ≡ upvalue (i .a)
+names i pi ni c «upvals[B]» = c ≡ upvalue (i .b)
+names i pi ni c nils = (j : ℕ) × ((j ≤ i .b) × (c ≡ register (i .a + j)))
+names i pi ni c pieces = (j : ℕ) × ((j < i .b) × (c ≡ register (i .a + j)))
+names i pi ni c arguments =
+    ((i .b ≡ 0) × (c ≡ upToTop (i .a + 1))) ⊎ ((j : ℕ) × (((0 < j) × (j < i .b)) × (c ≡ register (i .a + j))))
+names i pi ni c results = ((i .c ≡ 0) × (c ≡ upToTop (i .a))) ⊎ ((j : ℕ) × ((j + 1 < i .c) × (c ≡ register (i .a + j))))
+names i pi ni c iterated = (j : ℕ) × ((j < i .c) × (c ≡ register (i .a + 4 + j)))
+names i pi ni c returned = ((i .b ≡ 0) × (c ≡ upToTop (i .a))) ⊎ ((j : ℕ) × ((j + 1 < i .b) × (c ≡ register (i .a + j))))
+names i pi ni c elements =
+    ((i .b ≡ 0) × (c ≡ upToTop (i .a + 1))) ⊎ ((j : ℕ) × (((0 < j) × (j ≤ i .b)) × (c ≡ register (i .a + j))))
+
+-- How a case goes on, pc being past the word.
+pub data Go : Type 0 where
+  vmbreak : Go
+  «pc++» : Go
+  -- if (TESTARG_k(i)) { ..; pc++; }
+  «pc++-if-k» : Go
+  -- dojump(ci, i, 0)
+  dojump : Go
+  -- the JMP at pc is done at once, which document 01 takes for a step of its own
+  donextjump : Go
+  -- pc -= GETARG_Bx(i)
+  «pc-=Bx» : Go
+  -- pc += GETARG_Bx(i) + 1
+  «pc+=Bx+1» : Go
+  -- pc += GETARG_Bx(i); i = *(pc++); goto l_tforcall;
+  l_tforcall : Go
+  -- i = *(pc++); goto l_tforloop;
+  l_tforloop : Go
+  -- goto ret, or for a tail call of a Lua function goto startfunc
+  leave : Go
+
+-- the word that is executed next, if this function goes on
+abbrev pub next : Go → ℤ → ℕ → List ℤ
+next vmbreak pc i = pc ∷ []
+next «pc++» pc i = (pc +ℤ pos 1) ∷ []
+next «pc++-if-k» pc i = cond (eqb («TESTARG_k» i) 0) pc (pc +ℤ pos 1) ∷ []
+next dojump pc i = (pc +ℤ («GETARG_sJ» i +ℤ pos 0)) ∷ []
+next donextjump pc i = pc ∷ []
+next «pc-=Bx» pc i = (pc -ℤ pos («GETARG_Bx» i)) ∷ []
+next «pc+=Bx+1» pc i = (pc +ℤ (pos («GETARG_Bx» i) +ℤ pos 1)) ∷ []
+next l_tforcall pc i = (pc +ℤ pos («GETARG_Bx» i)) ∷ []
+next l_tforloop pc i = pc ∷ []
+next leave pc i = []
+
+-- An execution of a case: what it reads, and what it stores.
+pub data Execution : Type 0 where
+  run : List Access → List Access → Execution
+
+-- A way on, and the executions that take it.
+pub data Way : Type 0 where
+  way : Go → List Execution → Way
+
+abbrev straight : List Access → List Access → List Way
+straight reads stores = way vmbreak (run reads stores ∷ []) ∷ []
+
+-- the next word is an extra argument, or skipped
+abbrev skipping : List Access → List Access → List Way
+skipping reads stores = way «pc++» (run reads stores ∷ []) ∷ []
+
+-- #define op_arithI(L,iop,fop); SHRI and SHLI have it written out
+abbrev op_arithI : List Way
+op_arithI =
+    way «pc++» (run (vRB ∷ []) («ra» ∷ []) ∷ [])
+    ∷ way vmbreak (run (vRB ∷ []) [] ∷ [])
+    ∷ []
+
+-- #define op_arith_aux(L,v1,v2,iop,fop) and its like: a test of v1 that fails ends the test of v2
+abbrev op_arith_aux : Access → Access → List Way
+op_arith_aux v1 v2 =
+    way «pc++» (run (v1 ∷ v2 ∷ []) («ra» ∷ []) ∷ [])
+    ∷ way vmbreak (run (v1 ∷ []) [] ∷ run (v1 ∷ v2 ∷ []) [] ∷ [])
+    ∷ []
+
+-- op_arith, op_arithf, op_bitwise
+abbrev op_arith : List Way
+op_arith = op_arith_aux vRB vRC
+
+-- op_arithK, op_arithfK, op_bitwiseK
+abbrev op_arithK : List Way
+op_arithK = op_arith_aux vRB KC
+
+-- #define docondjump()  if (cond != GETARG_k(i)) pc++; else donextjump(ci);
+abbrev docondjump : List Access → List Way
+docondjump reads = way «pc++» (run reads [] ∷ []) ∷ way donextjump (run reads [] ∷ []) ∷ []
+
+pub data Case : Type 0 where
+  vmcase : ℕ → List Way → Case
+
+-- the cases, in the C's order
+abbrev pub switch : List Case
+switch =
+    vmcase «OP_MOVE» (straight (vRB ∷ []) («ra» ∷ []))
+    ∷ vmcase «OP_LOADI» (straight [] («ra» ∷ []))
+    ∷ vmcase «OP_LOADF» (straight [] («ra» ∷ []))
+    ∷ vmcase «OP_LOADK» (straight («k+Bx» ∷ []) («ra» ∷ []))
+    ∷ vmcase «OP_LOADKX» (skipping («k+Ax» ∷ []) («ra» ∷ []))
+    ∷ vmcase «OP_LOADFALSE» (straight [] («ra» ∷ []))
+    ∷ vmcase «OP_LFALSESKIP» (skipping [] («ra» ∷ []))
+    ∷ vmcase «OP_LOADTRUE» (straight [] («ra» ∷ []))
+    ∷ vmcase «OP_LOADNIL» (straight [] (nils ∷ []))
+    ∷ vmcase «OP_GETUPVAL» (straight («upvals[B]» ∷ []) («ra» ∷ []))
+    ∷ vmcase «OP_SETUPVAL» (straight («ra» ∷ []) («upvals[B]» ∷ []))
+    -- setobj2s(L, ra, slot), or luaV_finishget(L, upval, rc, ra, slot), which stores to ra too; so the other gets
+    ∷ vmcase «OP_GETTABUP» (straight («upvals[B]» ∷ KC ∷ []) («ra» ∷ []))
+    ∷ vmcase «OP_GETTABLE» (straight (vRB ∷ vRC ∷ []) («ra» ∷ []))
+    ∷ vmcase «OP_GETI» (straight (vRB ∷ []) («ra» ∷ []))
+    ∷ vmcase «OP_GETFIELD» (straight (vRB ∷ KC ∷ []) («ra» ∷ []))
+    -- luaV_finishfastset(L, upval, slot, rc), or luaV_finishset: into the table; so the other sets
+    ∷ vmcase «OP_SETTABUP» (straight («upvals[A]» ∷ KB ∷ RKC ∷ []) [])
+    ∷ vmcase «OP_SETTABLE» (straight («ra» ∷ vRB ∷ RKC ∷ []) [])
+    ∷ vmcase «OP_SETI» (straight («ra» ∷ RKC ∷ []) [])
+    ∷ vmcase «OP_SETFIELD» (straight («ra» ∷ KB ∷ RKC ∷ []) [])
+    ∷ vmcase «OP_NEWTABLE» (skipping [] («ra» ∷ []))
+    ∷ vmcase «OP_SELF» (straight (vRB ∷ RKC ∷ []) («ra+1» ∷ «ra» ∷ []))
+    ∷ vmcase «OP_ADDI» op_arithI
+    ∷ vmcase «OP_ADDK» op_arithK
+    ∷ vmcase «OP_SUBK» op_arithK
+    ∷ vmcase «OP_MULK» op_arithK
+    ∷ vmcase «OP_MODK» op_arithK
+    ∷ vmcase «OP_POWK» op_arithK
+    ∷ vmcase «OP_DIVK» op_arithK
+    ∷ vmcase «OP_IDIVK» op_arithK
+    ∷ vmcase «OP_BANDK» op_arithK
+    ∷ vmcase «OP_BORK» op_arithK
+    ∷ vmcase «OP_BXORK» op_arithK
+    ∷ vmcase «OP_SHRI» op_arithI
+    ∷ vmcase «OP_SHLI» op_arithI
+    ∷ vmcase «OP_ADD» op_arith
+    ∷ vmcase «OP_SUB» op_arith
+    ∷ vmcase «OP_MUL» op_arith
+    ∷ vmcase «OP_MOD» op_arith
+    ∷ vmcase «OP_POW» op_arith
+    ∷ vmcase «OP_DIV» op_arith
+    ∷ vmcase «OP_IDIV» op_arith
+    ∷ vmcase «OP_BAND» op_arith
+    ∷ vmcase «OP_BOR» op_arith
+    ∷ vmcase «OP_BXOR» op_arith
+    ∷ vmcase «OP_SHR» op_arith
+    ∷ vmcase «OP_SHL» op_arith
+    -- luaT_trybinTM(L, s2v(ra), rb, result, tm), where result is RA(pi); so the other two
+    ∷ vmcase «OP_MMBIN» (straight («ra» ∷ vRB ∷ []) («RA-pi» ∷ []))
+    ∷ vmcase «OP_MMBINI» (straight («ra» ∷ []) («RA-pi» ∷ []))
+    ∷ vmcase «OP_MMBINK» (straight («ra» ∷ KB ∷ []) («RA-pi» ∷ []))
+    -- a number, or luaT_trybinTM(L, rb, rb, ra, ..), which stores to ra too; so BNOT and LEN
+    ∷ vmcase «OP_UNM» (straight (vRB ∷ []) («ra» ∷ []))
+    ∷ vmcase «OP_BNOT» (straight (vRB ∷ []) («ra» ∷ []))
+    ∷ vmcase «OP_NOT» (straight (vRB ∷ []) («ra» ∷ []))
+    ∷ vmcase «OP_LEN» (straight (vRB ∷ []) («ra» ∷ []))
+    ∷ vmcase «OP_CONCAT» (straight (pieces ∷ []) («ra» ∷ []))
+    -- "What closing and VARARGPREP touch .. is left out"
+    ∷ vmcase «OP_CLOSE» (straight [] [])
+    -- luaF_newtbcupval(L, ra): "TBC and TFORPREP read the register they mark"
+    ∷ vmcase «OP_TBC» (straight («ra» ∷ []) [])
+    ∷ vmcase «OP_JMP» (way dojump (run [] [] ∷ []) ∷ [])
+    ∷ vmcase «OP_EQ» (docondjump («ra» ∷ vRB ∷ []))
+    -- op_order
+    ∷ vmcase «OP_LT» (docondjump («ra» ∷ vRB ∷ []))
+    ∷ vmcase «OP_LE» (docondjump («ra» ∷ vRB ∷ []))
+    ∷ vmcase «OP_EQK» (docondjump («ra» ∷ KB ∷ []))
+    ∷ vmcase «OP_EQI» (docondjump («ra» ∷ []))
+    -- op_orderI
+    ∷ vmcase «OP_LTI» (docondjump («ra» ∷ []))
+    ∷ vmcase «OP_LEI» (docondjump («ra» ∷ []))
+    ∷ vmcase «OP_GTI» (docondjump («ra» ∷ []))
+    ∷ vmcase «OP_GEI» (docondjump («ra» ∷ []))
+    ∷ vmcase «OP_TEST» (docondjump («ra» ∷ []))
+    -- if (l_isfalse(rb) == GETARG_k(i)) pc++; else { setobj2s(L, ra, rb); donextjump(ci); }
+    ∷ vmcase «OP_TESTSET»
+    (way «pc++» (run (vRB ∷ []) [] ∷ [])
+    ∷ way donextjump (run (vRB ∷ []) («ra» ∷ []) ∷ [])
+    ∷ [])
+    ∷ vmcase «OP_CALL» (straight («ra» ∷ arguments ∷ []) (results ∷ []))
+    ∷ vmcase «OP_TAILCALL» (way leave (run («ra» ∷ arguments ∷ []) [] ∷ []) ∷ [])
+    ∷ vmcase «OP_RETURN» (way leave (run (returned ∷ []) [] ∷ []) ∷ [])
+    ∷ vmcase «OP_RETURN0» (way leave (run [] [] ∷ []) ∷ [])
+    -- no result asked for, or setobjs2s(L, base - 1, ra)
+    ∷ vmcase «OP_RETURN1» (way leave (run [] [] ∷ run («ra» ∷ []) [] ∷ []) ∷ [])
+    -- an integer loop, a float loop (floatforloop); then the same where the loop ends
+    ∷ vmcase «OP_FORLOOP»
+    (way «pc-=Bx»
+    (run («ra+2» ∷ «ra+1» ∷ «ra» ∷ []) («ra+1» ∷ «ra» ∷ «ra+3» ∷ [])
+    ∷ run («ra+2» ∷ «ra+1» ∷ «ra» ∷ []) («ra» ∷ «ra+3» ∷ [])
+    ∷ [])
+    ∷ way vmbreak
+    (run («ra+2» ∷ «ra+1» ∷ []) []
+    ∷ run («ra+2» ∷ «ra+1» ∷ «ra» ∷ []) []
+    ∷ [])
+    ∷ [])
+    -- forprep: an integer loop, which sets its control variable first of all, a float loop; first where the loop is
+    -- skipped
+    ∷ vmcase «OP_FORPREP»
+    (way «pc+=Bx+1»
+    (run («ra» ∷ «ra+2» ∷ «ra+1» ∷ []) («ra+3» ∷ [])
+    ∷ run («ra» ∷ «ra+1» ∷ «ra+2» ∷ []) []
+    ∷ [])
+    ∷ way vmbreak
+    (run («ra» ∷ «ra+2» ∷ «ra+1» ∷ []) («ra+3» ∷ «ra+1» ∷ [])
+    ∷ run («ra» ∷ «ra+1» ∷ «ra+2» ∷ []) («ra+1» ∷ «ra+2» ∷ «ra» ∷ «ra+3» ∷ [])
+    ∷ [])
+    ∷ [])
+    ∷ vmcase «OP_TFORPREP» (way l_tforcall (run («ra+3» ∷ []) [] ∷ []) ∷ [])
+    ∷ vmcase «OP_TFORCALL» (way l_tforloop (run («ra» ∷ «ra+1» ∷ «ra+2» ∷ []) (iterated ∷ []) ∷ []) ∷ [])
+    -- if (!ttisnil(s2v(ra + 4))) { setobjs2s(L, ra + 2, ra + 4); pc -= GETARG_Bx(i); }
+    ∷ vmcase «OP_TFORLOOP»
+    (way «pc-=Bx» (run («ra+4» ∷ []) («ra+2» ∷ []) ∷ [])
+    ∷ way vmbreak (run («ra+4» ∷ []) [] ∷ [])
+    ∷ [])
+    ∷ vmcase «OP_SETLIST» (way «pc++-if-k» (run («ra» ∷ elements ∷ []) [] ∷ []) ∷ [])
+    -- ".. and CLOSURE captures is left out"
+    ∷ vmcase «OP_CLOSURE» (straight [] («ra» ∷ []))
+    ∷ vmcase «OP_VARARG» (straight [] (results ∷ []))
+    ∷ vmcase «OP_VARARGPREP» (straight [] [])
+    -- lua_assert(0)
+    ∷ vmcase «OP_EXTRAARG» (straight [] [])
+    ∷ []
+
+abbrev pub vmdispatch : List Case → ℕ → List Way
+-- the switch has no such case, and no default
+vmdispatch [] o = straight [] []
+vmdispatch (vmcase opcode ways ∷ cases) o = cond (eqb o opcode) ways (vmdispatch cases o)
+
+unfoldable pub waysOf : ℕ → List Way
+waysOf opcode = vmdispatch switch opcode
+
+-- Word p of the words, `i = *(pc++)`: its ways, and the words to which they lead.
+abbrev pub waysAt : List ℕ → ℕ → List Way
+waysAt ws p = waysOf («GET_OPCODE» (getD ws p 0))
+
+abbrev pub nexts : List Way → ℤ → ℕ → List ℤ
+nexts [] pc i = []
+nexts (way go runs ∷ ways) pc i = next go pc i ++ nexts ways pc i
+
+-- What is touched in some execution.
+
+abbrev pub Any : {X : Type 0} → (X → Type 0) → List X → Type 0
+Any P [] = ⊥
+Any P (x ∷ xs) = P x ⊎ Any P xs
+
+abbrev pub All : {X : Type 0} → (X → Type 0) → List X → Type 0
+All P [] = Unit {0}
+All P (x ∷ xs) = P x × All P xs
+
+abbrev pub readsOf : List Execution → List Access
+readsOf [] = []
+readsOf (run reads stores ∷ runs) = reads ++ readsOf runs
+
+abbrev pub storesOf : List Execution → List Access
+storesOf [] = []
+storesOf (run reads stores ∷ runs) = stores ++ storesOf runs
+
+-- on a way, by some execution that takes it
+abbrev pub wayReads : Way → List Access
+wayReads (way go runs) = readsOf runs
+
+abbrev pub wayStores : Way → List Access
+wayStores (way go runs) = storesOf runs
+
+-- the cell is named by one of the accesses, in word p
+abbrev pub Touched : List ℕ → ℕ → Cell → List Access → Type 0
+Touched ws p c accesses = Any (names (instruction (getD ws p 0)) (instruction (getD ws (p - 1) 0)) (instruction (getD ws (p + 1) 0)) c) accesses
+
+-- read by some execution of word p
+abbrev pub Reads : List ℕ → ℕ → Cell → Type 0
+Reads ws p c = Any (λ (w : Way). Touched ws p c (wayReads w)) (waysAt ws p)
+
+-- written on every way on: listed plainly
+abbrev pub WrittenOnAll : List ℕ → ℕ → Cell → Type 0
+WrittenOnAll ws p c =
+    Any (λ (w : Way). Touched ws p c (wayStores w)) (waysAt ws p) × All (λ (w : Way). Touched ws p c (wayStores w)) (waysAt ws p)
+
+-- the way leads to word z
+abbrev pub LeadsTo : List ℕ → ℕ → ℤ → Way → Type 0
+LeadsTo ws p z (way go runs) = In z (next go (pos (p + 1)) (getD ws p 0))
+
+-- "A write that happens on one step only .. is listed with that step": written on a way that leads to word z, and not
+-- on every way
+abbrev pub WrittenOnlyTo : List ℕ → ℕ → Cell → ℤ → Type 0
+WrittenOnlyTo ws p c z =
+    Any (λ (w : Way). LeadsTo ws p z w × Touched ws p c (wayStores w)) (waysAt ws p)
+    × (All (λ (w : Way). Touched ws p c (wayStores w)) (waysAt ws p) → ⊥)

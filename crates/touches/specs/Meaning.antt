@@ -1,0 +1,104 @@
+-- What the answer says, in document 02's words: that it has the form asked for, and that it lists exactly what lvm.c
+-- touches (specs/Executions.antt). proofs/Meaning.antt proves it for every word.
+-- Assumes nothing.
+use Prim.Native.Nat.{ℕ, _+_, _≤_, _<_}
+use mathlib.Core.Path.{_≡_}
+use mathlib.Core.Logic.{_⊎_, _↔_}
+use mathlib.Core.Bool.{true, false}
+use mathlib.Core.List.{List, [], _∷_}
+use lib.IntN.{ℤ, pos}
+use lib.ListN.{length, getD, take}
+use Rattle.graph.specs.Graph.{In}
+use Rattle.runs.specs.Steps.{isInvalid}
+use Rattle.runs.specs.Successors.{successorsOf, isSuccessor}
+use Rattle.runs.specs.Lvm.{goesOn}
+use Rattle.touches.specs.declared.answer.Range.{Range}
+use Rattle.touches.specs.declared.answer.Ranges.{Ranges}
+use Rattle.touches.specs.declared.answer.Indices.{Indices}
+use Rattle.touches.specs.declared.answer.Top.{Top}
+use Rattle.touches.specs.declared.answer.Touches.{Touches}
+use Rattle.touches.specs.Touches.{touchesBy, touchesOf}
+use Rattle.touches.specs.Executions.{Cell, register, constant, upvalue, upToTop, waysAt, nexts, Reads, WrittenOnAll, WrittenOnlyTo}
+
+-- the items up to the count
+abbrev pub rangesIn : Ranges → List Range
+rangesIn r = take (r .count) (r .items)
+
+abbrev pub numbersIn : Indices → List ℕ
+numbersIn r = take (r .count) (r .items)
+
+-- a register of one of the ranges
+abbrev pub Within : ℕ → List Range → Type 0
+Within q [] = ⊥
+Within q (x ∷ xs) = ((x .first ≤ q) × (q ≤ x .last)) ⊎ Within q xs
+
+-- "Each list rises without repeats; registers stand in longest ranges": between two ranges there is a register that
+-- is in neither
+abbrev pub GapAfter : ℕ → List Range → Type 0
+GapAfter last [] = Unit {0}
+GapAfter last (x ∷ xs) = last + 1 < x .first
+
+abbrev pub Longest : List Range → Type 0
+Longest [] = Unit {0}
+Longest (x ∷ xs) = (x .first ≤ x .last) × (GapAfter (x .last) xs × Longest xs)
+
+abbrev pub Past : ℕ → List ℕ → Type 0
+Past q [] = Unit {0}
+Past q (x ∷ xs) = q < x
+
+abbrev pub Rising : List ℕ → Type 0
+Rising [] = Unit {0}
+Rising (x ∷ xs) = Past x xs × Rising xs
+
+-- these are the longest ranges, since no other such list has the same registers
+abbrev pub OnlyOne : Type 0
+OnlyOne = (xs ys : List Range) → Longest xs → Longest ys → ((q : ℕ) → Within q xs ↔ Within q ys) → xs ≡ ys
+
+-- An answer's lists, each in its form, and none longer than its array, so that nothing is dropped
+pub record Form (t : Touches) : Type 0 where
+  pub reads : Longest (rangesIn (t .reads)) × (t .reads .count ≤ 3)
+  pub constants : Rising (numbersIn (t .constants)) × (t .constants .count ≤ 3)
+  pub upvalues : Rising (numbersIn (t .upvalues)) × (t .upvalues .count ≤ 3)
+  pub writes : Longest (rangesIn (t .writes)) × (t .writes .count ≤ 3)
+  pub «upvalue-writes» : Rising (numbersIn (t .«upvalue_writes»)) × (t .«upvalue_writes» .count ≤ 3)
+  pub «edge-writes» : Longest (rangesIn (t .«edge_writes»)) × (t .«edge_writes» .count ≤ 3)
+
+-- What an answer names: as read, as written on every way on, and as written on one way on only.
+
+abbrev pub UpFrom : Top → ℕ → Type 0
+UpFrom t first = (t .count ≡ 1) × (t .first ≡ first)
+
+abbrev pub NamedRead : Touches → Cell → Type 0
+NamedRead t (register q) = Within q (rangesIn (t .reads))
+NamedRead t (constant q) = In q (numbersIn (t .constants))
+NamedRead t (upvalue q) = In q (numbersIn (t .upvalues))
+NamedRead t (upToTop first) = UpFrom (t .«reads_to_top») first
+
+abbrev pub NamedWritten : Touches → Cell → Type 0
+NamedWritten t (register q) = Within q (rangesIn (t .writes))
+-- an answer has no list of these: nothing of the kind occurs
+NamedWritten t (constant q) = ⊥
+NamedWritten t (upvalue q) = In q (numbersIn (t .«upvalue_writes»))
+NamedWritten t (upToTop first) = UpFrom (t .«writes_to_top») first
+
+abbrev pub NamedOnEdge : Touches → Cell → Type 0
+NamedOnEdge t (register q) = Within q (rangesIn (t .«edge_writes»))
+NamedOnEdge t (constant q) = ⊥
+NamedOnEdge t (upvalue q) = ⊥
+NamedOnEdge t (upToTop first) = ⊥
+
+-- A word that is not bad: its lists are exactly what lvm.c touches, where lvm.c's ways on are those of runs
+pub record Exact (ws : List ℕ) (p : ℕ) : Type 0 where
+  pub ways : nexts (waysAt ws p) (pos (p + 1)) (getD ws p 0) ≡ goesOn ws p
+  pub reads : (c : Cell) → NamedRead (touchesOf ws p) c ↔ Reads ws p c
+  pub writes : (c : Cell) → NamedWritten (touchesOf ws p) c ↔ WrittenOnAll ws p c
+  pub «edge-writes» : (c : Cell) (z : ℤ) → (NamedOnEdge (touchesOf ws p) c × (z ≡ pos (touchesOf ws p .edge))) ↔ WrittenOnlyTo ws p c z
+  -- "listed with that step": one of the word's, by document 01's table
+  pub edge : 0 < touchesOf ws p .«edge_writes» .count → isSuccessor ws p (touchesOf ws p .edge) ≡ true
+
+pub record Meaning : Type 0 where
+  pub form : (ws : List ℕ) (p : ℕ) → Form (touchesOf ws p)
+  pub «only-one» : OnlyOne
+  pub exact : (ws : List ℕ) (p : ℕ) → isInvalid (successorsOf ws p) ≡ false → Exact ws p
+  -- "A bad word touches nothing", nor does a word number of n or more, which has no steps either
+  pub bad : (ws : List ℕ) (p : ℕ) → isInvalid (successorsOf ws p) ≡ true → touchesOf ws p ≡ touchesBy [] [] 0 []
