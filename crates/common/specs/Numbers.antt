@@ -1,4 +1,4 @@
--- Document 01, "Refused inputs": the number of each condition, by name, beside the document's words.
+-- Document 01, "Refused inputs", and document 02: the number of each condition, by name, beside the document's words.
 -- Assumes nothing.
 use Prim.Native.Nat.{ℕ}
 
@@ -54,6 +54,24 @@ abbrev pub «MALFORMED_LINE» : ℕ
 abbrev pub «TOO_MANY_LINES» : ℕ
 «TOO_MANY_LINES» = 13
 
+-- request C-11: "a header byte that differs"
+abbrev pub «HEADER_DIFFERS» : ℕ
+«HEADER_DIFFERS» = 14
+
+-- request C-11: "the bytes end early, a word, constant or upvalue count exceeds 01's limits, a number overflows lundump.c's own limit, a
+-- constant string is absent, the chunk passes 4,294,967,295 bytes or the chosen function does not exist"
+abbrev pub «MALFORMED_CHUNK» : ℕ
+«MALFORMED_CHUNK» = 15
+
+-- request C-11: "a level 33, met at the count that needs it"
+abbrev pub «TOO_DEEP» : ℕ
+«TOO_DEEP» = 16
+
+-- request C-15: "on every course from word 0 each register named as read was a parameter or was named as written earlier on that course"; a word
+-- where that is broken
+abbrev pub «UNSET_REGISTER» : ℕ
+«UNSET_REGISTER» = 17
+
 -- request C-17: "a weight count other than 128, or a weight of 0"
 abbrev pub «WEIGHTS_REFUSED» : ℕ
 «WEIGHTS_REFUSED» = 18
@@ -73,3 +91,7 @@ abbrev pub «BUDGET_RANGE» : ℕ
 -- request C-20: "a feed after which the sum would be above S"
 abbrev pub «OVER_BUDGET» : ℕ
 «OVER_BUDGET» = 22
+
+-- request C-21: "a script count, q or choice out of range"
+abbrev pub «OUT_OF_RANGE» : ℕ
+«OUT_OF_RANGE» = 23

@@ -1,4 +1,4 @@
-// Document 01, "Refused inputs": each condition's number, by name. specs/Numbers.antt has the same for definitions.
+// Document 01, "Refused inputs", and document 02: each condition's number, by name. specs/Numbers.antt has the same for definitions.
 
 pub const ACCEPTED: u8 = 0;
 
@@ -38,6 +38,18 @@ pub const MALFORMED_LINE: u8 = 12;
 // Line 4,097 exists.
 pub const TOO_MANY_LINES: u8 = 13;
 
+// Request C-11: a header byte of a chunk differs.
+pub const HEADER_DIFFERS: u8 = 14;
+
+// Request C-11: a chunk ends early, or has a count or a number over its limit, an absent constant string, too many bytes or no such function.
+pub const MALFORMED_CHUNK: u8 = 15;
+
+// Request C-11: a chunk's functions need a level 33.
+pub const TOO_DEEP: u8 = 16;
+
+// Request C-15: a register is read that is no parameter and that some path has not set.
+pub const UNSET_REGISTER: u8 = 17;
+
 // Request C-17: a weight count other than 128, or a weight of 0.
 pub const WEIGHTS_REFUSED: u8 = 18;
 
@@ -52,3 +64,6 @@ pub const BUDGET_RANGE: u8 = 21;
 
 // Request C-20: after the feed the sum of the counts would be above the budget.
 pub const OVER_BUDGET: u8 = 22;
+
+// Request C-21: a script count, q or choice out of range.
+pub const OUT_OF_RANGE: u8 = 23;
