@@ -4,7 +4,6 @@ use Prim.Native.Nat.{ℕ, _+_, _≤_}
 use mathlib.Core.Bool.{Bool, true, false, cond, not, _&&_, true≢false}
 use mathlib.Core.Path.{_≡_, refl, sym, ap, subst, _∙_}
 use mathlib.Core.List.{List, [], _∷_}
-use native.Mathlib.Omega.{arith}
 use lib.Dec.{ltb, eqb}
 use lib.ListN.{length}
 use borrow.Author.Tests.{eqb-true}
@@ -132,11 +131,6 @@ numbers-alone s m (begin ∷ cs) = numbers-alone s (beginOf m) cs
 numbers-alone s m (feed q ∷ cs) = ap (λ (l : List ℕ). feedOf s m q .answer .number ∷ l) (numbers-alone s (feedOf s m q .meter) cs)
 numbers-alone s m (reset ∷ cs) = numbers-alone s (resetOf m) cs
 
--- number 11 refuses no meter just begun for its highest
-begun-covers : (m : Meter) → beginOf m ≡ m → m .count ≤ m .highest
-unfolding beginOf
-begun-covers m e = let none : m .count ≡ 0 = sym (ap (λ (z : Meter). z .count) e) in omega arith
-
 module _ (words weights : ℕ → List ℕ) (ms : Meters) (calls : List FourCall) (i : ℕ) (i-script : i ≤ 3) (few : length (words i) ≤ mostWords) (weighs : Weighs (weights i)) (b : JustBegun (meterOf ms i)) where
   abbrev g : Scripts
   g = scriptsOf words weights
@@ -157,7 +151,7 @@ module _ (words weights : ℕ → List ℕ) (ms : Meters) (calls : List FourCall
         last = ap (λ (m : Meter). m .last) same ∙ f .last;
         count = ap (λ (m : Meter). m .count) same ∙ f .count;
         services = ap (λ (m : Meter). m .services) same ∙ f .services;
-        highest = d .highest (meterOf ms i) (begun-covers (meterOf ms i) (b .begun)) own;
+        highest = d .highest (meterOf ms i) own;
       }
 
 pub alone : Claim.Alone
