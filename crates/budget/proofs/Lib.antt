@@ -1,4 +1,5 @@
 pub mod Meters
+pub mod Own
 pub mod View
 pub mod Alone
 pub mod Never

@@ -57,6 +57,10 @@ refusedFour number ms = record { meters = ms; answer = record { number = number;
 abbrev pub changedFour : Meters → ℕ → Meter → FedFour
 changedFour ms i m = record { meters = withMeter ms i m; answer = record { number = «ACCEPTED»; place = 0 } }
 
+-- what script i has of a call: its own meter, and the answer
+abbrev pub ownOf : ℕ → FedFour → Fed
+ownOf i r = record { meter = meterOf (r .meters) i; answer = r .answer }
+
 -- "20 a script number above 3, first, also at begin and reset"
 unfoldable pub beginFourOf : Meters → ℕ → FedFour
 beginFourOf ms i = refuseIf (ltb lastScript i) (refusedFour «NO_SCRIPT» ms) (changedFour ms i (beginOf (meterOf ms i)))

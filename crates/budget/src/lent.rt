@@ -4,7 +4,7 @@ ghost use Rattle.meter.specs.Feed.{scaleOf};
 ghost use Rattle.budget.specs.Four.{beginFourOf, resetFourOf, feedFourOf};
 use crate::step::Meters;
 use crate::step::begin_four;
-use crate::step::feed_four;
+use crate::step::feed_own;
 use crate::step::reset_four;
 use meter::FeedAnswer;
 
@@ -41,7 +41,21 @@ pub extern "C" fn lawendeb_feed_four(
 ) -> FeedAnswer
     ensures { λ r. ⌜ (r ≡ feedFourOf (scaleOf (now (words .entry)) (now (weights .entry))) (now (ms .entry)) script budget q .answer) × (now (ms .exit) ≡ feedFourOf (scaleOf (now (words .entry)) (now (weights .entry))) (now (ms .entry)) script budget q .meters) ⌝ }
 {
-    let f = feed_four(words, weights, *ms, script, budget, q);
-    *ms = f.meters;
+    let f = feed_own(words, weights, *ms, script, budget, q);
+    match script {
+        0 => {
+            ms.axis = f.meter;
+        }
+        1 => {
+            ms.focuser = f.meter;
+        }
+        2 => {
+            ms.dome = f.meter;
+        }
+        3 => {
+            ms.guider = f.meter;
+        }
+        _ => {}
+    }
     f.answer
 }

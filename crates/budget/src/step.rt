@@ -1,8 +1,9 @@
 // Begin, feed and reset one of four scripts, by value: four meters go in, four come out.
 ghost use mathlib.Core.Path.{_≡_};
 ghost use mathlib.Core.Bool.{cond};
-ghost use Rattle.meter.specs.Feed.{scaleOf};
-ghost use Rattle.budget.specs.Four.{meterOf, withMeter, sumOf, isOutOfRange, refusedFour, beginFourOf, resetFourOf, settleFour, feedFourOf};
+ghost use Prim.Native.Nat.{_≤_};
+ghost use Rattle.meter.specs.Feed.{scaleOf, refusal};
+ghost use Rattle.budget.specs.Four.{lastScript, meterOf, withMeter, sumOf, isOutOfRange, refusedFour, ownOf, beginFourOf, resetFourOf, settleFour, feedFourOf};
 use meter::Fed;
 use meter::FeedAnswer;
 use meter::Meter;
@@ -41,7 +42,42 @@ pub struct FedFour {
     pub answer: FeedAnswer,
 }
 
-// By value and one field at a time: where the fields are returned from branches, the four are copied to memory and loaded again.
+// Field by field: where a whole meter is returned from an arm, the four are copied to memory and loaded again.
+fn meter_of(ms: Meters, script: u32) -> Meter
+    ensures { λ r. ⌜ r ≡ meterOf ms script ⌝ }
+{
+    match script {
+        0 => Meter {
+            begun: ms.axis.begun,
+            last: ms.axis.last,
+            count: ms.axis.count,
+            services: ms.axis.services,
+            highest: ms.axis.highest,
+        },
+        1 => Meter {
+            begun: ms.focuser.begun,
+            last: ms.focuser.last,
+            count: ms.focuser.count,
+            services: ms.focuser.services,
+            highest: ms.focuser.highest,
+        },
+        2 => Meter {
+            begun: ms.dome.begun,
+            last: ms.dome.last,
+            count: ms.dome.count,
+            services: ms.dome.services,
+            highest: ms.dome.highest,
+        },
+        _ => Meter {
+            begun: ms.guider.begun,
+            last: ms.guider.last,
+            count: ms.guider.count,
+            services: ms.guider.services,
+            highest: ms.guider.highest,
+        },
+    }
+}
+
 fn choose(t: bool, new: Meter, old: Meter) -> Meter
     ensures { λ r. ⌜ r ≡ cond t new old ⌝ }
 {
@@ -49,14 +85,6 @@ fn choose(t: bool, new: Meter, old: Meter) -> Meter
         return new;
     }
     old
-}
-
-fn meter_of(ms: Meters, script: u32) -> Meter
-    ensures { λ r. ⌜ r ≡ meterOf ms script ⌝ }
-{
-    let last = choose(script == 2, ms.dome, ms.guider);
-    let later = choose(script == 1, ms.focuser, last);
-    choose(script == 0, ms.axis, later)
 }
 
 fn with_meter(ms: Meters, script: u32, m: Meter) -> Meters
@@ -111,6 +139,16 @@ fn refused(ms: Meters, number: u64) -> FedFour
     }
 }
 
+// The same of the fed script's meter.
+fn turned_back(m: Meter, number: u64) -> Fed
+    ensures { λ r. ⌜ r ≡ refusal number 0 m ⌝ }
+{
+    Fed {
+        meter: m,
+        answer: FeedAnswer { number, place: 0 },
+    }
+}
+
 pub fn begin_four(ms: Meters, script: u32) -> FedFour
     ensures { λ r. ⌜ r ≡ beginFourOf ms script ⌝ }
 {
@@ -147,30 +185,51 @@ pub fn reset_four(ms: Meters, script: u32) -> FedFour
     }
 }
 
-// What the script's own feed answered, and then number 22.
-fn settle(ms: Meters, script: u32, budget: u32, f: Fed) -> FedFour
-    ensures { λ r. ⌜ r ≡ settleFour ms script budget f ⌝ }
+// What the script's own feed of its meter m answered, and then number 22.
+fn settle(ms: Meters, script: u32, budget: u32, m: Meter, f: Fed) -> Fed
+    requires { ⌜ (script ≤ lastScript) × (m ≡ meterOf ms script) ⌝ }
+    ensures { λ r. ⌜ r ≡ ownOf script (settleFour ms script budget f) ⌝ }
 {
     let answer = f.answer;
     if answer.number != ACCEPTED {
-        return FedFour {
-            meters: ms,
+        return Fed {
+            meter: m,
             answer: answer,
         };
     }
-    let m = f.meter;
-    let next = with_meter(ms, script, m);
-    let after = sum(next);
+    let moved = f.meter;
+    let after = sum(with_meter(ms, script, moved));
     if wide(budget) < after {
-        return refused(ms, OVER_BUDGET);
+        return turned_back(m, OVER_BUDGET);
     }
-    FedFour {
-        meters: next,
-        answer: answer,
-    }
+    f
 }
 
-// A feed of word q of the script, whose words and weights are lent, within the budget.
+// A feed of word q of the script, whose words and weights are lent, within the budget: the script's own meter after it. The others stay.
+pub fn feed_own(
+    words: &[u32],
+    weights: &[u8],
+    ms: Meters,
+    script: u32,
+    budget: u32,
+    q: usize,
+) -> Fed
+    ensures { λ r. ⌜ r ≡ ownOf script (feedFourOf (scaleOf (now (words .entry)) (now (weights .entry))) ms script budget q) ⌝ }
+{
+    let m = meter_of(ms, script);
+    let no_script = LAST_SCRIPT < script;
+    let out_of_range = is_out_of_range(budget);
+    if no_script {
+        return turned_back(m, NO_SCRIPT);
+    }
+    if out_of_range {
+        return turned_back(m, BUDGET_RANGE);
+    }
+    let f = feed_step(words, weights, m, q);
+    settle(ms, script, budget, m, f)
+}
+
+// The same, with the four.
 pub fn feed_four(
     words: &[u32],
     weights: &[u8],
@@ -181,13 +240,12 @@ pub fn feed_four(
 ) -> FedFour
     ensures { λ r. ⌜ r ≡ feedFourOf (scaleOf (now (words .entry)) (now (weights .entry))) ms script budget q ⌝ }
 {
-    if LAST_SCRIPT < script {
-        return refused(ms, NO_SCRIPT);
+    let f = feed_own(words, weights, ms, script, budget, q);
+    let m = f.meter;
+    let answer = f.answer;
+    let next = with_meter(ms, script, m);
+    FedFour {
+        meters: next,
+        answer: answer,
     }
-    if is_out_of_range(budget) {
-        return refused(ms, BUDGET_RANGE);
-    }
-    let m = meter_of(ms, script);
-    let f = feed_step(words, weights, m, q);
-    settle(ms, script, budget, f)
 }
