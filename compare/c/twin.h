@@ -52,6 +52,8 @@ struct twin_answer twin_begin_four(struct twin_meters *ms, uint32_t script);
 struct twin_answer twin_reset_four(struct twin_meters *ms, uint32_t script);
 struct twin_answer twin_feed_four(const uint32_t *words, size_t n, const uint8_t *weights, size_t weights_n,
     struct twin_meters *ms, uint32_t script, uint32_t budget, size_t q);
+struct twin_answer twin_feed_four_in_place(const uint32_t *words, size_t n, const uint8_t *weights, size_t weights_n,
+    struct twin_meters *ms, uint32_t script, uint32_t budget, size_t q);
 struct twin_answer twin_lift(const uint32_t *words, size_t n, const uint8_t *tags, size_t tags_n, const uint64_t *payloads,
     size_t payloads_n, const uint8_t *bytes, size_t bytes_n, const uint64_t *names, size_t names_n,
     struct twin_record *records, size_t records_n);

@@ -370,9 +370,12 @@ fn main() {
     for kind in KINDS {
         feed_rows(&columns, &sides, rounds, kind);
     }
+    let fours = sides::four_sides();
+    let columns = Columns { names: fours.iter().map(|s| s.name).collect(), quotients: vec![(2, 0), (2, 1)] };
+    columns.head();
     for kind in KINDS {
         for turn in [1, 16] {
-            four_rows(&columns, &sides, rounds, kind, turn);
+            four_rows(&columns, &fours, rounds, kind, turn);
         }
     }
     let names = vec!["C twin", "Rattle", "C twin, both", "Rattle, both"];

@@ -344,12 +344,11 @@ pub fn all(sides: &[Side], seed: u64, wanted: u64) -> Counts {
     let mut rng = Rng::new(seed);
     while counts.lists < wanted {
         let case = list_case(&mut rng);
+        let mut booked = 0;
         for side in sides {
-            match compare_list(side, &case) {
-                Ok(booked) => counts.booked += booked / sides.len() as u64,
-                Err(_) => stop(side, &case, compare_list),
-            }
+            booked = compare_list(side, &case).unwrap_or_else(|_| stop(side, &case, compare_list));
         }
+        counts.booked += booked;
         counts.quarters += u64::from(case.is_free());
         counts.feeds += case.calls.iter().filter(|c| matches!(c.call, Call::Feed(_))).count() as u64;
         counts.lists += 1;

@@ -139,6 +139,16 @@ pub mod twin {
             budget: u32,
             q: usize,
         ) -> Answer;
+        fn twin_feed_four_in_place(
+            words: *const u32,
+            n: usize,
+            weights: *const u8,
+            weights_n: usize,
+            ms: *mut [LentMeter; 4],
+            script: u32,
+            budget: u32,
+            q: usize,
+        ) -> Answer;
         fn twin_lift(
             words: *const u32,
             n: usize,
@@ -219,6 +229,29 @@ pub mod twin {
                     i.records,
                 )
             }),
+        }
+    }
+
+    /// The twin with another feed of four, which works in place.
+    pub fn in_place() -> Side {
+        Side {
+            name: "C twin in place",
+            feed_four: |w, t, ms, i, s, q| {
+                lend_four(ms, |ms| unsafe { twin_feed_four_in_place(w.as_ptr(), w.len(), t.as_ptr(), t.len(), ms, i, s, q) })
+            },
+            feed_all_four: |words, t, ms, list| {
+                lend_four(ms, |ms| unsafe {
+                    for i in 0..4 {
+                        twin_begin_four(ms, i);
+                    }
+                    let refused = |&(i, q): &(u32, u32)| {
+                        let w = &words[i as usize];
+                        twin_feed_four_in_place(w.as_ptr(), w.len(), t.as_ptr(), t.len(), ms, i, ALLOWANCE, q as usize).number != 0
+                    };
+                    list.iter().map(refused).map(u64::from).sum()
+                })
+            },
+            ..side()
         }
     }
 }

@@ -53,6 +53,11 @@ pub fn sides() -> Vec<Side> {
     vec![ffi::twin::side(), ffi::rattle::side()]
 }
 
+/// Those that feed one of four: the twin once more, in place.
+pub fn four_sides() -> Vec<Side> {
+    vec![ffi::twin::side(), ffi::twin::in_place(), ffi::rattle::side()]
+}
+
 /// The model, as a side.
 pub fn model_side() -> Side {
     Side {
