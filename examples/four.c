@@ -7,6 +7,7 @@
 #include <string.h>
 
 #include "lawendeb.h"
+#include "scripts.h"
 
 enum { SCRIPTS = 4, MOST = 4 };
 
@@ -19,13 +20,7 @@ struct script {
     size_t length;
 };
 
-/* LOADI, ADDI, MMBINI, and a JMP back to the ADDI; a numeric for with an empty body; three words in
-   a row; a generic for. */
-static const uint32_t axis[] = {2147483649u, 2147483669u, 109051951u, 2147483192u};
-static const uint32_t focuser[] = {32841u, 71u};
-static const uint32_t dome[] = {68u, 0u, 71u};
-static const uint32_t guider[] = {75u, 76u, 65613u, 71u};
-
+/* A course of each. */
 static const size_t axis_path[] = {0, 1, 2, 3, 1, 2, 3, 1};
 static const size_t focuser_path[] = {0, 0, 0, 1};
 static const size_t dome_path[] = {0, 1, 2};
