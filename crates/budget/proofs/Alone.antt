@@ -6,7 +6,6 @@ use mathlib.Core.Path.{_≡_, refl, sym, ap, subst, _∙_}
 use mathlib.Core.List.{List, [], _∷_}
 use lib.Dec.{ltb, eqb}
 use lib.ListN.{length}
-use borrow.Author.Tests.{eqb-true}
 use Rattle.common.specs.Limits.{mostWords}
 use Rattle.common.specs.Numbers.{«ACCEPTED», «TOO_MANY_WORDS», «NO_STEP», «FOREIGN_METER», «WEIGHTS_REFUSED», «BUDGET_RANGE», «OVER_BUDGET»}
 use Rattle.common.specs.Chain.{refuseIf}
@@ -14,7 +13,7 @@ use Rattle.runs.specs.Weights.{refusesWeights, weightsPlace, Weighs}
 use Rattle.meter.specs.declared.step.Meter.{Meter}
 use Rattle.meter.specs.declared.step.FeedAnswer.{FeedAnswer}
 use Rattle.meter.specs.declared.step.Fed.{Fed}
-use Rattle.meter.specs.Feed.{Scale, scaleOf, isBegun, isForeign, isStray, movedTo, beginOf, resetOf, feedOf, refusal}
+use Rattle.meter.specs.Feed.{Scale, isBegun, isForeign, isStray, movedTo, beginOf, resetOf, feedOf, refusal}
 use Rattle.meter.specs.Model.{Call, begin, feed, reset}
 use Rattle.meter.specs.Calls.{meterAfter, meterAnswers, FollowsModel}
 use Rattle.meter.specs.Demand3.{Demand3}

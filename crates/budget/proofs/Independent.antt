@@ -10,7 +10,7 @@ use Rattle.meter.specs.declared.step.FeedAnswer.{FeedAnswer}
 use Rattle.meter.specs.Feed.{Scale, scaleOf, beginOf, resetOf}
 use Rattle.meter.specs.Model.{Call, begin, feed, reset}
 use Rattle.budget.specs.declared.step.Meters.{Meters}
-use Rattle.budget.specs.Four.{lastScript, meterOf, othersOf}
+use Rattle.budget.specs.Four.{meterOf, othersOf}
 use Rattle.budget.specs.Calls.{FourCall, Scripts, scriptsOf, made, fourAfter, answered, Seen, begins, feeds, resets, shownTo, allAnswers, seenBy}
 use Rattle.budget.specs.Independent.{History, SameToScript, Independent}
 use Rattle.budget.proofs.View.{viewed, other-as, own-as}

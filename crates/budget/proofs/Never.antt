@@ -9,7 +9,6 @@ use native.Mathlib.Omega.{arith}
 use lib.Dec.{ltb, eqb}
 use lib.ListN.{length}
 use borrow.Author.Tests.{ltb-false, le-ltb, eq-eqb}
-use Rattle.common.specs.Limits.{mostWords}
 use Rattle.common.specs.Numbers.{«ACCEPTED», «NO_SCRIPT», «BUDGET_RANGE», «OVER_BUDGET»}
 use Rattle.common.specs.Chain.{refuseIf}
 use Rattle.graph.specs.Graph.{In}
@@ -20,14 +19,13 @@ use Rattle.runs.proofs.Laws.{laws}
 use Rattle.meter.specs.declared.step.Meter.{Meter}
 use Rattle.meter.specs.declared.step.FeedAnswer.{FeedAnswer}
 use Rattle.meter.specs.declared.step.Fed.{Fed}
-use Rattle.meter.specs.Feed.{Scale, scaleOf, ceiling, beginOf, resetOf, feedOf, refusal}
+use Rattle.meter.specs.Feed.{Scale, ceiling, beginOf, feedOf, refusal}
 use Rattle.meter.specs.Model.{Call, begin, feed, reset}
 use Rattle.meter.specs.Calls.{meterCalled, meterAfter}
 use Rattle.meter.specs.Bound.{Bound}
 use Rattle.meter.proofs.Demand3.{demand3}
 use Rattle.budget.specs.declared.step.Meters.{Meters}
-use Rattle.budget.specs.declared.step.FedFour.{FedFour}
-use Rattle.budget.specs.Four.{lastScript, refusedFour, changedFour, meterOf, othersOf, isOutOfRange, beginFourOf, resetFourOf, feedFourOf}
+use Rattle.budget.specs.Four.{lastScript, refusedFour, meterOf, othersOf, isOutOfRange, beginFourOf, resetFourOf, feedFourOf}
 use Rattle.budget.specs.Calls.{FourCall, Scripts, scriptsOf, EachWith, JustBegun, EachBegun, madeBy, made, fourAfter, numbersOf, turnsBack, answered, ownCalls, allAnswers}
 use Rattle.budget.specs.Never as Claim
 use Rattle.budget.specs.Never.{AcceptedWithin, EachWithin, beginAt, fourBegins, TurnsBack}

@@ -12,7 +12,6 @@ use Rattle.meter.specs.declared.step.Meter.{Meter}
 use Rattle.meter.specs.declared.step.Fed.{Fed}
 use Rattle.meter.specs.Feed.{Scale, feedOf}
 use Rattle.budget.specs.declared.step.Meters.{Meters}
-use Rattle.budget.specs.declared.step.FedFour.{FedFour}
 use Rattle.budget.specs.Four.{meterOf, withMeter, sumOf, isOutOfRange, lastScript, refusedFour, settleFour, feedFourOf}
 use Rattle.budget.proofs.Meters.{each, read-after}
 

@@ -14,7 +14,7 @@ use Rattle.meter.specs.Feed.{Scale, beginOf, resetOf, refusal, feedOf}
 use Rattle.meter.specs.Model.{Call, begin, feed, reset}
 use Rattle.budget.specs.declared.step.Meters.{Meters}
 use Rattle.budget.specs.declared.step.FedFour.{FedFour}
-use Rattle.budget.specs.Four.{meterOf, withMeter, othersOf, isOutOfRange, lastScript, refusedFour, changedFour, beginFourOf, resetFourOf, settleFour, feedFourOf}
+use Rattle.budget.specs.Four.{meterOf, withMeter, othersOf, isOutOfRange, lastScript, refusedFour, beginFourOf, resetFourOf, settleFour, feedFourOf}
 use Rattle.budget.specs.Calls.{Scripts, FourCall, madeBy, made}
 use Rattle.budget.proofs.Meters.{read-after, read-left, sum-after}
 
