@@ -68,7 +68,7 @@ module _ (ms : Meters) (k : ℕ) (k-script : k ≤ 3) (i : ℕ) (i-script : i �
   made-as g s reset = rw (le-ltb lastScript k k-script) (taken-as (resetOf (meterOf ms k)) (record { number = «ACCEPTED»; place = 0 }))
 
 -- no script of that number
-no-script : (g : Scripts) (ms : Meters) (k s : ℕ) (c : Call) → ltb lastScript k ≡ true → madeBy g ms k s c ≡ refusedFour «NO_SCRIPT» ms
+pub no-script : (g : Scripts) (ms : Meters) (k s : ℕ) (c : Call) → ltb lastScript k ≡ true → madeBy g ms k s c ≡ refusedFour «NO_SCRIPT» ms
 unfolding beginFourOf resetFourOf feedFourOf
 no-script g ms k s begin e = rw e
 no-script g ms k s (feed q) e = rw e
