@@ -754,6 +754,94 @@ static void touches(void) {
     CHECK(nothing_else(lawendeb_touches(words, 0, 0), 0, 0, 0, 0, 0));
 }
 
+/* ---- four scripts */
+
+static struct lawendeb_meters four(struct lawendeb_meter axis, struct lawendeb_meter focuser,
+                                   struct lawendeb_meter dome, struct lawendeb_meter guider) {
+    struct lawendeb_meters ms;
+    ms.axis = axis, ms.focuser = focuser, ms.dome = dome, ms.guider = guider;
+    return ms;
+}
+
+static int same_four(struct lawendeb_meters a, struct lawendeb_meters b) {
+    return memcmp(&a, &b, sizeof a) == 0;
+}
+
+/* A feed of the sheet that is accepted. */
+static int feeds_four(struct lawendeb_meters *ms, uint32_t script, uint32_t budget, size_t q) {
+    return answered(
+        lawendeb_feed_four(sheet, 4, ones, LAWENDEB_WEIGHTS, ms, script, budget, q),
+        LAWENDEB_ACCEPTED, 0);
+}
+
+/* A feed of any four: the answer, and all four as they were. */
+static int four_refuse_by(const uint8_t *weights, size_t weights_n, struct lawendeb_meters ms,
+                          size_t n, uint32_t script, uint32_t budget, size_t q, uint64_t number,
+                          uint64_t place) {
+    struct lawendeb_meters before = ms;
+    const uint32_t *words = n > 4 ? many : sheet;
+    return answered(lawendeb_feed_four(words, n, weights, weights_n, &ms, script, budget, q),
+                    number, place) &&
+           same_four(ms, before);
+}
+
+static int four_refuse(struct lawendeb_meters ms, uint32_t script, uint32_t budget, size_t q,
+                       uint64_t number) {
+    return four_refuse_by(ones, LAWENDEB_WEIGHTS, ms, 4, script, budget, q, number, 0);
+}
+
+/* Begin and reset of no script. */
+static int no_script(struct lawendeb_meters ms, uint32_t script) {
+    struct lawendeb_meters before = ms;
+    return answered(lawendeb_begin_four(&ms, script), LAWENDEB_NO_SCRIPT, 0) &&
+           answered(lawendeb_reset_four(&ms, script), LAWENDEB_NO_SCRIPT, 0) &&
+           same_four(ms, before);
+}
+
+static void fours(void) {
+    const uint32_t most = LAWENDEB_MOST_BUDGET;
+    const struct lawendeb_meter full = meter_of(7, UINT32_MAX, UINT32_MAX, 6, 0);
+    struct lawendeb_meters ms = four(meter(7, 7, 7, 40), meter_of(7, 7, 7, 50, 3), full, full);
+    uint32_t script;
+    uint8_t zero[LAWENDEB_WEIGHTS];
+    memset(zero, 1, sizeof zero);
+    zero[90] = 0;
+    CHECK(no_script(ms, 4) && no_script(ms, UINT32_MAX));
+    for (script = LAWENDEB_AXIS; script <= LAWENDEB_GUIDER; script++)
+        CHECK(answered(lawendeb_begin_four(&ms, script), LAWENDEB_ACCEPTED, 0));
+    CHECK(same_four(ms, four(meter_of(0, 0, 0, 40, 7), meter_of(0, 0, 0, 50, 3),
+                             meter_of(0, 0, 0, 6, 0), meter_of(0, 0, 0, 6, 0))));
+    /* within the budget, at it, above it; a step that serves is at it */
+    CHECK(feeds_four(&ms, LAWENDEB_AXIS, 1, 0) && shows(ms.axis, 1, 0, 1, 40));
+    CHECK(four_refuse(ms, LAWENDEB_FOCUSER, 1, 0, LAWENDEB_OVER_BUDGET));
+    CHECK(feeds_four(&ms, LAWENDEB_FOCUSER, 2, 0) && shows(ms.focuser, 1, 0, 1, 50));
+    CHECK(feeds_four(&ms, LAWENDEB_AXIS, 3, 1) && feeds_four(&ms, LAWENDEB_AXIS, 4, 3));
+    CHECK(four_refuse(ms, LAWENDEB_DOME, 4, 0, LAWENDEB_OVER_BUDGET));
+    CHECK(four_refuse(ms, LAWENDEB_AXIS, 1, 1, LAWENDEB_OVER_BUDGET));
+    CHECK(feeds_four(&ms, LAWENDEB_AXIS, 2, 1) && shows(ms.axis, 1, 1, 1, 41));
+    CHECK(ms.axis.highest == 7 && shows(ms.focuser, 1, 0, 1, 50));
+    CHECK(answered(lawendeb_reset_four(&ms, LAWENDEB_AXIS), LAWENDEB_ACCEPTED, 0));
+    CHECK(ms.axis.highest == 1 && ms.focuser.highest == 3 && shows(ms.axis, 1, 1, 1, 41));
+    /* the order: 20, 21, 1, 18, 11, 10, 22 */
+    ms = four(meter_of(1, 0, 2, 40, 1), full, full, full);
+    CHECK(four_refuse_by(zero, 128, ms, MANY, 4, 0, 9, LAWENDEB_NO_SCRIPT, 0));
+    CHECK(four_refuse_by(zero, 128, ms, MANY, 0, 0, 9, LAWENDEB_BUDGET_RANGE, 0));
+    CHECK(four_refuse_by(zero, 128, ms, MANY, 0, most + 1, 9, LAWENDEB_BUDGET_RANGE, 0));
+    CHECK(four_refuse_by(zero, 128, ms, MANY, 0, UINT32_MAX, 9, LAWENDEB_BUDGET_RANGE, 0));
+    CHECK(four_refuse_by(zero, 128, ms, MANY, 0, most, 9, LAWENDEB_TOO_MANY_WORDS, 0));
+    CHECK(four_refuse_by(zero, 128, ms, 4, 0, 1, 9, LAWENDEB_WEIGHTS_REFUSED, 90));
+    CHECK(four_refuse_by(ones, 127, ms, 4, 0, 1, 9, LAWENDEB_WEIGHTS_REFUSED, 0));
+    CHECK(four_refuse(ms, 0, 1, 9, LAWENDEB_FOREIGN_METER));
+    ms.axis.highest = 2;
+    CHECK(four_refuse(ms, 0, 1, 9, LAWENDEB_NO_STEP));
+    CHECK(four_refuse(ms, 0, most, 1, LAWENDEB_OVER_BUDGET));
+    /* the others are asked for nothing but their counts, whose sum does not wrap */
+    ms = four(meter(0, 0, 0, 40), full, meter(0, 0, 0, 6), meter_of(0, 9, 1, 6, 0));
+    CHECK(four_refuse(ms, 0, most, 0, LAWENDEB_OVER_BUDGET));
+    ms.focuser.count = most - 2;
+    CHECK(feeds_four(&ms, 0, most, 0) && four_refuse(ms, 0, most, 1, LAWENDEB_OVER_BUDGET));
+}
+
 /* ---- rehearsals */
 
 enum { SCRIPTS = LAWENDEB_MOST_SCRIPTS, PLACES = 8 };
@@ -998,6 +1086,7 @@ int main(void) {
     values();
     refusals();
     touches();
+    fours();
     rehearsals();
     chunks();
     deep();

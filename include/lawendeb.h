@@ -1,13 +1,15 @@
 /* Lawendeb for C and C++, on x86-64 Linux (System V calls). What the functions do is proved; what
    is asked of the caller stands here.
 
-   Seven archives, to be linked alone or side by side; all are made in target/staticlib/:
+   Eight archives, to be linked alone or side by side; all are made in target/staticlib/:
      libmeter.a     begin, feed and reset, for controllers: `rt staticlib meter`. It needs no
                     symbol.
      libexports.a   steps, the longest run, records: `rt staticlib exports`. It needs memset.
      libranges.a    the longest run by two tables: `rt staticlib ranges`. It needs memset.
      libservice.a   nearest service, crossing steps: `rt staticlib service`. It needs memset.
      libtouches.a   what a word reads and writes: `rt staticlib touches`. It needs memset.
+     libbudget.a    begin, feed and reset of four scripts: `rt staticlib budget`. It needs no
+                    symbol.
      librehearsal.a scripts in rotation: `rt staticlib rehearsal`. It needs memset.
      libchunk.a     compiled scripts: `rt staticlib chunk`. It needs memset.
    They write nothing but what a call is lent: no heap, no static data, and as measured less than 1
@@ -67,12 +69,16 @@ extern "C" {
 #define LAWENDEB_TOO_DEEP 16         /* functions within functions, more than 32 levels */
 #define LAWENDEB_WEIGHTS_REFUSED 18  /* not 128 weights; or one is 0, place: the lowest such */
 #define LAWENDEB_LOW_ABOVE_HIGH 19   /* a low weight above its high one; place: the opcode */
+#define LAWENDEB_NO_SCRIPT 20        /* a script number above LAWENDEB_GUIDER */
+#define LAWENDEB_BUDGET_RANGE 21     /* the budget is 0 or above LAWENDEB_MOST_BUDGET */
+#define LAWENDEB_OVER_BUDGET 22      /* the sum of the four counts would be above the budget */
 #define LAWENDEB_OUT_OF_RANGE 23     /* of a rehearsal: the count of scripts, q or a choice */
 
 #define LAWENDEB_MOST_WORDS 32768
 #define LAWENDEB_MOST_CONSTANTS 65536
 #define LAWENDEB_MOST_NAMES 255
 #define LAWENDEB_WEIGHTS 128
+#define LAWENDEB_MOST_BUDGET 16777216
 #define LAWENDEB_MOST_SCRIPTS 4
 #define LAWENDEB_MOST_TURN 1000
 
@@ -132,6 +138,45 @@ struct lawendeb_answer lawendeb_feed(const uint32_t *words, size_t n, const uint
    at each feed, holds as highest the largest count that it showed since, which is never above that
    run's longest. Nobody else writes `m` meanwhile. */
 void lawendeb_reset(struct lawendeb_meter *m);
+
+/* ---- four scripts and one budget: libbudget.a */
+
+/* The scripts, by number. */
+#define LAWENDEB_AXIS 0
+#define LAWENDEB_FOCUSER 1
+#define LAWENDEB_DOME 2
+#define LAWENDEB_GUIDER 3
+
+/* A meter for each, held by the caller and lent together. Each counts its own services. Any twenty
+   numbers are four meters. Zero new ones once. */
+struct lawendeb_meters {
+    struct lawendeb_meter axis, focuser, dome, guider;
+};
+
+LAWENDEB_ASSERT(sizeof(struct lawendeb_meters) == 80 &&
+                    offsetof(struct lawendeb_meters, focuser) == 20 &&
+                    offsetof(struct lawendeb_meters, dome) == 40 &&
+                    offsetof(struct lawendeb_meters, guider) == 60,
+                "the layout that crates/budget has");
+
+/* The functions above, of one of the four. The answer is 0, or 20 for a script number above 3: all
+   four meters are then as they were, and so they are on every refusal. `ms` lies apart from words
+   and weights, and nobody else writes it meanwhile. */
+struct lawendeb_answer lawendeb_begin_four(struct lawendeb_meters *ms, uint32_t script);
+struct lawendeb_answer lawendeb_reset_four(struct lawendeb_meters *ms, uint32_t script);
+
+/* The script goes to word `q` of its `n` words, within a budget of 1 to LAWENDEB_MOST_BUDGET on the
+   sum of the four counts. Refusals are tried in this order: 20; 21; then 1, 18, 11 and 10 as at a
+   feed of that script's meter alone, whatever the others hold; and 22 if the sum of its new count
+   and the others' counts as they stand would be above the budget. A step that serves makes the new
+   count small, and may be what is within it. The sum does not wrap.
+
+   If all four scripts are accepted, the longest run of each is at most a quarter of the budget,
+   rounded down, all four are begun before the first feed, and each is lent the words and weights of
+   its run at every feed, then no feed with that budget is answered 22. */
+struct lawendeb_answer lawendeb_feed_four(const uint32_t *words, size_t n, const uint8_t *weights,
+                                          size_t weights_n, struct lawendeb_meters *ms,
+                                          uint32_t script, uint32_t budget, size_t q);
 
 /* ---- steps and the longest run: libexports.a */
 

@@ -214,3 +214,48 @@ struct twin_answer twin_feed(const uint32_t *w, size_t n, const uint8_t *weights
     m->last = (uint32_t)q;
     return answer(0);
 }
+
+struct twin_answer twin_begin_four(struct twin_meters *ms, uint32_t script) {
+    if (script > 3) return answer(20);
+    twin_begin(&ms->of[script]);
+    return answer(0);
+}
+
+struct twin_answer twin_reset_four(struct twin_meters *ms, uint32_t script) {
+    if (script > 3) return answer(20);
+    twin_reset(&ms->of[script]);
+    return answer(0);
+}
+
+/* Feeds a copy, and stores it once nothing refuses, as the proved code does. */
+struct twin_answer twin_feed_four(const uint32_t *w, size_t n, const uint8_t *weights, size_t weights_n,
+    struct twin_meters *ms, uint32_t script, uint32_t budget, size_t q) {
+    if (script > 3) return answer(20);
+    if (budget == 0 || budget > TWIN_BUDGET) return answer(21);
+    struct twin_meter m = ms->of[script];
+    struct twin_answer fed = twin_feed(w, n, weights, weights_n, &m, q);
+    if (fed.number) return fed;
+    uint64_t sum = m.since;
+    for (uint32_t i = 0; i < 4; i++)
+        if (i != script) sum += ms->of[i].since;
+    if (sum > budget) return answer(22);
+    ms->of[script] = m;
+    return fed;
+}
+
+/* Feeds the meter where it lies, and puts it back if the sum is above the budget. */
+struct twin_answer twin_feed_four_in_place(const uint32_t *w, size_t n, const uint8_t *weights, size_t weights_n,
+    struct twin_meters *ms, uint32_t script, uint32_t budget, size_t q) {
+    if (script > 3) return answer(20);
+    if (budget == 0 || budget > TWIN_BUDGET) return answer(21);
+    struct twin_meter *m = &ms->of[script], before = *m;
+    struct twin_answer fed = twin_feed(w, n, weights, weights_n, m, q);
+    if (fed.number) return fed;
+    uint64_t sum = 0;
+    for (uint32_t i = 0; i < 4; i++) sum += ms->of[i].since;
+    if (sum > budget) {
+        *m = before;
+        return answer(22);
+    }
+    return fed;
+}

@@ -6,7 +6,8 @@
 #include <stddef.h>
 #include <stdint.h>
 
-enum { TWIN_WORDS = 32768, TWIN_CONSTANTS = 65536, TWIN_NAMES = 255, TWIN_WEIGHTS = 128, TWIN_HEAVIEST = 255 };
+enum { TWIN_WORDS = 32768, TWIN_CONSTANTS = 65536, TWIN_NAMES = 255, TWIN_WEIGHTS = 128, TWIN_HEAVIEST = 255,
+    TWIN_BUDGET = 16777216 };
 
 /* kind: 0 invalid, 1 stop, 2 one, 3 two; steps lower first */
 struct twin_successors { uint64_t kind, first, second; };
@@ -16,6 +17,7 @@ struct twin_answer { uint64_t number, place; };
 struct twin_nearest { uint64_t number, place, found, fewest; };
 struct twin_crossed { uint64_t number, place, count; };
 struct twin_meter { uint32_t begun, last, since, services, highest; };
+struct twin_meters { struct twin_meter of[4]; };
 
 /* include/RECORD.md */
 struct twin_slot { uint64_t kind, numbers[3]; };
@@ -46,6 +48,12 @@ void twin_begin(struct twin_meter *m);
 void twin_reset(struct twin_meter *m);
 struct twin_answer twin_feed(const uint32_t *words, size_t n, const uint8_t *weights, size_t weights_n, struct twin_meter *m,
     size_t q);
+struct twin_answer twin_begin_four(struct twin_meters *ms, uint32_t script);
+struct twin_answer twin_reset_four(struct twin_meters *ms, uint32_t script);
+struct twin_answer twin_feed_four(const uint32_t *words, size_t n, const uint8_t *weights, size_t weights_n,
+    struct twin_meters *ms, uint32_t script, uint32_t budget, size_t q);
+struct twin_answer twin_feed_four_in_place(const uint32_t *words, size_t n, const uint8_t *weights, size_t weights_n,
+    struct twin_meters *ms, uint32_t script, uint32_t budget, size_t q);
 struct twin_answer twin_lift(const uint32_t *words, size_t n, const uint8_t *tags, size_t tags_n, const uint64_t *payloads,
     size_t payloads_n, const uint8_t *bytes, size_t bytes_n, const uint64_t *names, size_t names_n,
     struct twin_record *records, size_t records_n);

@@ -35,7 +35,7 @@ fn main() {
     let folder = std::env::var("RATTLE_LIBS").expect("RATTLE_LIBS, which compare/run and compare/benchmarks set");
     println!("cargo:rerun-if-changed={folder}");
     println!("cargo:rustc-link-search=native={folder}");
-    for name in ["exports", "meter", "ranges", "service"] {
+    for name in ["exports", "meter", "budget", "ranges", "service"] {
         println!("cargo:rustc-link-lib=static={name}");
     }
 }

@@ -4,6 +4,7 @@ mod heap;
 mod stack;
 
 use model::flat::Record;
+use model::four::Meters;
 use model::input::{place, Input, UNNAMED};
 use model::meter::Meter;
 use model::{real, steps};
@@ -247,6 +248,39 @@ fn feed_rows(columns: &Columns, sides: &[Side], rounds: usize, (name, make): Kin
     }
 }
 
+/// Four scripts of one kind, each of its own length, in turns of so many words.
+fn four_rows(columns: &Columns, sides: &[Side], rounds: usize, (name, make): Kind, turn: usize) {
+    let weights = vec![1; 128];
+    let mut rows = vec![];
+    for n in SIZES {
+        let words: [Vec<u32>; 4] = [0, 1, 2, 3].map(|i| make(n - 2 * i));
+        let many = 25_000;
+        // One course each: where no step leads on, the script has ended.
+        let lists: Vec<Vec<u32>> = words.iter().map(|w| courses(w, many).swap_remove(0)).collect();
+        let mut fed: Vec<(u32, u32)> = vec![];
+        for from in (0..many).step_by(turn) {
+            for (i, list) in lists.iter().enumerate() {
+                fed.extend(list.iter().skip(from).take(turn).map(|&q| (i as u32, q)));
+            }
+        }
+        let repeat = 4 * many / fed.len() + 1;
+        let mut calls: Vec<Box<dyn FnMut()>> = vec![];
+        for side in sides {
+            let (words, weights, fed) = (&words, &weights, &fed);
+            calls.push(Box::new(move || {
+                let mut ms = Meters::default();
+                for _ in 0..repeat {
+                    assert_eq!((side.feed_all_four)(black_box(words), black_box(weights), &mut ms, fed), 0);
+                }
+                black_box(ms);
+            }));
+        }
+        let times = best(rounds, &mut calls);
+        rows.push(columns.row("feed of one of four", &format!("{name}, turns of {turn}"), n, &times, (repeat * fed.len()) as f64));
+    }
+    columns.flat_row(&rows);
+}
+
 /// Words that luad spends most on: long constants, of which it prints the bytes.
 fn constants(n: usize) -> Vec<u32> {
     (0..n).map(|p| 3 | ((p % 256) as u32) << 15).collect()
@@ -305,6 +339,9 @@ fn memory_rows(sides: &[Side]) {
         (side.feed)(&input.words, &ones, &mut m, 0);
         let feed = stack::used(|| assert_eq!((side.feed)(&input.words, &ones, &mut m, 1).number, 0));
         println!("| feed | {} | 0 | 0 | {feed} |", side.name);
+        let mut ms = Meters::default();
+        let four = stack::used(|| assert_eq!((side.feed_four)(&input.words, &ones, &mut ms, 3, 1, 0).number, 0));
+        println!("| feed of one of four | {} | 0 | 0 | {four} |", side.name);
         if let Some(lift) = side.lift {
             let depth = stack::used(|| assert_eq!(lift(&input, &mut records).number, 0));
             println!("| lift | {} | {} | 0 | {depth} |", side.name, std::mem::size_of::<Record>());
@@ -332,6 +369,14 @@ fn main() {
     }
     for kind in KINDS {
         feed_rows(&columns, &sides, rounds, kind);
+    }
+    let fours = sides::four_sides();
+    let columns = Columns { names: fours.iter().map(|s| s.name).collect(), quotients: vec![(2, 0), (2, 1)] };
+    columns.head();
+    for kind in KINDS {
+        for turn in [1, 16] {
+            four_rows(&columns, &fours, rounds, kind, turn);
+        }
     }
     let names = vec!["C twin", "Rattle", "C twin, both", "Rattle, both"];
     let columns = Columns { names, quotients: vec![(2, 0), (3, 1), (3, 2)] };

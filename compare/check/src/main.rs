@@ -2,6 +2,7 @@
 //! lists of calls beside the systematic ones, and a tenth as many functions for nearest service. Ends with status 1 at the first
 //! mismatch. Times go to standard error: what stands on standard output is the same at every run with the same numbers.
 
+mod fours;
 mod gen;
 mod meters;
 mod patches;
@@ -96,6 +97,22 @@ fn main() {
         c.below,
         c.singles,
         c.low,
+        by_number(&c.answers)
+    );
+    eprintln!("  {:.1} s", start.elapsed().as_secs_f64());
+
+    let start = Instant::now();
+    let c = fours::all(&sides::four_sides(), seed, lists);
+    println!(
+        "four meters: {} lists of {} feeds against the model, {} of the calls against the script's own feeding book, {} lists with each L within a quarter of S; {} single calls on any four, each again beside others with the same sum, {} of them refused by 1, 18, 11 or 10 with the others above S, {} serving steps at S or one above, {} beside a count of 2^32 - 1, answers by number: {}",
+        c.lists,
+        c.feeds,
+        c.booked,
+        c.quarters,
+        c.singles,
+        c.beside,
+        c.serving,
+        c.full,
         by_number(&c.answers)
     );
     eprintln!("  {:.1} s", start.elapsed().as_secs_f64());

@@ -163,6 +163,19 @@ fn hold(sides: &[Side], case: &Case, counts: &mut Counts) {
     counts.lists += 1;
 }
 
+/// A word to feed after p, mostly one that a step leads to.
+pub fn next_word(rng: &mut Rng, words: &[u32], at: Option<usize>) -> usize {
+    let list = at.map(|p| steps(words, p));
+    let list = list.as_ref().map_or(&[][..], |s| s.list());
+    match rng.below(12) {
+        0 => rng.below(words.len() + 3),
+        1 => rng.pick(&[0, usize::MAX, 1 << 32, 32_768, 65_536]),
+        _ if at.is_none() => 0,
+        _ if list.is_empty() => rng.below(words.len() + 1),
+        _ => rng.pick(list),
+    }
+}
+
 /// Calls that mostly follow a course, with wrong feeds, begins and resets among them.
 fn calls(rng: &mut Rng, words: &[u32], many: usize) -> Vec<Call> {
     let mut out = vec![];
@@ -177,17 +190,9 @@ fn calls(rng: &mut Rng, words: &[u32], many: usize) -> Vec<Call> {
             out.push(Call::Reset);
             continue;
         }
-        let list = at.map(|p| steps(words, p));
-        let list = list.as_ref().map_or(&[][..], |s| s.list());
-        let q = match rng.below(12) {
-            0 => rng.below(words.len() + 3),
-            1 => rng.pick(&[0, usize::MAX, 1 << 32, 32_768, 65_536]),
-            _ if at.is_none() => 0,
-            _ if list.is_empty() => rng.below(words.len() + 1),
-            _ => rng.pick(list),
-        };
+        let q = next_word(rng, words, at);
         out.push(Call::Feed(q));
-        if list.contains(&q) || (at.is_none() && q == 0 && !words.is_empty()) {
+        if at.is_some_and(|p| steps(words, p).list().contains(&q)) || (at.is_none() && q == 0 && !words.is_empty()) {
             at = Some(q);
         }
     }
@@ -213,7 +218,7 @@ fn any_highest(rng: &mut Rng, since: u32) -> u32 {
 }
 
 /// A meter of a function of n words, with a count at its limit or just above it among them, or at times any.
-fn any_meter(rng: &mut Rng, n: usize) -> Meter {
+pub fn any_meter(rng: &mut Rng, n: usize) -> Meter {
     if n > 0 && !rng.once_in(4) {
         let last = rng.below(n) as u32;
         let services = if rng.once_in(3) { u32::MAX - rng.below(2) as u32 } else { rng.next() as u32 };

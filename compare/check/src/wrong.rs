@@ -1,8 +1,8 @@
-//! Wrong on purpose: records, a step, runs, ranges, answers on nearest service, feeds, a begin, a reset and rules of what may change
-//! that are each a little off must be caught, or the comparison is blind.
+//! Wrong on purpose: records, a step, runs, ranges, answers on nearest service, feeds, a begin, a reset, feeds of four scripts and
+//! rules of what may change that are each a little off must be caught, or the comparison is blind.
 
 use crate::rng::Rng;
-use crate::{gen, meters, patches, ranges, records, runs, services, weights};
+use crate::{fours, gen, meters, patches, ranges, records, runs, services, weights};
 use model::flat::Record;
 use model::input::Input;
 use model::range::RangeAnswer;
@@ -19,7 +19,8 @@ pub fn all(seed: u64) -> Vec<String> {
     let of_ranges = [twice, low_lengths, order_of_tables];
     let of_services = [itself, beside, unreachable, left];
     let of_meters = [service, first, zero, forgotten, cleared, below];
-    let all: [&[fn(u64) -> String]; 5] = [&of_records, &of_runs, &of_ranges, &of_services, &of_meters];
+    let of_fours = [wrapped, stale, moved, early];
+    let all: [&[fn(u64) -> String]; 6] = [&of_records, &of_runs, &of_ranges, &of_services, &of_meters, &of_fours];
     let mut caught: Vec<String> = all.iter().flat_map(|group| group.iter()).map(|wrong| wrong(seed)).collect();
     caught.extend(patches::wrong(&rattle::side(), seed));
     caught
@@ -378,6 +379,96 @@ fn below(seed: u64) -> String {
         let case = meters::single_case(&mut rng, words);
         if meters::compare_single(&side, &case).is_err() {
             return meters::report(&side, &case, meters::compare_single);
+        }
+    }
+    panic!("{} was not caught", side.name);
+}
+
+fn wrapped(seed: u64) -> String {
+    // The sum of four counts has 32 bits.
+    let side = Side {
+        name: "wrong sum",
+        feed_four: |words, weights, ms, i, s, q| {
+            let answer = (twin::side().feed_four)(words, weights, ms, i, s, q);
+            if answer.number != 22 {
+                return answer;
+            }
+            let mut after = *ms;
+            (twin::side().feed)(words, weights, &mut after[i as usize], q);
+            if after.iter().fold(0u32, |sum, m| sum.wrapping_add(m.since)) > s {
+                return answer;
+            }
+            *ms = after;
+            Answer::default()
+        },
+        ..twin::side()
+    };
+    by_fours(seed, &side)
+}
+
+fn stale(seed: u64) -> String {
+    // The sum is that of before the feed.
+    let side = Side {
+        name: "wrong count in the sum",
+        feed_four: |words, weights, ms, i, s, q| {
+            let before: u64 = ms.iter().map(|m| u64::from(m.since)).sum();
+            let kept = *ms;
+            let answer = (twin::side().feed_four)(words, weights, ms, i, s, q);
+            if answer.number == 0 && before > u64::from(s) {
+                *ms = kept;
+                return Answer { number: 22, place: 0 };
+            }
+            answer
+        },
+        ..twin::side()
+    };
+    by_fours(seed, &side)
+}
+
+fn moved(seed: u64) -> String {
+    // What 22 turns back stays in the meter.
+    let side = Side {
+        name: "wrong turning back",
+        feed_four: |words, weights, ms, i, s, q| {
+            let answer = (twin::side().feed_four)(words, weights, ms, i, s, q);
+            if answer.number == 22 {
+                (twin::side().feed)(words, weights, &mut ms[i as usize], q);
+            }
+            answer
+        },
+        ..twin::side()
+    };
+    by_fours(seed, &side)
+}
+
+fn early(seed: u64) -> String {
+    // 22 comes before 10 where the others alone are above S.
+    let side = Side {
+        name: "wrong order",
+        feed_four: |words, weights, ms, i, s, q| {
+            let answer = (twin::side().feed_four)(words, weights, ms, i, s, q);
+            let others: u64 = (0..4).filter(|&j| j != i as usize).map(|j| u64::from(ms[j].since)).sum();
+            if answer.number == 10 && others > u64::from(s) {
+                return Answer { number: 22, place: 0 };
+            }
+            answer
+        },
+        ..twin::side()
+    };
+    by_fours(seed, &side)
+}
+
+/// A wrong feed of four scripts is tried on single calls and on random lists.
+fn by_fours(seed: u64, side: &Side) -> String {
+    let mut rng = Rng::new(seed);
+    for _ in 0..1_000_000 {
+        let case = fours::single_case(&mut rng);
+        if fours::compare_single(side, &case).is_err() {
+            return fours::report(side, &case, fours::compare_single);
+        }
+        let case = fours::list_case(&mut rng);
+        if fours::compare_list(side, &case).is_err() {
+            return fours::report(side, &case, fours::compare_list);
         }
     }
     panic!("{} was not caught", side.name);

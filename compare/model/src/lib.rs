@@ -1,9 +1,10 @@
 //! Document 01 and the requests of document 02 once more, in plain Rust and with no look at the Rattle code: fields, steps,
-//! weights, the longest run, by one table or two, nearest service, the meter, the feeding book, and the refusals of lifting. Slow and literal where it can be; the comparison holds the
+//! weights, the longest run, by one table or two, nearest service, the meter, the feeding book, four meters, and the refusals of lifting. Slow and literal where it can be; the comparison holds the
 //! proved library and the C twin against it. Terms are the document's.
 
 pub mod book;
 pub mod flat;
+pub mod four;
 pub mod input;
 pub mod meter;
 pub mod range;

@@ -5,6 +5,7 @@
 
 use crate::{Side, Successors};
 use model::flat::Record;
+use model::four::{Meters, ALLOWANCE};
 use model::input::Input;
 use model::meter::Meter;
 use model::range::RangeAnswer;
@@ -22,11 +23,31 @@ pub struct LentMeter {
     highest: u32,
 }
 
+impl From<Meter> for LentMeter {
+    fn from(m: Meter) -> LentMeter {
+        LentMeter { begun: u32::from(m.begun), last: m.last, count: m.since, services: m.services, highest: m.highest }
+    }
+}
+
+impl From<LentMeter> for Meter {
+    fn from(m: LentMeter) -> Meter {
+        Meter { begun: m.begun != 0, last: m.last, since: m.count, services: m.services, highest: m.highest }
+    }
+}
+
 /// Lends the meter in that form.
 fn lend<T>(m: &mut Meter, call: impl FnOnce(&mut LentMeter) -> T) -> T {
-    let mut lent = LentMeter { begun: u32::from(m.begun), last: m.last, count: m.since, services: m.services, highest: m.highest };
+    let mut lent = LentMeter::from(*m);
     let answer = call(&mut lent);
-    *m = Meter { begun: lent.begun != 0, last: lent.last, since: lent.count, services: lent.services, highest: lent.highest };
+    *m = lent.into();
+    answer
+}
+
+/// Four meters, one after another: include/lawendeb.h.
+fn lend_four<T>(ms: &mut Meters, call: impl FnOnce(&mut [LentMeter; 4]) -> T) -> T {
+    let mut lent = ms.map(LentMeter::from);
+    let answer = call(&mut lent);
+    *ms = lent.map(Meter::from);
     answer
 }
 
@@ -106,6 +127,28 @@ pub mod twin {
         fn twin_begin(m: *mut LentMeter);
         fn twin_reset(m: *mut LentMeter);
         fn twin_feed(words: *const u32, n: usize, weights: *const u8, weights_n: usize, m: *mut LentMeter, q: usize) -> Answer;
+        fn twin_begin_four(ms: *mut [LentMeter; 4], script: u32) -> Answer;
+        fn twin_reset_four(ms: *mut [LentMeter; 4], script: u32) -> Answer;
+        fn twin_feed_four(
+            words: *const u32,
+            n: usize,
+            weights: *const u8,
+            weights_n: usize,
+            ms: *mut [LentMeter; 4],
+            script: u32,
+            budget: u32,
+            q: usize,
+        ) -> Answer;
+        fn twin_feed_four_in_place(
+            words: *const u32,
+            n: usize,
+            weights: *const u8,
+            weights_n: usize,
+            ms: *mut [LentMeter; 4],
+            script: u32,
+            budget: u32,
+            q: usize,
+        ) -> Answer;
         fn twin_lift(
             words: *const u32,
             n: usize,
@@ -152,6 +195,23 @@ pub mod twin {
                     list.iter().map(refused).map(u64::from).sum()
                 })
             },
+            begin_four: |ms, i| lend_four(ms, |ms| unsafe { twin_begin_four(ms, i) }),
+            reset_four: |ms, i| lend_four(ms, |ms| unsafe { twin_reset_four(ms, i) }),
+            feed_four: |w, t, ms, i, s, q| {
+                lend_four(ms, |ms| unsafe { twin_feed_four(w.as_ptr(), w.len(), t.as_ptr(), t.len(), ms, i, s, q) })
+            },
+            feed_all_four: |words, t, ms, list| {
+                lend_four(ms, |ms| unsafe {
+                    for i in 0..4 {
+                        twin_begin_four(ms, i);
+                    }
+                    let refused = |&(i, q): &(u32, u32)| {
+                        let w = &words[i as usize];
+                        twin_feed_four(w.as_ptr(), w.len(), t.as_ptr(), t.len(), ms, i, ALLOWANCE, q as usize).number != 0
+                    };
+                    list.iter().map(refused).map(u64::from).sum()
+                })
+            },
             lift: Some(|i: &Input, records| unsafe {
                 assert!(i.records <= records.len());
                 twin_lift(
@@ -169,6 +229,29 @@ pub mod twin {
                     i.records,
                 )
             }),
+        }
+    }
+
+    /// The twin with another feed of four, which works in place.
+    pub fn in_place() -> Side {
+        Side {
+            name: "C twin in place",
+            feed_four: |w, t, ms, i, s, q| {
+                lend_four(ms, |ms| unsafe { twin_feed_four_in_place(w.as_ptr(), w.len(), t.as_ptr(), t.len(), ms, i, s, q) })
+            },
+            feed_all_four: |words, t, ms, list| {
+                lend_four(ms, |ms| unsafe {
+                    for i in 0..4 {
+                        twin_begin_four(ms, i);
+                    }
+                    let refused = |&(i, q): &(u32, u32)| {
+                        let w = &words[i as usize];
+                        twin_feed_four_in_place(w.as_ptr(), w.len(), t.as_ptr(), t.len(), ms, i, ALLOWANCE, q as usize).number != 0
+                    };
+                    list.iter().map(refused).map(u64::from).sum()
+                })
+            },
+            ..side()
         }
     }
 }
@@ -232,6 +315,18 @@ pub mod rattle {
         fn lawendeb_begin_4(m: *mut LentMeter);
         fn lawendeb_reset(m: *mut LentMeter);
         fn lawendeb_feed_4(words: *const u32, n: usize, weights: *const u8, weights_n: usize, m: *mut LentMeter, q: usize) -> Answer;
+        fn lawendeb_begin_four(ms: *mut [LentMeter; 4], script: u32) -> Answer;
+        fn lawendeb_reset_four(ms: *mut [LentMeter; 4], script: u32) -> Answer;
+        fn lawendeb_feed_four(
+            words: *const u32,
+            n: usize,
+            weights: *const u8,
+            weights_n: usize,
+            ms: *mut [LentMeter; 4],
+            script: u32,
+            budget: u32,
+            q: usize,
+        ) -> Answer;
     }
 
     pub fn side() -> Side {
@@ -261,6 +356,23 @@ pub mod rattle {
                 lend(m, |m| unsafe {
                     lawendeb_begin_4(m);
                     let refused = |&q: &u32| lawendeb_feed_4(w.as_ptr(), w.len(), t.as_ptr(), t.len(), m, q as usize).number != 0;
+                    list.iter().map(refused).map(u64::from).sum()
+                })
+            },
+            begin_four: |ms, i| lend_four(ms, |ms| unsafe { lawendeb_begin_four(ms, i) }),
+            reset_four: |ms, i| lend_four(ms, |ms| unsafe { lawendeb_reset_four(ms, i) }),
+            feed_four: |w, t, ms, i, s, q| {
+                lend_four(ms, |ms| unsafe { lawendeb_feed_four(w.as_ptr(), w.len(), t.as_ptr(), t.len(), ms, i, s, q) })
+            },
+            feed_all_four: |words, t, ms, list| {
+                lend_four(ms, |ms| unsafe {
+                    for i in 0..4 {
+                        lawendeb_begin_four(ms, i);
+                    }
+                    let refused = |&(i, q): &(u32, u32)| {
+                        let w = &words[i as usize];
+                        lawendeb_feed_four(w.as_ptr(), w.len(), t.as_ptr(), t.len(), ms, i, ALLOWANCE, q as usize).number != 0
+                    };
                     list.iter().map(refused).map(u64::from).sum()
                 })
             },

@@ -1,0 +1,7 @@
+pub mod Meters
+pub mod Own
+pub mod View
+pub mod Alone
+pub mod Refusals
+pub mod Never
+pub mod Independent

@@ -1,0 +1,96 @@
+-- What a refusal of one of the four says, and what it leaves.
+-- Assumes nothing.
+use Prim.Native.Nat.{ℕ, _+_, _<_, _≤_}
+use mathlib.Core.Bool.{Bool, true, false, not, true≢false}
+use mathlib.Core.Path.{_≡_, refl, sym, ap, subst, _∙_}
+use native.Mathlib.Omega.{arith}
+use lib.Dec.{ltb, eqb}
+use borrow.Author.Tests.{ltb-true, ltb-false, lt-ltb, eqb-true, eq-eqb}
+use Rattle.common.specs.Numbers.{«ACCEPTED», «NO_SCRIPT», «BUDGET_RANGE», «OVER_BUDGET»}
+use Rattle.common.specs.Chain.{refuseIf}
+use Rattle.meter.specs.declared.step.Meter.{Meter}
+use Rattle.meter.specs.declared.step.Fed.{Fed}
+use Rattle.meter.specs.Feed.{Scale, beginOf, resetOf, feedOf}
+use Rattle.meter.specs.Model.{Call, begin, feed, reset}
+use Rattle.budget.specs.declared.step.Meters.{Meters}
+use Rattle.budget.specs.declared.step.FedFour.{FedFour}
+use Rattle.budget.specs.Four.{meterOf, withMeter, sumOf, othersOf, isOutOfRange, lastScript, refusedFour, changedFour, beginFourOf, resetFourOf, settleFour, feedFourOf}
+use Rattle.budget.specs.Calls.{FourCall, Scripts, turnsBack, madeBy, made}
+use Rattle.budget.specs.Refusals as Claim
+use Rattle.budget.proofs.Meters.{sum-after}
+use Rattle.budget.proofs.View.{no-script}
+use Rattle.budget.proofs.Alone.{fed-plain}
+
+module _ (g : Scale) (ms : Meters) (i s q : ℕ) where
+  abbrev f : Fed
+  f = feedOf g (meterOf ms i) q
+
+  -- what holds of the outcomes of a feed, each with what led to it, holds of the feed
+  outcomes : (P : FedFour → Type 0)
+      → P (refusedFour «NO_SCRIPT» ms)
+      → P (refusedFour «BUDGET_RANGE» ms)
+      → (eqb (f .answer .number) «ACCEPTED» ≡ false → P (record { meters = ms; answer = f .answer }))
+      → (i ≤ 3 → f .answer .number ≡ «ACCEPTED» → s < sumOf (withMeter ms i (f .meter)) → P (refusedFour «OVER_BUDGET» ms))
+      → (f .answer .number ≡ «ACCEPTED» → sumOf (withMeter ms i (f .meter)) ≤ s → P (record { meters = withMeter ms i (f .meter); answer = f .answer }))
+      → P (feedFourOf g ms i s q)
+  unfolding feedFourOf settleFour
+  outcomes P none range refused over accepted =
+      go (ltb lastScript i) refl (isOutOfRange s) (eqb (f .answer .number) «ACCEPTED») refl (ltb s (sumOf (withMeter ms i (f .meter)))) refl
+    where
+      go : (t : Bool) → ltb lastScript i ≡ t → (u v : Bool) → eqb (f .answer .number) «ACCEPTED» ≡ v → (w : Bool) → ltb s (sumOf (withMeter ms i (f .meter))) ≡ w
+          → P (refuseIf t (refusedFour «NO_SCRIPT» ms) (refuseIf u (refusedFour «BUDGET_RANGE» ms) (refuseIf (not v) (record { meters = ms; answer = f .answer }) (refuseIf w (refusedFour «OVER_BUDGET» ms) (record { meters = withMeter ms i (f .meter); answer = f .answer })))))
+      go true e u v d w b = none
+      go false e true v d w b = range
+      go false e false false d w b = refused d
+      go false e false true d true b = over (ltb-false lastScript i e) (eqb-true _ _ d) (ltb-true _ _ b)
+      go false e false true d false b = accepted (eqb-true _ _ d) (ltb-false _ _ b)
+
+  fed-unchanged : (feedFourOf g ms i s q .answer .number ≡ «ACCEPTED» → ⊥) → feedFourOf g ms i s q .meters ≡ ms
+  fed-unchanged =
+      outcomes (λ r. (r .answer .number ≡ «ACCEPTED» → ⊥) → r .meters ≡ ms)
+      (λ h. refl)
+      (λ h. refl)
+      (λ d h. refl)
+      (λ l e b h. refl)
+      (λ e b h. absurd (h e))
+
+  over-budget : feedFourOf g ms i s q .answer .number ≡ «OVER_BUDGET» → (f .answer .number ≡ «ACCEPTED») × (s < f .meter .count + othersOf ms i)
+  over-budget =
+      outcomes (λ r. r .answer .number ≡ «OVER_BUDGET» → (f .answer .number ≡ «ACCEPTED») × (s < f .meter .count + othersOf ms i))
+      (λ h. omega arith)
+      (λ h. omega arith)
+      (λ d h. absurd (true≢false (ap turnsBack (sym h) ∙ fed-plain g (meterOf ms i) q .own)))
+      (λ l e b h. (e, subst (λ (k : ℕ). s < k) (sum-after ms (f .meter) i l) b))
+      (λ e b h. omega (arith, e, h))
+
+  within : feedFourOf g ms i s q .answer .number ≡ «ACCEPTED» → sumOf (feedFourOf g ms i s q .meters) ≤ s
+  within =
+      outcomes (λ r. r .answer .number ≡ «ACCEPTED» → sumOf (r .meters) ≤ s)
+      (λ h. omega arith)
+      (λ h. omega arith)
+      (λ d h. absurd (true≢false (sym (eq-eqb _ _ h) ∙ d)))
+      (λ l e b h. omega arith)
+      (λ e b h. b)
+
+-- a begin or a reset
+changed : (ms : Meters) (i : ℕ) (m : Meter) (t : Bool) → (refuseIf t (refusedFour «NO_SCRIPT» ms) (changedFour ms i m) .answer .number ≡ «ACCEPTED» → ⊥)
+    → refuseIf t (refusedFour «NO_SCRIPT» ms) (changedFour ms i m) .meters ≡ ms
+changed ms i m true h = refl
+changed ms i m false h = absurd (h refl)
+
+called : (g : Scripts) (ms : Meters) (i s : ℕ) (c : Call) → (madeBy g ms i s c .answer .number ≡ «ACCEPTED» → ⊥) → madeBy g ms i s c .meters ≡ ms
+unfolding beginFourOf resetFourOf
+called g ms i s begin = changed ms i (beginOf (meterOf ms i)) (ltb lastScript i)
+called g ms i s (feed q) = fed-unchanged (g i) ms i s q
+called g ms i s reset = changed ms i (resetOf (meterOf ms i)) (ltb lastScript i)
+
+unchanged : (g : Scripts) (ms : Meters) (c : FourCall) → (made g ms c .answer .number ≡ «ACCEPTED» → ⊥) → made g ms c .meters ≡ ms
+unfolding made
+unchanged g ms c = called g ms (c .script) (c .budget) (c .call)
+
+none : (g : Scripts) (ms : Meters) (c : FourCall) → lastScript < c .script → made g ms c .answer .number ≡ «NO_SCRIPT»
+unfolding made
+none g ms c l = ap (λ (r : FedFour). r .answer .number) (no-script g ms (c .script) (c .budget) (c .call) (lt-ltb lastScript (c .script) l))
+
+pub refusals : Claim.Refusals
+refusals = record { unchanged = unchanged; no-script = none; over-budget = over-budget; within = within }
