@@ -1,0 +1,5 @@
+pub mod Writing
+pub mod Lowest
+pub mod Within
+pub mod Digits
+pub mod Cuts
