@@ -29,7 +29,7 @@ unfolding successorsOf unless
 outside ws p h = rw (le-ltb p (length ws) h)
 
 -- a code is one of eight
-bit-small : (b : Bool) → bitOf b ≤ 1
+pub bit-small : (b : Bool) → bitOf b ≤ 1
 bit-small true = omega arith
 bit-small false = omega arith
 

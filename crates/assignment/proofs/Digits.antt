@@ -47,3 +47,10 @@ pub packed-first : (f : ℕ → ℕ) (r k : ℕ) → 0 < k → packed f r k ≡ 
 unfolding packed
 packed-first f r zero h = absurd (not-suc-le-zero h)
 packed-first f r (suc k) h = let e : k ≡ suc k - 1 = omega arith in ap (λ (x : ℕ). f r + 8 * packed f (r + 1) x) e
+
+-- a turn of the loop that packs them, from the last code to the first
+pub packed-turn : (f : ℕ → ℕ) (r i : ℕ) {codes c : ℕ} → 0 < i → i ≤ 21 → codes ≡ packed f (r + i) (21 - i) → c ≡ f (r + (i - 1)) → c + 8 * codes ≡ packed f (r + (i - 1)) (21 - (i - 1))
+packed-turn f r i {codes} {c} h l e d =
+    let a : r + i ≡ r + (i - 1) + 1 = omega arith in
+    let b : suc (21 - i) ≡ 21 - (i - 1) = omega arith in
+    ap (λ (x : ℕ). c + 8 * x) (e ∙ ap (λ (x : ℕ). packed f x (21 - i)) a) ∙ packed-more f (r + (i - 1)) (21 - i) d ∙ ap (packed f (r + (i - 1))) b

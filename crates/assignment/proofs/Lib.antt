@@ -3,3 +3,5 @@ pub mod Lowest
 pub mod Within
 pub mod Digits
 pub mod Cuts
+pub mod Uses
+pub mod Finding

@@ -1,6 +1,8 @@
 // Definite assignment: "on every course from word 0 each register named as read was a parameter or was named as written earlier on that course".
 ghost use mathlib.Core.Path.{_≡_};
+ghost use mathlib.Core.Bool.{_&&_};
 ghost use Prim.Native.Nat.{_≤_, _<_};
+ghost use lib.Dec.{eqb};
 ghost use lib.ListN.{length};
 ghost use Rattle.common.specs.Limits.{mostWords};
 ghost use Rattle.common.specs.Lists.{tabulate};
@@ -42,16 +44,25 @@ fn mark_words(words: &[u32], marks: &mut [u8], work: &mut [u32])
     mark_cut(words, &none, marks, work);
 }
 
-fn is_bad(words: &[u32], p: usize) -> bool
-    ensures { λ b. ⌜ b ≡ isInvalid (successorsOf (now (words .entry)) p) ⌝ }
+fn is_bad(s: Successors) -> bool
+    ensures { λ b. ⌜ b ≡ isInvalid s ⌝ }
 {
-    let s = successors(words, p);
     match s {
         Successors::Invalid => true,
         Successors::Stop => false,
         Successors::One(_) => false,
         Successors::Two(_, _) => false,
     }
+}
+
+// Whether word p is reachable, by its mark, and bad.
+fn reaches_bad(words: &[u32], p: usize, mark: u8) -> bool
+    ensures { λ b. ⌜ b ≡ eqb mark 1 && isInvalid (successorsOf (now (words .entry)) p) ⌝ }
+{
+    if mark == 1 {
+        return is_bad(successors(words, p));
+    }
+    false
 }
 
 // The lowest reachable bad word, or the number of words, by their marks.
@@ -62,10 +73,8 @@ fn find_bad(words: &[u32], marks: &[u8]) -> usize
     let n = words.len();
     let mut i = 0;
     while i < n {
-        if marks[i] == 1 {
-            if is_bad(words, i) {
-                return i;
-            }
+        if reaches_bad(words, i, marks[i]) {
+            return i;
         }
         i += 1;
     }

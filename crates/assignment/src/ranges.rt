@@ -1,6 +1,6 @@
 // Registers in the ranges that a word's lists have, up to their count.
 ghost use mathlib.Core.Path.{_≡_};
-ghost use Prim.Native.Nat.{_+_, max};
+ghost use Prim.Native.Nat.{_+_, _≤_, max};
 ghost use lib.ListN.{length};
 ghost use Rattle.touches.specs.Meaning.{rangesIn};
 ghost use Rattle.assignment.specs.Uses.{inRange, inRanges, endOf, setsBy};
@@ -44,7 +44,7 @@ pub(crate) fn in_ranges(x: Ranges, r: usize) -> bool
     in_range(items[2], r)
 }
 
-fn larger(x: usize, y: usize) -> usize
+pub(crate) fn larger(x: usize, y: usize) -> usize
     ensures { λ r. ⌜ r ≡ max x y ⌝ }
 {
     if x < y {
@@ -54,7 +54,7 @@ fn larger(x: usize, y: usize) -> usize
 }
 
 fn end(x: Range) -> usize
-    ensures { λ r. ⌜ r ≡ x .last + 1 ⌝ }
+    ensures { λ r. ⌜ (r ≡ x .last + 1) × (r ≤ 65536) ⌝ }
 {
     x.last as usize + 1
 }
@@ -62,7 +62,7 @@ fn end(x: Range) -> usize
 // One past the highest register of the ranges; 0 if there is none.
 pub(crate) fn end_of(x: Ranges) -> usize
     requires { ⌜ length (x .items) ≡ 3 ⌝ }
-    ensures { λ r. ⌜ r ≡ endOf (rangesIn x) ⌝ }
+    ensures { λ r. ⌜ (r ≡ endOf (rangesIn x)) × (r ≤ 65536) ⌝ }
 {
     let items = x.items;
     let count = x.count;

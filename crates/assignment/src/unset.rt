@@ -1,7 +1,9 @@
 // For one register: the words that some path reaches without its being set are those that are reachable when the edges are cut on which it is
 // set. One search for each register that is read.
 ghost use mathlib.Core.Path.{_≡_};
-ghost use Prim.Native.Nat.{_≤_};
+ghost use mathlib.Core.Bool.{_&&_};
+ghost use Prim.Native.Nat.{_/_, _%_, _≤_};
+ghost use lib.Dec.{eqb};
 ghost use lib.ListN.{length};
 ghost use Rattle.common.specs.Limits.{mostWords};
 ghost use Rattle.common.specs.Lowest.{lowest};
@@ -11,6 +13,7 @@ ghost use Rattle.assignment.specs.Answers.{unsetOf};
 ghost use Rattle.assignment.specs.Codes.{readsIn, readsMarked, readsCut, Room};
 use crate::codes::codes_for;
 use crate::ranges::end_of;
+use crate::ranges::larger;
 use runs::cutting::mark_cut;
 use touches::word::touches_in;
 
@@ -29,6 +32,15 @@ fn find_reading(codes: &[u64], limit: usize) -> usize
     i
 }
 
+fn reads_marked(code: u64, mark: u8) -> bool
+    ensures { λ b. ⌜ b ≡ eqb (code / 4 % 2) 1 && eqb mark 1 ⌝ }
+{
+    if code / 4 % 2 == 1 {
+        return mark == 1;
+    }
+    false
+}
+
 // The lowest word below a limit that reads and is marked, or the limit.
 fn find_marked(codes: &[u64], marks: &[u8], limit: usize) -> usize
     requires { ⌜ (limit ≤ length (now codes)) × (limit ≤ length (now marks)) ⌝ }
@@ -36,10 +48,8 @@ fn find_marked(codes: &[u64], marks: &[u8], limit: usize) -> usize
 {
     let mut i = 0;
     while i < limit {
-        if marks[i] == 1 {
-            if codes[i] / 4 % 2 == 1 {
-                return i;
-            }
+        if reads_marked(codes[i], marks[i]) {
+            return i;
         }
         i += 1;
     }
@@ -67,7 +77,7 @@ fn unset_in(
 // One past the highest register that a word reads.
 fn registers_read(rows: &[u64; 128], words: &[u32]) -> usize
     requires { ⌜ (now rows ≡ accessTable) × (length (now words) ≤ mostWords) ⌝ }
-    ensures { λ r. ⌜ r ≡ registersOf (now (words .entry)) ⌝ }
+    ensures { λ r. ⌜ (r ≡ registersOf (now (words .entry))) × (r ≤ 65536) ⌝ }
 {
     let n = words.len();
     let mut registers: usize = 0;
@@ -75,10 +85,7 @@ fn registers_read(rows: &[u64; 128], words: &[u32]) -> usize
     while i < n {
         let t = touches_in(rows, words, i);
         let reads = t.reads;
-        let end = end_of(reads);
-        if registers < end {
-            registers = end;
-        }
+        registers = larger(registers, end_of(reads));
         i += 1;
     }
     registers
