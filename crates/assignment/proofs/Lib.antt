@@ -5,3 +5,4 @@ pub mod Digits
 pub mod Cuts
 pub mod Uses
 pub mod Finding
+pub mod Outcome
