@@ -6,3 +6,4 @@ pub mod Cuts
 pub mod Uses
 pub mod Finding
 pub mod Outcome
+pub mod Meaning

@@ -61,13 +61,17 @@ module _ (ws : List ℕ) (k : ℕ) (m : List ℕ) where
   abbrev pub Outcome : Answer → List ℕ → Type 0
   Outcome r m′ = (r ≡ assignmentOf ws k (length m)) × (m′ ≡ marksAssigned ws k m)
 
-  pub outcome-kept : (number : ℕ) → assignmentOf ws k (length m) ≡ answer number 0 → untouched number ≡ true → Outcome (answer number 0) m
+  pub marks-untouched : (number : ℕ) → assignmentOf ws k (length m) ≡ answer number 0 → untouched number ≡ true → marksAssigned ws k m ≡ m
   unfolding marksAssigned
-  outcome-kept number e u = (sym e, simp (e, u))
+  marks-untouched number e u = simp (e, u)
+
+  pub marks-words : assignmentOf ws k (length m) ≡ decided ws k → marksAssigned ws k m ≡ over (markOf (graphOf ws)) (length ws) m
+  unfolding marksAssigned
+  marks-words e = let u : untouched (assignmentOf ws k (length m) .number) ≡ false = ap (λ (a : Answer). untouched (a .number)) e ∙ decided-touches ws k in simp u
+
+  pub outcome-kept : (number : ℕ) → assignmentOf ws k (length m) ≡ answer number 0 → untouched number ≡ true → Outcome (answer number 0) m
+  outcome-kept number e u = (sym e, sym (marks-untouched number e u))
 
   pub outcome-words : assignmentOf ws k (length m) ≡ decided ws k → {r : Answer} {m′ : List ℕ} → r ≡ decided ws k → m′ ≡ tabulate (markOf (graphOf ws)) 0 (length ws)
       → Outcome r (m′ ++ drop (length ws) m)
-  unfolding marksAssigned
-  outcome-words e d f =
-      let u : untouched (assignmentOf ws k (length m) .number) ≡ false = ap (λ (a : Answer). untouched (a .number)) e ∙ decided-touches ws k in
-      (d ∙ sym e, simp u (ap (λ (x : List ℕ). x ++ drop (length ws) m) f))
+  outcome-words e d f = (d ∙ sym e, ap (λ (x : List ℕ). x ++ drop (length ws) m) f ∙ sym (marks-words e))
