@@ -107,7 +107,12 @@ module _ (ws : List ℕ) (k : ℕ) where
   pub finding-none : {marks codes work : List ℕ} → Room ws marks codes work → Finding marks codes work marks codes work (length ws) k
   finding-none room =
       record {
-        room = room; marks-same = refl; codes-same = refl; work-same = refl; from = omega arith; before = inl refl;
+        room = room;
+        marks-same = refl;
+        codes-same = refl;
+        work-same = refl;
+        from = omega arith;
+        before = inl refl;
         least-is = none-below (unsetBelow ws k k) (length ws) (λ p h. none-of (test p) k (low p));
       }
 

@@ -107,7 +107,10 @@ module _ (ws : List ℕ) (k : ℕ) where
   course-breaks : (p : ℕ) → Breaks (graphOf ws) (usageOf ws) k p → CourseBreaks ws k p
   course-breaks p b =
       record {
-        rest = b .rest; course = b .path; ends = b .ends; register = b .register;
+        rest = b .rest;
+        course = b .path;
+        ends = b .ends;
+        register = b .register;
         read = in-ranges (b .register) (rangesIn (touchesOf ws p .reads)) .0 (b .read);
         no-parameter = b .no-parameter;
         unwritten = unwritten-along ws (b .register) 0 (b .rest) (b .unset);
@@ -116,7 +119,11 @@ module _ (ws : List ℕ) (k : ℕ) where
   breaks-course : (p : ℕ) → CourseBreaks ws k p → Breaks (graphOf ws) (usageOf ws) k p
   breaks-course p b =
       record {
-        rest = b .rest; path = b .course; ends = b .ends; register = b .register; no-parameter = b .no-parameter;
+        rest = b .rest;
+        path = b .course;
+        ends = b .ends;
+        register = b .register;
+        no-parameter = b .no-parameter;
         read = in-ranges (b .register) (rangesIn (touchesOf ws p .reads)) .1 (b .read);
         unset = along-unwritten ws (b .register) 0 (b .rest) (b .unwritten);
       }
@@ -215,8 +222,8 @@ module _ (ws : List ℕ) (k : ℕ) where
           (course-breaks ws k p (b .0), λ q h c. b .1 q h (breaks-course ws k q c)))
           (split (length ws) (unsetOf ws k)),
       λ b.
-      let z = theory ws k .place p .1 (breaks-course ws k p (b .0), λ q h c. b .1 q h (course-breaks ws k q c)) in
-      at-unset valid (omega (arith, z .0, z .1)) ∙ ap (answer «UNSET_REGISTER») (z .0),
+          let z = theory ws k .place p .1 (breaks-course ws k p (b .0), λ q h c. b .1 q h (course-breaks ws k q c)) in
+          at-unset valid (omega (arith, z .0, z .1)) ∙ ap (answer «UNSET_REGISTER») (z .0),
     )
 
   none-unset : (p : ℕ) → CourseBreaks ws k p → length ws ≤ unsetOf ws k → ⊥

@@ -75,7 +75,10 @@ pub(crate) fn end_of(x: Ranges) -> usize
     if count == 2 {
         return larger(end(items[0]), larger(end(items[1]), 0));
     }
-    larger(end(items[0]), larger(end(items[1]), larger(end(items[2]), 0)))
+    larger(
+        end(items[0]),
+        larger(end(items[1]), larger(end(items[2]), 0)),
+    )
 }
 
 // Whether a word that touches t sets register r on the step to q.

@@ -57,13 +57,7 @@ fn find_marked(codes: &[u64], marks: &[u8], limit: usize) -> usize
 }
 
 // The lowest word below a limit that reads the register of these codes unset, or the limit. A register that no such word reads needs no search.
-fn unset_in(
-    words: &[u32],
-    codes: &[u64],
-    marks: &mut [u8],
-    work: &mut [u32],
-    limit: usize,
-) -> usize
+fn unset_in(words: &[u32], codes: &[u64], marks: &mut [u8], work: &mut [u32], limit: usize) -> usize
     requires { ⌜ Room (now words) (now marks) (now codes) (now work) × (limit ≤ length (now words)) ⌝ }
     ensures { λ r. ⌜ r ≡ lowest (readsCut (now (words .entry)) (now (codes .entry))) limit ⌝ }
 {

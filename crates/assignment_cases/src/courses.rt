@@ -27,11 +27,7 @@ pub fn branches() {
         &[test(0), over(2), set(1), over(1), set(1), copy(2, 1), end],
         1,
     );
-    case(
-        b"an unreachable word reads",
-        &[end, copy(1, 0)],
-        0,
-    );
+    case(b"an unreachable word reads", &[end, copy(1, 0)], 0);
     case(
         b"an unreachable word sets",
         &[over(1), set(0), copy(1, 0), end],
@@ -73,7 +69,12 @@ pub fn places() {
     );
     case(
         b"registers far apart",
-        &[abc(OP_LOADNIL, 0, 0, 255, 0), copy(0, 200), abc(OP_CALL, 200, 0, 100, 1), end],
+        &[
+            abc(OP_LOADNIL, 0, 0, 255, 0),
+            copy(0, 200),
+            abc(OP_CALL, 200, 0, 100, 1),
+            end,
+        ],
         0,
     );
 }

@@ -23,22 +23,38 @@ pub fn parameters() {
     case(b"255 with 255 parameters", &[copy(0, 255), end], 255);
     case(
         b"255 to 257, set to 256",
-        &[abc(OP_LOADNIL, 255, 0, 1, 0), abc(OP_CALL, 255, 0, 3, 1), end],
+        &[
+            abc(OP_LOADNIL, 255, 0, 1, 0),
+            abc(OP_CALL, 255, 0, 3, 1),
+            end,
+        ],
         255,
     );
     case(
         b"255 to 257, set to 257",
-        &[abc(OP_LOADNIL, 255, 0, 2, 0), abc(OP_CALL, 255, 0, 3, 1), end],
+        &[
+            abc(OP_LOADNIL, 255, 0, 2, 0),
+            abc(OP_CALL, 255, 0, 3, 1),
+            end,
+        ],
         255,
     );
     case(
         b"255 to 509, set to 510",
-        &[abc(OP_LOADNIL, 255, 0, 255, 0), abc(OP_CALL, 255, 0, 255, 1), end],
+        &[
+            abc(OP_LOADNIL, 255, 0, 255, 0),
+            abc(OP_CALL, 255, 0, 255, 1),
+            end,
+        ],
         255,
     );
     case(
         b"the last of 254 to 509 is unset",
-        &[abc(OP_LOADNIL, 254, 0, 254, 0), abc(OP_CALL, 255, 0, 255, 1), end],
+        &[
+            abc(OP_LOADNIL, 254, 0, 254, 0),
+            abc(OP_CALL, 255, 0, 255, 1),
+            end,
+        ],
         254,
     );
 }
@@ -87,7 +103,12 @@ pub fn calls() {
     );
     case(
         b"CALL with C 0, then a call up to the top",
-        &[set(0), abc(OP_CALL, 0, 0, 1, 0), abc(OP_CALL, 0, 0, 0, 1), end],
+        &[
+            set(0),
+            abc(OP_CALL, 0, 0, 1, 0),
+            abc(OP_CALL, 0, 0, 0, 1),
+            end,
+        ],
         0,
     );
     case(
@@ -104,32 +125,68 @@ pub fn loops() {
     let again = a_bx(OP_TFORLOOP, 0, 2);
     case(
         b"TFORCALL with C 0 sets nothing for TFORLOOP",
-        &[abc(OP_LOADNIL, 0, 0, 3, 0), prepare, abc(OP_TFORCALL, 0, 0, 0, 0), again, end],
+        &[
+            abc(OP_LOADNIL, 0, 0, 3, 0),
+            prepare,
+            abc(OP_TFORCALL, 0, 0, 0, 0),
+            again,
+            end,
+        ],
         0,
     );
     case(
         b"TFORCALL with C 1 sets it",
-        &[abc(OP_LOADNIL, 0, 0, 3, 0), prepare, abc(OP_TFORCALL, 0, 0, 0, 1), again, end],
+        &[
+            abc(OP_LOADNIL, 0, 0, 3, 0),
+            prepare,
+            abc(OP_TFORCALL, 0, 0, 0, 1),
+            again,
+            end,
+        ],
         0,
     );
     case(
         b"TFORPREP needs the fourth register",
-        &[abc(OP_LOADNIL, 0, 0, 2, 0), prepare, abc(OP_TFORCALL, 0, 0, 0, 1), again, end],
+        &[
+            abc(OP_LOADNIL, 0, 0, 2, 0),
+            prepare,
+            abc(OP_TFORCALL, 0, 0, 0, 1),
+            again,
+            end,
+        ],
         0,
     );
     case(
         b"FORPREP sets the control variable on either way",
-        &[abc(OP_LOADNIL, 0, 0, 2, 0), a_bx(OP_FORPREP, 0, 1), copy(4, 3), a_bx(OP_FORLOOP, 0, 2), abc(OP_RETURN1, 3, 0, 0, 0)],
+        &[
+            abc(OP_LOADNIL, 0, 0, 2, 0),
+            a_bx(OP_FORPREP, 0, 1),
+            copy(4, 3),
+            a_bx(OP_FORLOOP, 0, 2),
+            abc(OP_RETURN1, 3, 0, 0, 0),
+        ],
         0,
     );
     case(
         b"FORLOOP sets it on the way back alone",
-        &[abc(OP_LOADNIL, 0, 0, 2, 0), over(1), copy(4, 3), a_bx(OP_FORLOOP, 0, 2), abc(OP_RETURN1, 3, 0, 0, 0)],
+        &[
+            abc(OP_LOADNIL, 0, 0, 2, 0),
+            over(1),
+            copy(4, 3),
+            a_bx(OP_FORLOOP, 0, 2),
+            abc(OP_RETURN1, 3, 0, 0, 0),
+        ],
         0,
     );
     case(
         b"and there it does",
-        &[abc(OP_LOADNIL, 0, 0, 2, 0), over(1), copy(4, 3), a_bx(OP_FORLOOP, 0, 2), end],
+        &[
+            abc(OP_LOADNIL, 0, 0, 2, 0),
+            over(1),
+            copy(4, 3),
+            a_bx(OP_FORLOOP, 0, 2),
+            end,
+        ],
         0,
     );
 }

@@ -21,11 +21,23 @@ pub fn refusals() {
     let ret = plain(OP_RETURN0);
     four(b"no words", &[]);
     four(b"five words, four marks", &[read, read, read, read, ret]);
-    four(b"four words, four marks", &[abc(OP_LOADTRUE, 9, 0, 0, 0), read, read, ret]);
+    four(
+        b"four words, four marks",
+        &[abc(OP_LOADTRUE, 9, 0, 0, 0), read, read, ret],
+    );
     four(b"an unset register before a bad word", &[read, bad]);
-    four(b"a bad word before an unset register", &[over(1), bad, read, ret]);
-    four(b"an unset register", &[ret, read, read]);
-    four(b"two of them", &[abc(OP_LOADTRUE, 0, 0, 0, 0), read, read, ret]);
+    four(
+        b"an unreachable bad word before an unset register",
+        &[over(1), bad, read, ret],
+    );
+    four(
+        b"an unset register that no course reaches",
+        &[ret, read, read],
+    );
+    four(
+        b"two of them",
+        &[abc(OP_LOADTRUE, 0, 0, 0, 0), read, read, ret],
+    );
 }
 
 fn put(words: &mut [u32], i: usize, word: u32) {

@@ -34,7 +34,7 @@ returns-4 c =
     let n = c .before .larger5 .ensures in
     let l = c .larger6 .ensures in (
       l ∙ ap₂ max (a .0) (n ∙ ap₂ max (b .0) (m ∙ ap (λ (x : ℕ). max x 0) (d .0)))
-      ∙ end-three (s .args .x .items) (s .pre) (s .args .x .count) (c .before .before .before .before .before .before .before .before .before .before .before .if1 .left) (c .before .before .before .before .before .before .before .before .before .before .if2 .left) (c .before .before .before .before .before .before .before .before .before .if3 .left),
+          ∙ end-three (s .args .x .items) (s .pre) (s .args .x .count) (c .before .before .before .before .before .before .before .before .before .before .before .if1 .left) (c .before .before .before .before .before .before .before .before .before .before .if2 .left) (c .before .before .before .before .before .before .before .before .before .if3 .left),
       omega (arith, a .1, b .1, d .1),
     )
 
