@@ -304,6 +304,7 @@ struct lawendeb_touches lawendeb_touches(const uint32_t *words, size_t n, size_t
 struct lawendeb_answer lawendeb_definite_assignment(const uint32_t *words, size_t n,
                                                     uint8_t parameters, uint8_t *marks,
                                                     size_t marks_n);
+
 /* ---- rehearsing scripts: librehearsal.a */
 
 /* The longest wait of each script: the words that others ran between two of its turns, 0 if it had
