@@ -45,7 +45,7 @@ find-unset-spec =
     let v = t .before .loop .inv in
     let s = start t in
     (s .pre .0, v .room .few, v .room .codes-long, v .from, omega (arith, small t), v .before))
-    (λ c κs. let k = c .before .before .before .before .before in (room k, least-in (start (turn k) .args .words .now) (start (turn k) .args .parameters) (turn k .before .loop .r) (turn k .before .loop .inv .least-is)))
+    (λ c κs. let k = c .before .before .before .before .before in (room k, omega (arith, least-in (start (turn k) .args .words .now) (start (turn k) .args .parameters) (turn k .before .loop .r) (turn k .before .loop .inv .least-is))))
     (λ c. let t = c .before .before .before .before .before .before .before .before .before .before .before .before in omega (arith, small t))
     (λ c. let t = c .before .before .before .before .before .before .before .before .before .before .before .before in omega (arith, t .loop-test .taken))
     (λ c.
