@@ -20,6 +20,10 @@ use Rattle.touches.specs.declared.answer.Touches.{Touches}
 use Rattle.touches.specs.Touches.{touchesOf}
 use Rattle.assignment.specs.Uses.{readsBy, setsBy, usageOf}
 
+-- registers are numbers of 16 bits, so many of them
+abbrev pub mostRegisters : ℕ
+mostRegisters = 65536
+
 -- lists of registers of three places each, as every answer has them
 pub record Listed (t : Touches) : Type 0 where
   pub reads : length (t .reads .items) ≡ 3

@@ -6,7 +6,7 @@ ghost use lib.ListN.{length, getD};
 ghost use Rattle.common.specs.Limits.{mostWords};
 ghost use Rattle.common.specs.Lists.{over};
 ghost use Rattle.touches.specs.Table.{accessTable};
-ghost use Rattle.assignment.specs.Codes.{Listed, bitOf, codeOf, codeAt, packed, Coded, CodedBefore};
+ghost use Rattle.assignment.specs.Codes.{mostRegisters, «CODES», «BLOCK», Listed, bitOf, codeOf, codeAt, packed, Coded, CodedBefore};
 use crate::ranges::in_ranges;
 use crate::ranges::sets;
 use runs::edges::Successors;
@@ -29,7 +29,7 @@ fn bit(b: bool) -> u64
 // The code of a word for register r, by what it touches and its steps.
 fn code_of(t: Touches, s: Successors, r: usize) -> u64
     requires { ⌜ Listed t ⌝ }
-    ensures { λ c. ⌜ (c ≡ codeOf t s r) × (c < 8) ⌝ }
+    ensures { λ c. ⌜ (c ≡ codeOf t s r) × (c < «CODES») ⌝ }
 {
     let reads = t.reads;
     let read = 4 * bit(in_ranges(reads, r));
@@ -51,8 +51,8 @@ fn code_of(t: Touches, s: Successors, r: usize) -> u64
 
 // The codes of a word for the registers from r on.
 fn codes_from(t: Touches, s: Successors, r: usize) -> u64
-    requires { ⌜ Listed t × (r < 4294967296) ⌝ }
-    ensures { λ c. ⌜ c ≡ packed (codeOf t s) r 21 ⌝ }
+    requires { ⌜ Listed t × (r ≤ mostRegisters) ⌝ }
+    ensures { λ c. ⌜ c ≡ packed (codeOf t s) r «BLOCK» ⌝ }
 {
     let mut codes: u64 = 0;
     let mut i = BLOCK;
@@ -65,8 +65,8 @@ fn codes_from(t: Touches, s: Successors, r: usize) -> u64
 
 // The codes of all words for the registers from r on.
 fn fill_codes(rows: &[u64; 128], words: &[u32], r: usize, codes: &mut [u64])
-    requires { ⌜ (now rows ≡ accessTable) × (length (now words) ≤ mostWords) × (length (now words) ≤ length (now codes)) × (r < 4294967296) ⌝ }
-    ensures { λ _. ⌜ now (codes .exit) ≡ over (λ p. packed (codeAt (now (words .entry)) p) r 21) (length (now (words .entry))) (now (codes .entry)) ⌝ }
+    requires { ⌜ (now rows ≡ accessTable) × (length (now words) ≤ mostWords) × (length (now words) ≤ length (now codes)) × (r ≤ mostRegisters) ⌝ }
+    ensures { λ _. ⌜ now (codes .exit) ≡ over (λ p. packed (codeAt (now (words .entry)) p) r «BLOCK») (length (now (words .entry))) (now (codes .entry)) ⌝ }
 {
     let n = words.len();
     let mut i = 0;
@@ -79,7 +79,7 @@ fn fill_codes(rows: &[u64; 128], words: &[u32], r: usize, codes: &mut [u64])
 // The codes for one register are taken off.
 fn shift_codes(codes: &mut [u64], n: usize)
     requires { ⌜ n ≤ length (now codes) ⌝ }
-    ensures { λ _. ⌜ now (codes .exit) ≡ over (λ p. getD (now (codes .entry)) p 0 / 8) n (now (codes .entry)) ⌝ }
+    ensures { λ _. ⌜ now (codes .exit) ≡ over (λ p. getD (now (codes .entry)) p 0 / «CODES») n (now (codes .entry)) ⌝ }
 {
     let mut i = 0;
     while i < n {
@@ -96,7 +96,7 @@ pub(crate) fn codes_for(
     r: usize,
     codes: &mut [u64],
 )
-    requires { ⌜ (now rows ≡ accessTable) × (length (now words) ≤ mostWords) × (length (now words) ≤ length (now codes)) × (parameters ≤ r) × (r < 4294967296) × CodedBefore (now words) parameters r (now codes) ⌝ }
+    requires { ⌜ (now rows ≡ accessTable) × (length (now words) ≤ mostWords) × (length (now words) ≤ length (now codes)) × (parameters ≤ r) × (r ≤ mostRegisters) × CodedBefore (now words) parameters r (now codes) ⌝ }
     ensures { λ _. ⌜ Coded (now (words .entry)) parameters r (now (codes .exit)) ⌝ }
 {
     if (r - parameters) % BLOCK == 0 {

@@ -23,16 +23,16 @@ use runs::successors::successors;
 
 // The two tables of fixed size, with an element for each of the most words.
 
-fn no_codes() -> [u64; 32768]
-    ensures { λ r. ⌜ length r ≡ 32768 ⌝ }
+fn no_codes() -> [u64; MOST_WORDS]
+    ensures { λ r. ⌜ length r ≡ mostWords ⌝ }
 {
-    [0; 32768]
+    [0; MOST_WORDS]
 }
 
-fn no_work() -> [u32; 32768]
-    ensures { λ r. ⌜ length r ≡ 32768 ⌝ }
+fn no_work() -> [u32; MOST_WORDS]
+    ensures { λ r. ⌜ length r ≡ mostWords ⌝ }
 {
-    [0; 32768]
+    [0; MOST_WORDS]
 }
 
 // The reachable marks: nothing is cut.

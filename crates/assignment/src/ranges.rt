@@ -4,7 +4,7 @@ ghost use Prim.Native.Nat.{_+_, _≤_, max};
 ghost use lib.ListN.{length};
 ghost use Rattle.touches.specs.Meaning.{rangesIn};
 ghost use Rattle.assignment.specs.Uses.{inRange, inRanges, endOf, setsBy};
-ghost use Rattle.assignment.specs.Codes.{Listed};
+ghost use Rattle.assignment.specs.Codes.{mostRegisters, Listed};
 use touches::Touches;
 use touches::answer::Range;
 use touches::answer::Ranges;
@@ -54,7 +54,7 @@ pub(crate) fn larger(x: usize, y: usize) -> usize
 }
 
 fn end(x: Range) -> usize
-    ensures { λ r. ⌜ (r ≡ x .last + 1) × (r ≤ 65536) ⌝ }
+    ensures { λ r. ⌜ (r ≡ x .last + 1) × (r ≤ mostRegisters) ⌝ }
 {
     x.last as usize + 1
 }
@@ -62,7 +62,7 @@ fn end(x: Range) -> usize
 // One past the highest register of the ranges; 0 if there is none.
 pub(crate) fn end_of(x: Ranges) -> usize
     requires { ⌜ length (x .items) ≡ 3 ⌝ }
-    ensures { λ r. ⌜ (r ≡ endOf (rangesIn x)) × (r ≤ 65536) ⌝ }
+    ensures { λ r. ⌜ (r ≡ endOf (rangesIn x)) × (r ≤ mostRegisters) ⌝ }
 {
     let items = x.items;
     let count = x.count;

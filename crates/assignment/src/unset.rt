@@ -10,7 +10,7 @@ ghost use Rattle.common.specs.Lowest.{lowest};
 ghost use Rattle.touches.specs.Table.{accessTable};
 ghost use Rattle.assignment.specs.Uses.{registersOf};
 ghost use Rattle.assignment.specs.Answers.{unsetOf};
-ghost use Rattle.assignment.specs.Codes.{readsIn, readsMarked, readsCut, Room};
+ghost use Rattle.assignment.specs.Codes.{mostRegisters, readsIn, readsMarked, readsCut, Room};
 use crate::codes::codes_for;
 use crate::ranges::end_of;
 use crate::ranges::larger;
@@ -71,7 +71,7 @@ fn unset_in(words: &[u32], codes: &[u64], marks: &mut [u8], work: &mut [u32], li
 // One past the highest register that a word reads.
 fn registers_read(rows: &[u64; 128], words: &[u32]) -> usize
     requires { ⌜ (now rows ≡ accessTable) × (length (now words) ≤ mostWords) ⌝ }
-    ensures { λ r. ⌜ (r ≡ registersOf (now (words .entry))) × (r ≤ 65536) ⌝ }
+    ensures { λ r. ⌜ (r ≡ registersOf (now (words .entry))) × (r ≤ mostRegisters) ⌝ }
 {
     let n = words.len();
     let mut registers: usize = 0;
