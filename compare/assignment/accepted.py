@@ -1,7 +1,7 @@
 """accepted.py SIDE FILES: reads chunks as dump.lua writes them from standard input, of the files named in
 FILES one a line, and gives every function with its own number of parameters to the side and to the
 data-flow reading, the shortest to the one that follows courses, too. All have to be accepted. Shows those that are
-not, and what was found; ends with status 1 if there is one, or if a side differs from a reading."""
+not, and what was found; ends with status 1 if there is one, if there is no function, or if a side differs from a reading."""
 import sys
 from collections import Counter
 import chunks, courses
@@ -64,7 +64,7 @@ def main():
         print(f"turned back: {name}, function {index}: {got[0]} at {got[1]}; {parameters} parameters, {len(words)} words")
         for p, word in enumerate(words[:40]):
             print(f"    {p:5} {word:10} {text(word)}")
-    sys.exit(bool(turned) or bool(differing))
+    sys.exit(bool(turned) or bool(differing) or not counts[0])
 
 
 if __name__ == "__main__":

@@ -47,11 +47,12 @@ METAMETHODS = NAMES[CODE["MMBIN"] : CODE["MMBINK"] + 1]
 
 
 class Maker:
-    """Random functions: whole groups of words, over few registers, with targets among the groups. `high` registers are
-    now and then near 255, so that sums pass it; `loose` targets are any words."""
+    """Random functions: whole groups of words, over few registers, with targets among the groups. `high` says how often
+    a register is near 255, so that sums pass it, `loose` how often a target is any word, `branches` how often a group is
+    one that branches, jumps or ends, and `returns` how many of those that end are left."""
 
-    def __init__(self, rng, length, registers, high=0.0, loose=0.0, branches=0.4):
-        self.rng, self.length, self.registers = rng, length, registers
+    def __init__(self, rng, length, registers, high=0.0, loose=0.0, branches=0.4, returns=1.0):
+        self.rng, self.length, self.registers, self.returns = rng, length, registers, returns
         self.high, self.loose, self.branches = high, loose, branches
         self.words, self.starts, self.open = [], [], []
 
@@ -109,8 +110,10 @@ class Maker:
                 self.put(self.plain("TFORCALL"))
                 self.open.append(("TFORLOOP", len(self.words)))
                 self.put(0)
-            else:
+            elif rng.random() < self.returns:
                 self.put(self.plain(rng.choice(("RETURN", "RETURN0", "RETURN1", "TAILCALL"))))
+            else:
+                self.put(self.plain(rng.choice(SETTERS)))
         elif kind < self.branches + 0.12:
             self.put(self.plain(rng.choice(ARITHMETIC)))
             self.put(self.plain(rng.choice(METAMETHODS)))
@@ -187,6 +190,7 @@ def long_function(rng):
         high=rng.choice((0, 0, 0, 0.1)),
         loose=rng.choice((0, 0, 0, 0.002)),
         branches=rng.choice((0.1, 0.25, 0.4)),
+        returns=0.1,
     ).function()
 
 
@@ -286,11 +290,11 @@ class Comparison:
 
     def group(self, label, cases, readings):
         """Holds the side against every reading, on all cases; readings may answer None where a case is too long."""
-        batch, counts, seen, reached, asked = [], Counter(), 0, 0, Counter()
+        batch, counts, seen, reached, late, asked = [], Counter(), 0, 0, 0, Counter()
         started = time.time()
 
         def flush():
-            nonlocal seen, reached
+            nonlocal seen, reached, late
             for case, got in zip(batch, self.side.answers(batch)):
                 for reading in readings:
                     if reading is course_by_course and len(case[0]) > 7:
@@ -301,6 +305,7 @@ class Comparison:
                         self.show(case, got, want, reading.__name__)
                         sys.exit(1)
                 counts[got[0]] += 1
+                late += got[0] == UNSET and got[1] > 0
                 seen += len(case[0])
                 if got[0] in (ACCEPTED, UNSET):
                     good = [word & 127 for word, mark in zip(case[0], got[2]) if mark]
@@ -318,7 +323,7 @@ class Comparison:
         self.words += seen
         by = ", ".join(f"{number}: {counts[number]}" for number in sorted(counts))
         of = ", ".join(f"{name} {count}" for name, count in asked.items())
-        print(f"{label}: {many} functions of {seen} words, {reached} of them reachable in functions without a bad one, none differs; answers by number: {by}; by reading: {of}; {time.time() - started:.0f} s", flush=True)
+        print(f"{label}: {many} functions of {seen} words, {reached} of them reachable in functions without a bad one, none differs; answers by number: {by}, {late} of the last past word 0; by reading: {of}; {time.time() - started:.0f} s", flush=True)
         return counts
 
 
@@ -424,7 +429,7 @@ def longest(rng, many):
     """Functions of as many words as may be, or nearly."""
     for i in range(many):
         n = LIMIT - rng.choice((0, 0, 1, 500))
-        words = Maker(rng, n - 9, rng.choice((3, 20, 250)), loose=0.0001 * (i % 5 == 4), branches=0.2).function()
+        words = Maker(rng, n - 9, rng.choice((3, 20, 250)), loose=0.0001 * (i % 5 == 4), branches=0.2, returns=0.01).function()
         if i % 4:  # most registers set: the place, if there is one, is any
             set_first = [abc("LOADNIL", 0, 255), abc("LOADNIL", 255, rng.choice((4, 254)))]
             words = set_first[: rng.randint(1, 2)] + words
@@ -449,6 +454,22 @@ def real(path):
     for line in open(path, encoding="utf-8"):
         parameters, *words = map(int, line.split())
         yield parameters, words
+
+
+def turned_back_without(code, functions):
+    """Whether some real function is turned back by the reading if the writes of this opcode do not count."""
+    for parameters, words in functions:
+        if any(word & 127 == code for word in words):
+            nodes = [courses.Word(words, p) for p in range(len(words))]
+            for node, word in zip(nodes, words):
+                if word & 127 == code:
+                    node.steps = dict.fromkeys(node.steps, 0)
+            courses.held_graph = list(words), nodes
+            turned = by_sets(words, parameters, len(words))[0] == UNSET
+            courses.held_graph = None, None
+            if turned:
+                return True
+    return False
 
 
 def real_damaged(rng, functions, many):
@@ -554,10 +575,9 @@ def past_255_unlooked(word, _t, _words, _p):
     word.reads &= (1 << 256) - 1
 
 
-def calls_unset(word, _t, _words, _p):
-    """CLOSE reads its register."""
-    if _words[_p] & 127 == CODE["CLOSE"]:
-        word.reads |= 1 << (_words[_p] >> 7 & 255)
+def close_reads(word, _t, words, p):
+    if words[p] & 127 == CODE["CLOSE"]:
+        word.reads |= 1 << (words[p] >> 7 & 255)
 
 
 def first_found(words, parameters, length):
@@ -666,7 +686,7 @@ WRONG = [
         metamethod_sets_own_a,
         past_255_is_255,
         past_255_unlooked,
-        calls_unset,
+        close_reads,
     )
 ] + [
     (wrong.__name__, wrong)
@@ -720,6 +740,8 @@ def main():
         print("a real function is turned back")
         sys.exit(1)
     comparison.group("real functions by every parameter count to 9, and 255", [(w, q, len(w), 0) for _, w in functions for q in (*range(10), 255)], [by_sets])
+    needed = [name for name in NAMES if turned_back_without(CODE[name], functions)]
+    print(f"opcodes without whose writes a real function would be turned back: {len(needed)}: {' '.join(needed)}")
     comparison.group("real functions, damaged", real_damaged(rng, functions, 7 * long), [by_sets])
     never = [name for name in NAMES if not comparison.met[CODE[name]]]
     print(f"all: {comparison.total} functions of {comparison.words} words; opcodes reached in functions that have no bad word: {83 - len(never)} of 83; never: {' '.join(never)}")
