@@ -1,7 +1,8 @@
-"""accepted.py SIDE FILES: reads chunks as dump.lua writes them from standard input, of the files named in
-FILES one a line, and gives every function with its own number of parameters to the side and to the
-data-flow reading, the shortest to the one that follows courses, too. All have to be accepted. Shows those that are
-not, and what was found; ends with status 1 if there is one, if there is no function, or if a side differs from a reading."""
+"""accepted.py SIDE FILES: reads chunks as dump.lua writes them from standard input, of the files named
+in FILES one a line, and gives every function with its own number of parameters to the side and to the
+data-flow reading, short ones to the reading that follows courses, too. All have to be accepted. Shows
+those that are not, and what was found; ends with status 1 if there is one, if there is no function,
+or if the side differs from a reading."""
 import sys
 from collections import Counter
 import chunks, courses
@@ -29,7 +30,8 @@ def main():
                 counts[reading.__name__] += 1
                 if want != got:
                     differing += 1
-                    print(f"differs, {reading.__name__}: {where}: {got[:2]}, reading {want[:2]}; {parameters} parameters, words {words[:60]}")
+                    print(f"differs, {reading.__name__}: {where}: {got[:2]}, reading {want[:2]}")
+                    print(f"  {parameters} parameters, words {words[:60]}")
             counts[got[0]] += 1
             opcodes.update(word & 127 for word, mark in zip(words, got[2]) if mark)
             parameter_counts[parameters] += 1
@@ -55,13 +57,20 @@ def main():
             if len(batch) == 2000:
                 flush()
     flush()
-    print(f"{counts['files']} files compiled, {counts['not compiled']} not; {counts['functions']} functions of {counts['words']} words, the longest of {longest}; {over} over the limit of words; {counts['again']} the same as one before")
-    print("answers by number:", ", ".join(f"{number}: {counts[number]}" for number in sorted(n for n in counts if isinstance(n, int))), f"; by reading: by_sets {counts['by_sets']}, by_courses {counts['by_courses']}; differing: {differing}")
-    print("functions by parameters:", ", ".join(f"{number}: {parameter_counts[number]}" for number in sorted(parameter_counts)))
+    print(f"  compiled {counts['files']} files, not {counts['not compiled']}", end="; ")
+    print(f"{counts['functions']} functions of {counts['words']} words, the longest of {longest}")
+    print(f"  left out: {over} over 32,768 words, {counts['again']} the same as one before")
+    by = ", ".join(f"{number}: {counts[number]}" for number in sorted(n for n in counts if isinstance(n, int)))
+    of = ", ".join(f"{name} {counts[name]}" for name in ("by_sets", "by_courses"))
+    print(f"  answers by number: {by}; by reading: {of}; differing: {differing}")
+    many = ", ".join(f"{number}: {parameter_counts[number]}" for number in sorted(parameter_counts))
+    print(f"  functions by parameters: {many}")
     never = [name for code, name in enumerate(NAMES) if not opcodes[code]]
-    print(f"opcodes reached: {83 - len(never)} of 83; never: {' '.join(never)}")
-    for (name, index), (words, parameters, _length, _first), got in sorted(turned, key=lambda one: len(one[1][0]))[:10]:
-        print(f"turned back: {name}, function {index}: {got[0]} at {got[1]}; {parameters} parameters, {len(words)} words")
+    print(f"  opcodes reached: {83 - len(never)} of 83; never: {' '.join(never)}")
+    turned.sort(key=lambda one: len(one[1][0]))
+    for (name, index), (words, parameters, _length, _first), got in turned[:10]:
+        print(f"turned back: {name}, function {index}: {got[0]} at {got[1]};", end=" ")
+        print(f"{parameters} parameters, {len(words)} words")
         for p, word in enumerate(words[:40]):
             print(f"    {p:5} {word:10} {text(word)}")
     sys.exit(bool(turned) or bool(differing) or not counts[0])

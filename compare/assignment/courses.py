@@ -222,25 +222,33 @@ def by_courses(words, parameters, marks_n):
     return answer(nodes, marks, broken)
 
 
-def by_sets(words, parameters, marks_n):
-    refused = refused_first(words, marks_n)
-    if refused:
-        return refused
-    nodes = graph(words)
-    n = len(words)
-    held = [None] * n  # None: no course is known to come here
+def sets(nodes, parameters):
+    """For each word the registers that are set there on every course; None where no course comes."""
+    n = len(nodes)
+    held = [None] * n
     held[0] = first_set(parameters)
     waiting, to_do = bytearray(n), [0]
     while to_do:
         p = heappop(to_do)  # lowest first
         waiting[p] = 0
         here = held[p]
-        for q, written in nodes[p].steps.items():
-            there = here | written if held[q] is None else held[q] & (here | written)
+        for q, there in nodes[p].steps.items():
+            there |= here
+            if held[q] is not None:
+                there &= held[q]
             if there != held[q]:
                 held[q] = there
                 if not waiting[q]:
                     waiting[q] = 1
                     heappush(to_do, q)
-    broken = [p for p in range(n) if held[p] is not None and nodes[p].reads & ~held[p]]
-    return answer(nodes, [held[p] is not None for p in range(n)], broken)
+    return held
+
+
+def by_sets(words, parameters, marks_n):
+    refused = refused_first(words, marks_n)
+    if refused:
+        return refused
+    nodes = graph(words)
+    held = sets(nodes, parameters)
+    broken = [p for p, here in enumerate(held) if here is not None and nodes[p].reads & ~here]
+    return answer(nodes, [here is not None for here in held], broken)

@@ -68,14 +68,13 @@ class Function:
         return self.closure() if depth < 2 else self.leaf()
 
     def leaf(self):
-        rng = self.rng
-        return rng.choice(
-            (self.name(), self.name(), self.name(), "nil", "true", "false", "1", "-70000", "131072", "3.0", "2.25", '"s"', "g", "(...)" if self.vararg else "0")
-        )
+        constants = "nil", "true", "false", "1", "-70000", "131072", "3.0", "2.25", "'s'", "g"
+        return self.rng.choice((self.name(), self.name(), self.name(), "(...)" if self.vararg else "0") + constants)
 
     def index(self, depth):
         name, at = self.name(), self.name()
-        return name + self.rng.choice((".x", "[1]", "[300]", f"[{at}]", "['a b']", f"[{self.expression(depth)}]", "[2.5]"))
+        key = self.rng.choice(("1", "300", at, "'a b'", self.expression(depth), "2.5", ""))
+        return f"{name}[{key}]" if key else f"{name}.x"
 
     def several(self, depth, most=3):
         """Expressions, the last of which may give many values."""
@@ -102,10 +101,10 @@ class Function:
 
     def table(self, depth):
         rng = self.rng
-        items = [
-            rng.choice((f"x = {self.expression(depth)}", f"[{self.expression(depth)} or 1] = {self.expression(depth)}", self.expression(depth)))
-            for _ in range(rng.randint(0, 4))
-        ]
+        items = []
+        for _ in range(rng.randint(0, 4)):
+            key, value = self.expression(depth), self.expression(depth)
+            items.append(rng.choice((f"x = {value}", f"[{key} or 1] = {value}", value)))
         if rng.randrange(30) == 0:
             items += [rng.choice(("1", "nil", "g", self.name())) for _ in range(rng.choice((49, 50, 51, 130)))]
         return "{" + ", ".join(items + self.several(depth, 0)) + "}"
@@ -143,6 +142,10 @@ class Function:
     def fresh(self, kind="v"):
         return self.maker.fresh(kind)
 
+    def loop(self, head, depth, names, label):
+        """A loop whose body may go to its own end."""
+        return [head, "do"] + self.block(depth + 1, names, label) + ["end", f"::{label}::", "end"]
+
     def statement(self, depth):
         rng = self.rng
         which = rng.randrange(26)
@@ -159,7 +162,8 @@ class Function:
             self.blocks[-1].append(name)
             return [line]
         if which < 10:
-            targets = [rng.choice((self.settable(), self.settable(), self.index(2), "g")) for _ in range(rng.choice((1, 1, 1, 2, 3)))]
+            many = rng.choice((1, 1, 1, 2, 3))
+            targets = [rng.choice((self.settable(), self.settable(), self.index(2), "g")) for _ in range(many)]
             return [f"{', '.join(targets)} = {', '.join(self.several(0) or [self.expression()])}"]
         if which < 12:
             call = self.call()
@@ -175,7 +179,7 @@ class Function:
             return lines + ["end"]
         if which == 15:
             label = self.fresh("l")
-            return [f"while {rng.choice((self.expression(), 'true'))} do", "do"] + self.block(depth + 1, loop=label) + ["end", f"::{label}::", "end"]
+            return self.loop(f"while {rng.choice((self.expression(), 'true'))} do", depth, [], label)
         if which == 16:
             # the condition sees the body's locals
             self.blocks.append([])
@@ -188,23 +192,27 @@ class Function:
         if which in (17, 18):
             name, label = self.fresh(), self.fresh("l")
             bounds = [self.expression(2) for _ in range(rng.choice((2, 2, 3)))]
-            return [f"for {name} = {', '.join(bounds)} do", "do"] + self.block(depth + 1, [name], label) + ["end", f"::{label}::", "end"]
+            return self.loop(f"for {name} = {', '.join(bounds)} do", depth, [name], label)
         if which in (19, 20):
             names, label = [self.fresh() for _ in range(rng.choice((1, 2, 2, 3)))], self.fresh("l")
             values = self.several(1) or [f"pairs({self.name()})"]
-            return [f"for {', '.join(names)} in {', '.join(values)} do", "do"] + self.block(depth + 1, names, label) + ["end", f"::{label}::", "end"]
+            return self.loop(f"for {', '.join(names)} in {', '.join(values)} do", depth, names, label)
         if which == 21:
             return ["do"] + self.block(depth + 1) + ["end"]
         if which == 22:
             name = self.fresh()
             self.blocks[-1].append(name)
-            return [f"local {name} = {self.closure()}" if rng.randrange(2) else f"local function {name}{self.maker.function(self)[8:]}"]
+            body = self.closure()
+            return [f"local {name} = {body}" if rng.randrange(2) else f"local function {name}{body[8:]}"]
         if which == 23:
             label = self.fresh("l")
-            return [f"::{label}::"] + ["do"] + self.block(depth + 1) + ["end", f"if {self.expression()} then goto {label} end"]
+            back = f"if {self.expression()} then goto {label} end"
+            return [f"::{label}::", "do"] + self.block(depth + 1) + ["end", back]
         if which == 24:
             label = self.fresh("l")
-            return ["do", "do"] + self.block(depth + 1) + ["end", f"if {self.expression()} then goto {label} end", "do"] + self.block(depth + 1) + ["end", "end", f"::{label}::"]
+            away = f"if {self.expression()} then goto {label} end"
+            before, after = self.block(depth + 1), self.block(depth + 1)
+            return ["do", "do"] + before + ["end", away, "do"] + after + ["end", "end", f"::{label}::"]
         return [f"function g.{self.fresh()}{self.maker.function(self)[8:]}"]
 
 
@@ -234,7 +242,10 @@ class Maker:
         if rng.randrange(2):
             lines.append("return " + ", ".join(inner.several(0)))
         self.depth -= 1
-        return "function" + "(" + ", ".join(parameters + (["..."] if vararg else [])) + ") " + "; ".join(lines).replace("then;", "then").replace("do;", "do").replace("else;", "else").replace("repeat;", "repeat") + " end"
+        body = "; ".join(lines)
+        for word in ("then", "do", "else", "repeat"):
+            body = body.replace(word + ";", word)
+        return "function(" + ", ".join(parameters + ["..."] * vararg) + ") " + body + " end"
 
 
 def program(rng):
