@@ -17,7 +17,7 @@ import os, sys
 from heapq import heappop, heappush
 
 sys.path.append(os.path.join(os.path.dirname(os.path.abspath(__file__)), "..", "touches"))
-from reading import CODE, NAMES, Touched, reads, ways, written  # noqa: E402
+from reading import CODE, NAMES, Touched, reads, ways, written  # noqa: E402, F401
 
 MOST_WORDS = 32768
 ACCEPTED, TOO_MANY, SHORT, NONE, BAD, UNSET = 0, 1, 6, 7, 8, 17
@@ -88,13 +88,13 @@ def steps(words, p):
         q = p + 1 + (word >> 15)
         return (q,) if q < n and ROWS[words[q] & 127] == "tforcall" else None
     if row == "tforcall":
-        return (p + 1,) if after == "loop" and words[p + 1] & 127 == 77 else None
+        return (p + 1,) if after == "loop" and words[p + 1] & 127 == CODE["TFORLOOP"] else None
     if row == "skip":
         return (p + 2,) if p + 2 < n else None
     if row == "setlist" and not word >> 15 & 1:
         return (p + 1,) if p + 1 < n else None
     if row in ("setlist", "extended"):
-        return (p + 2,) if p + 2 < n and words[p + 1] & 127 == 82 else None
+        return (p + 2,) if p + 2 < n and words[p + 1] & 127 == CODE["EXTRAARG"] else None
     return None
 
 

@@ -1,8 +1,8 @@
 /* One side of the comparison behind a pipe: the proved library, or with -DTWIN=name a function of the C twin. Reads
-   cases: n, parameters, length of the marks and a first byte as 32-bit numbers, then n words. Writes for each the number
-   and the place, 64 bits each, and the marks. The marks hold bytes that rise by 7 before the call. Words and marks end
-   where a page ends that may not be touched, so that a look past them stops the program; so does an altered word, or an
-   altered byte before the marks. */
+   cases: n, parameters, length of the marks and a first byte as 32-bit numbers, then n words. Writes for each the
+   number and the place, 64 bits each, and the marks. The marks hold bytes that rise by 7 before the call. Words and
+   marks end where a page begins that may not be touched, so that a look past them stops the program; so does an altered
+   word, or an altered byte before the marks. */
 #include "lawendeb.h"
 #include <stdio.h>
 #include <stdlib.h>

@@ -6,11 +6,12 @@
 enum { MOST = 32768, REGISTERS = 576 }; /* the highest that is named is 255 + 3 + 255; blocks of 64 */
 
 enum opcode {
-    MOVE, LOADI, LOADF, LOADK, LOADKX, LOADFALSE, LFALSESKIP, LOADTRUE, LOADNIL, GETUPVAL, SETUPVAL, GETTABUP, GETTABLE,
-    GETI, GETFIELD, SETTABUP, SETTABLE, SETI, SETFIELD, NEWTABLE, SELF, ADDI, ADDK, SUBK, MULK, MODK, POWK, DIVK, IDIVK,
-    BANDK, BORK, BXORK, SHRI, SHLI, ADD, SUB, MUL, MOD, POW, DIV, IDIV, BAND, BOR, BXOR, SHL, SHR, MMBIN, MMBINI, MMBINK,
-    UNM, BNOT, NOT, LEN, CONCAT, CLOSE, TBC, JMP, EQ, LT, LE, EQK, EQI, LTI, LEI, GTI, GEI, TEST, TESTSET, CALL, TAILCALL,
-    RETURN, RETURN0, RETURN1, FORLOOP, FORPREP, TFORPREP, TFORCALL, TFORLOOP, SETLIST, CLOSURE, VARARG, VARARGPREP, EXTRAARG
+    MOVE, LOADI, LOADF, LOADK, LOADKX, LOADFALSE, LFALSESKIP, LOADTRUE, LOADNIL, GETUPVAL, SETUPVAL, GETTABUP,
+    GETTABLE, GETI, GETFIELD, SETTABUP, SETTABLE, SETI, SETFIELD, NEWTABLE, SELF, ADDI, ADDK, SUBK, MULK, MODK,
+    POWK, DIVK, IDIVK, BANDK, BORK, BXORK, SHRI, SHLI, ADD, SUB, MUL, MOD, POW, DIV, IDIV, BAND, BOR, BXOR, SHL,
+    SHR, MMBIN, MMBINI, MMBINK, UNM, BNOT, NOT, LEN, CONCAT, CLOSE, TBC, JMP, EQ, LT, LE, EQK, EQI, LTI, LEI, GTI,
+    GEI, TEST, TESTSET, CALL, TAILCALL, RETURN, RETURN0, RETURN1, FORLOOP, FORPREP, TFORPREP, TFORCALL, TFORLOOP,
+    SETLIST, CLOSURE, VARARG, VARARGPREP, EXTRAARG
 };
 
 struct range {
@@ -28,7 +29,9 @@ static uint64_t unset[MOST];
 
 static unsigned op(uint32_t w) { return w & 127; }
 static struct range one(unsigned r) { return (struct range){(uint16_t)r, 1}; }
-static struct range many(unsigned first, int count) { return (struct range){(uint16_t)first, (uint16_t)(count > 0 ? count : 0)}; }
+static struct range many(unsigned first, int count) {
+    return (struct range){(uint16_t)first, (uint16_t)(count > 0 ? count : 0)};
+}
 static bool in(struct range x, unsigned r) { return r - x.first < x.count; }
 
 static void lists(struct word *t, const uint32_t *w, size_t p) {
@@ -57,7 +60,8 @@ static void lists(struct word *t, const uint32_t *w, size_t p) {
     case BXORK: case SHRI: case SHLI:
         r[0] = one(b), t->sets[1][0] = one(a);
         break;
-    case ADD: case SUB: case MUL: case MOD: case POW: case DIV: case IDIV: case BAND: case BOR: case BXOR: case SHL: case SHR:
+    case ADD: case SUB: case MUL: case MOD: case POW: case DIV: case IDIV: case BAND: case BOR: case BXOR: case SHL:
+    case SHR:
         r[0] = one(b), r[1] = one(c), t->sets[1][0] = one(a);
         break;
     case MMBIN: r[1] = one(b); /* fall through */

@@ -186,7 +186,7 @@ def no_marks(words, parameters, length):
     return number, place, bytes(len(marks)) if number == UNSET else marks
 
 
-def short_marks_after_none(words, parameters, length):
+def short_marks_before_too_many(words, parameters, length):
     """6 is tried before 1."""
     if length < len(words):
         return SHORT, 0, None
@@ -222,6 +222,6 @@ WRONG = [
         by_word_order,
         unset_before_bad,
         no_marks,
-        short_marks_after_none,
+        short_marks_before_too_many,
     )
 ]
