@@ -754,6 +754,111 @@ static void touches(void) {
     CHECK(nothing_else(lawendeb_touches(words, 0, 0), 0, 0, 0, 0, 0));
 }
 
+/* ---- rehearsals */
+
+enum { SCRIPTS = LAWENDEB_MOST_SCRIPTS, PLACES = 8 };
+
+/* What is lent to a rehearsal; marks and lengths of 9 before it. */
+struct lent {
+    const uint32_t *words[SCRIPTS];
+    size_t n[SCRIPTS];
+    uint8_t choices[4];
+    size_t choices_n;
+    uint8_t marks[PLACES];
+    uint32_t lengths[PLACES];
+};
+
+static struct lent lent(const uint32_t *first, size_t n, const uint32_t *others, size_t m) {
+    struct lent l;
+    int i;
+    memset(&l, 0, sizeof l);
+    for (i = 0; i < SCRIPTS; i++) {
+        l.words[i] = i == 0 ? first : others;
+        l.n[i] = i == 0 ? n : m;
+    }
+    for (i = 0; i < PLACES; i++) {
+        l.marks[i] = 9;
+        l.lengths[i] = 9;
+    }
+    return l;
+}
+
+static struct lawendeb_rehearsal rehearse(struct lent *l, size_t count, uint32_t q,
+                                          uint32_t limit) {
+    return lawendeb_rehearse(l->words[0], l->n[0], l->words[1], l->n[1], l->words[2], l->n[2],
+                             l->words[3], l->n[3], count, q, l->choices, l->choices_n, limit,
+                             l->marks, PLACES, l->lengths, PLACES);
+}
+
+static int waits(struct lawendeb_rehearsal r, uint64_t a, uint64_t b, uint64_t c, uint64_t d) {
+    return r.number == LAWENDEB_ACCEPTED && r.place == 0 && r.waits[0] == a && r.waits[1] == b &&
+           r.waits[2] == c && r.waits[3] == d;
+}
+
+static int turned_away(struct lawendeb_rehearsal r, uint64_t number, uint64_t place) {
+    return r.number == number && r.place == place &&
+           !(r.waits[0] | r.waits[1] | r.waits[2] | r.waits[3]);
+}
+
+/* The places after a run of n words in a row that ends with a return; those past n are 9. */
+static int left_by(const struct lent *l, uint32_t n) {
+    uint32_t i;
+    for (i = 0; i < PLACES; i++)
+        if (l->marks[i] != (i < n ? 1 : 9) || l->lengths[i] != (i < n ? n - i : 9))
+            return 0;
+    return 1;
+}
+
+static void rehearsals(void) {
+    const uint32_t three[3] = {0, 0, RETURN0};
+    const uint32_t six[6] = {0, 0, 0, 0, 0, RETURN0};
+    const uint32_t loop0[2] = {word_abx(FORLOOP, 0, 0), RETURN0};
+    const uint32_t loop1[4] = {word_abx(FORLOOP, 0, 1), 0, 0, RETURN0};
+    struct lent l = lent(three, 3, three, 3);
+    CHECK(waits(rehearse(&l, 2, 1, 100), 1, 1, 0, 0) && left_by(&l, 3));
+    CHECK(waits(rehearse(&l, 2, 2, UINT32_MAX), 2, 1, 0, 0));
+    CHECK(waits(rehearse(&l, 2, 3, 100), 0, 0, 0, 0));
+    CHECK(waits(rehearse(&l, 1, 1, 100), 0, 0, 0, 0));
+    CHECK(waits(rehearse(&l, 2, 1, 2), 0, 0, 0, 0) && waits(rehearse(&l, 2, 1, 0), 0, 0, 0, 0));
+    CHECK(waits(rehearse(&l, 2, 1, 3), 1, 0, 0, 0));
+    l = lent(six, 6, six, 6);
+    CHECK(waits(rehearse(&l, 4, 2, 100), 6, 6, 6, 6) && left_by(&l, 6));
+    CHECK(waits(rehearse(&l, 4, LAWENDEB_MOST_TURN, 100), 0, 0, 0, 0));
+    /* choices: none for a loop with Bx 0; 0 is the lower step, which serves; without one no turn */
+    l = lent(loop0, 2, three, 3);
+    CHECK(waits(rehearse(&l, 2, 1, 100), 1, 1, 0, 0));
+    l = lent(loop1, 4, three, 3);
+    CHECK(waits(rehearse(&l, 2, 9, 100), 0, 0, 0, 0));
+    l.choices_n = 2;
+    l.choices[1] = 1;
+    CHECK(waits(rehearse(&l, 2, 9, 100), 3, 0, 0, 0));
+    l.choices[0] = 1;
+    CHECK(waits(rehearse(&l, 2, 9, 100), 0, 0, 0, 0));
+    l.choices_n = 1;
+    l.choices[0] = 0;
+    CHECK(waits(rehearse(&l, 2, 9, 100), 0, 0, 0, 0));
+    /* 23, before anything is touched; a choice that is not used counts, too */
+    l = lent(three, 3, unknown, 1);
+    CHECK(turned_away(rehearse(&l, 0, 1, 100), LAWENDEB_OUT_OF_RANGE, 0) && left_by(&l, 0));
+    CHECK(turned_away(rehearse(&l, 5, 1, 100), LAWENDEB_OUT_OF_RANGE, 0) && left_by(&l, 0));
+    CHECK(turned_away(rehearse(&l, 2, 0, 100), LAWENDEB_OUT_OF_RANGE, 0) && left_by(&l, 0));
+    CHECK(turned_away(rehearse(&l, 2, 1001, 100), LAWENDEB_OUT_OF_RANGE, 0) && left_by(&l, 0));
+    l.choices_n = 4;
+    l.choices[3] = 2;
+    CHECK(turned_away(rehearse(&l, 1, 1, 100), LAWENDEB_OUT_OF_RANGE, 0) && left_by(&l, 0));
+    l.choices[3] = 1;
+    CHECK(waits(rehearse(&l, 1, 1, 100), 0, 0, 0, 0) && left_by(&l, 3));
+    /* the lowest script refused; what the last run tried left, over what the one before it did */
+    CHECK(turned_away(rehearse(&l, 2, 1, 100), LAWENDEB_REACHES_INVALID, 0));
+    CHECK(l.marks[0] == 1 && l.lengths[0] == 0 && l.lengths[1] == 2 && l.lengths[2] == 1);
+    l = lent(three, 3, many, MANY);
+    CHECK(turned_away(rehearse(&l, 4, 1, 100), LAWENDEB_TOO_MANY_WORDS, 0) && left_by(&l, 3));
+    l.n[1] = 0;
+    CHECK(turned_away(rehearse(&l, 3, 1, 100), LAWENDEB_NO_WORDS, 0) && left_by(&l, 3));
+    l.n[1] = PLACES + 1;
+    CHECK(turned_away(rehearse(&l, 3, 1, 100), LAWENDEB_SHORT_SLICE, 0) && left_by(&l, 3));
+}
+
 int main(void) {
     weigh();
     steps();
@@ -768,6 +873,7 @@ int main(void) {
     values();
     refusals();
     touches();
+    rehearsals();
     printf("calls: %d checks, %d wrong\n", checks, wrong);
     return wrong != 0;
 }

@@ -1,19 +1,21 @@
 /* Lawendeb for C and C++, on x86-64 Linux (System V calls). What the functions do is proved; what
    is asked of the caller stands here.
 
-   Five archives, to be linked alone or side by side; all are made in target/staticlib/:
+   Six archives, to be linked alone or side by side; all are made in target/staticlib/:
      libmeter.a     begin, feed and reset, for controllers: `rt staticlib meter`. It needs no
                     symbol.
      libexports.a   steps, the longest run, records: `rt staticlib exports`. It needs memset.
      libranges.a    the longest run by two tables: `rt staticlib ranges`. It needs memset.
      libservice.a   nearest service, crossing steps: `rt staticlib service`. It needs memset.
      libtouches.a   what a word reads and writes: `rt staticlib touches`. It needs memset.
+     librehearsal.a scripts in rotation: `rt staticlib rehearsal`. It needs memset.
    They write nothing but what a call is lent: no heap, no static data, and as measured less than
-   1 kB of stack, but less than 2 kB for what a word touches and for a question about services
-   (docs/BENCHMARKS.md). So every call is reentrant, and calls on different memory may run at once,
-   in threads or interrupts. A begin, a feed, a reset and what a word touches take a bounded time,
-   whatever the number of words; a run and a question about services take time in proportion to the
-   words, a lift to words, constants and names.
+   1 kB of stack, but less than 2 kB for what a word touches, for a question about services and for
+   a rehearsal (docs/BENCHMARKS.md). So every call is reentrant, and calls on different memory may
+   run at once, in threads or interrupts. A begin, a feed, a reset and what a word touches take a
+   bounded time, whatever the number of words; a run and a question about services take time in
+   proportion to the words, a lift to words, constants and names, a rehearsal to the words of its
+   scripts, its choices and the words that it runs.
 
    Each slice passes as a pointer and a length. The pointer is not null, even where the length is 0,
    and nobody writes the slice meanwhile. Slices that are written lie apart from all others. Any
@@ -60,11 +62,14 @@ extern "C" {
 #define LAWENDEB_TOO_MANY_LINES 13   /* of a sheet; by the program alone */
 #define LAWENDEB_WEIGHTS_REFUSED 18  /* not 128 weights; or one is 0, place: the lowest such */
 #define LAWENDEB_LOW_ABOVE_HIGH 19   /* a low weight above its high one; place: the opcode */
+#define LAWENDEB_OUT_OF_RANGE 23     /* of a rehearsal: the count of scripts, q or a choice */
 
 #define LAWENDEB_MOST_WORDS 32768
 #define LAWENDEB_MOST_CONSTANTS 65536
 #define LAWENDEB_MOST_NAMES 255
 #define LAWENDEB_WEIGHTS 128
+#define LAWENDEB_MOST_SCRIPTS 4
+#define LAWENDEB_MOST_TURN 1000
 
 struct lawendeb_answer {
     uint64_t number, place;
@@ -254,12 +259,14 @@ struct lawendeb_indices {
 };
 
 /* The registers, constants and upvalues that Lua's own VM (lvm.c, 5.4.8) reads and writes in some
-   execution of a word. The reads and writes of a record are luad's, and differ. */
+   execution of a word; CALL, TAILCALL, TFORCALL and CONCAT by the formulas of lopcodes.h. What
+   closing and VARARGPREP touch and CLOSURE captures is left out; an execution that ends in an error
+   does not count. The reads and writes of a record are luad's, and differ. */
 struct lawendeb_touches {
     struct lawendeb_ranges reads;
     struct lawendeb_top reads_to_top;
     struct lawendeb_indices constants, upvalues;
-    struct lawendeb_ranges writes; /* on every way on */
+    struct lawendeb_ranges writes; /* on each step by some execution, not always: FORPREP's A+3 */
     struct lawendeb_top writes_to_top;
     struct lawendeb_indices upvalue_writes;
     struct lawendeb_ranges edge_writes; /* only on the way to word `edge`, one of the steps */
@@ -280,6 +287,31 @@ LAWENDEB_ASSERT(sizeof(struct lawendeb_ranges) == 14 && sizeof(struct lawendeb_i
 
 /* What word p of the n words touches; a bad word, and a word number of n or more, nothing. */
 struct lawendeb_touches lawendeb_touches(const uint32_t *words, size_t n, size_t p);
+
+/* ---- rehearsing scripts: librehearsal.a */
+
+/* The longest wait of each script: the words that others ran between two of its turns, 0 if it had
+   fewer than two. Or a refusal's number and place, and waits of 0. */
+struct lawendeb_rehearsal {
+    uint64_t number, place, waits[LAWENDEB_MOST_SCRIPTS];
+};
+
+/* Rehearses the first `count` scripts, 1 to 4, in rotation, the first given first, finished ones
+   passed over. A turn ends after q words, 1 to 1,000, or just after a step that does not go forward
+   or a return. At a word with two steps the next of the choices decides, 0 the lower, 1 the higher;
+   without one the word has not run. It stops when all have returned, when a choice is missing, or
+   when `limit` words have run. No wait is above (count - 1) * q.
+
+   Scripts past `count` are not looked at; their pointers are not null all the same. Marks and
+   lengths need a place for each word of the longest script, and keep what the last run tried left.
+   Refusals: 23, before anything is touched; then what lawendeb_longest_run gives, by weights of 1,
+   for the lowest script that it refuses. None after that one is tried. */
+struct lawendeb_rehearsal
+lawendeb_rehearse(const uint32_t *words0, size_t n0, const uint32_t *words1, size_t n1,
+                  const uint32_t *words2, size_t n2, const uint32_t *words3, size_t n3,
+                  size_t count, uint32_t q, const uint8_t *choices, size_t choices_n,
+                  uint32_t limit, uint8_t *marks, size_t marks_n, uint32_t *lengths,
+                  size_t lengths_n);
 
 #ifdef __cplusplus
 }

@@ -4,7 +4,7 @@ against the second reading, word by word.
 Functions tried: every opcode at the boundaries of its fields, with its companions; every pair of
 opcode values; the real functions of REAL (words/real.txt), whole and with bits flipped, words
 exchanged or cut off; random functions. Ends with status 1 at the first difference, or if a reading
-that is wrong on purpose (WRONG) is not caught.
+that is wrong on purpose (WRONG_WRITES, WRONG_READS) is not caught.
 """
 import itertools, random, struct, subprocess, sys
 from collections import Counter
@@ -167,20 +167,36 @@ def saturating(words, p, on):
     return [{(kind, min(index, 255)) for kind, index in places} for places in on]
 
 
-WRONG = (own_a, by_the_comment, late_control, on_both_steps, saturating)
+def always_a_register(words, p, places):
+    """RK(C) is R[C], whatever k is."""
+    if name_at(words, p) in ("SETTABUP", "SETTABLE", "SETI", "SETFIELD", "SELF") and reading.k(words[p]):
+        return places - reading.K(reading.C(words[p])) | R(reading.C(words[p]))
+    return places
+
+
+def no_top(words, p, places):
+    """Nothing is read up to the top."""
+    return {(kind, index) for kind, index in places if kind != "T"}
+
+
+WRONG_WRITES = (own_a, by_the_comment, late_control, on_both_steps, saturating)
+WRONG_READS = (always_a_register, no_top)
 
 
 def caught(side, wrong, functions):
-    """A word that tells the reading from the lists, if its writes are those that `wrong` makes of them."""
-    right = reading.written
-    reading.written = lambda words, p, leading: wrong(words, p, right(words, p, leading))
+    """A word that tells the reading from the lists, if its writes, or reads, are those that `wrong` makes of them."""
+    right, right_reads = reading.written, reading.reads
+    if wrong in WRONG_READS:
+        reading.reads = lambda words, p: wrong(words, p, right_reads(words, p))
+    else:
+        reading.written = lambda words, p, leading: wrong(words, p, right(words, p, leading))
     try:
         for words, answers in side.lists(functions):
             for p, answer in enumerate(answers):
                 if answer != tuple(Touched(words, p).numbers()):
                     return words, p
     finally:
-        reading.written = right
+        reading.written, reading.reads = right, right_reads
     return None
 
 
@@ -197,8 +213,9 @@ def main():
     total += compare(side, "random functions", (random_function(rng) for _ in range(many)), counts)
     never = [name for name in NAMES if not counts[CODE[name]]]
     print(f"all: {total} words; opcodes met in good words: {83 - len(never)} of 83; never: {' '.join(never)}")
-    few = [random_function(rng) for _ in range(1000)]
-    for wrong in WRONG:
+    # random words seldom have B 0, so one function that reads up to the top stands among them
+    few = [random_function(rng) for _ in range(1000)] + [[CODE["CALL"], CODE["RETURN"]]]
+    for wrong in WRONG_WRITES + WRONG_READS:
         found = caught(side, wrong, few)
         print(f"wrong on purpose, {wrong.__name__}: {'caught at word %d of %s' % (found[1], found[0]) if found else 'NOT CAUGHT'}")
         if not found:

@@ -34,6 +34,12 @@ two-out {n} {r} (pos q) k = rw (le-ltb r n k) (const (ltb q n))
     const false = refl
 two-out (negsuc q) k = refl
 
+-- nor are there two, whatever else is asked
+pub none-out : {n r : ℕ} (t : Bool) (z : ℤ) → n ≤ r → Invalid ≡ unless t (two n z (pos r))
+unfolding unless
+none-out true z k = two-out z k
+none-out false z k = refl
+
 -- a difference of two naturals, by its sign
 difference-in : (x b : ℕ) → b ≤ x → pos x -ℤ pos b ≡ pos (x - b)
 difference-in x zero h = ap pos (omega arith)

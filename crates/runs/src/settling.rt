@@ -46,7 +46,8 @@ fn entry_in(table: &[u8; 512], words: &[u32], p: usize) -> u32
             return entry_of(metamethod(words, p), p);
         }
     }
-    entry_of(successors_by(companion, class, words, p), p)
+    let all = words;
+    entry_of(successors_by(companion, class, all, p), p)
 }
 
 // The entries of all words: their steps are those of document 01's table.

@@ -151,14 +151,18 @@ pub(crate) fn successors_by(companion: u8, class: u8, words: &[u32], p: usize) -
     }
 }
 
-// The rows of the most frequent words that want a companion.
+// The rows of the most frequent words that want a companion. Of those with two steps the farther one is asked for first: where it is a
+// word, the companion is one too.
 
 pub(crate) fn test(words: &[u32], p: usize) -> Successors
     requires { ⌜ p < length (now words) ⌝ }
     ensures { λ r. ⌜ r ≡ unless (standsAt jumpAfter (now (words .entry)) p) (two (length (now (words .entry))) (pos (p + 1)) (pos (p + 2))) ⌝ }
 {
-    if opcode_at(words, p + 1) == OP_JMP {
-        return two_of(words.len(), p + 1, p + 2);
+    if words.len() <= p + 2 {
+        return Successors::Invalid;
+    }
+    if fields::word::opcode(words[p + 1]) == OP_JMP {
+        return Successors::Two(p + 1, p + 2);
     }
     Successors::Invalid
 }
@@ -167,8 +171,11 @@ pub(crate) fn arithmetic(words: &[u32], p: usize) -> Successors
     requires { ⌜ p < length (now words) ⌝ }
     ensures { λ r. ⌜ r ≡ unless (standsAt metamethodAfter (now (words .entry)) p) (two (length (now (words .entry))) (pos (p + 1)) (pos (p + 2))) ⌝ }
 {
-    if is_between(OP_MMBIN, OP_MMBINK, opcode_at(words, p + 1)) {
-        return two_of(words.len(), p + 1, p + 2);
+    if words.len() <= p + 2 {
+        return Successors::Invalid;
+    }
+    if is_between(OP_MMBIN, OP_MMBINK, fields::word::opcode(words[p + 1])) {
+        return Successors::Two(p + 1, p + 2);
     }
     Successors::Invalid
 }

@@ -10,15 +10,15 @@ use lib.Dec.{T, eqb, eqb→eq}
 use Rattle.fields.specs.declared.word.RawInstruction54.{RawInstruction54}
 use Rattle.fields.specs.Laws.{all}
 use Rattle.fields.proofs.Laws.{laws}
-use Rattle.touches.specs.Operands.{Operand, «R[A]», «R[A+1]», «R[A+2]», «R[A+3]», locationOf}
-use Rattle.touches.specs.Cases.{Accesses, accessesOf}
-use Rattle.touches.specs.Table.{numberOf, operandFrom}
+use Rattle.touches.specs.Operands.{Operand, «R[A]», «R[A+1]», «R[A+2]», «R[A+3]», «R[A+1…A+B-1]», «R[A+1…A+B]», locationOf}
+use Rattle.touches.specs.Cases.{Edge, noEdge, «p+1», «p+2», «p+1-Bx», Accesses, accessesOf}
+use Rattle.touches.specs.Table.{numberOf, operandFrom, edgeNumber}
 use Rattle.touches.specs.Executions.{Cell, register, constant, upvalue, upToTop, Access, names, Way, waysOf, wayReads, wayStores, Any, All}
 use Rattle.touches.proofs.Rows.{operand-back}
 use Rattle.touches.proofs.Choices.{every, some, left-of, right-of, one-of, any-to, any-map, all-map, every-any, every-all, some-any, some-all}
-use Rattle.touches.proofs.Cells.{At, kind, index, one-register, meant, named}
+use Rattle.touches.proofs.Cells.{At, kind, index, one-register, past-first, meant, named}
 use Rattle.touches.proofs.Ways.{goOf, leads}
-use Rattle.touches.proofs.Sorts.{bars, barred, topsLast}
+use Rattle.touches.proofs.Sorts.{bars, barred, one-kind, topsLast}
 
 -- Operands in lists
 
@@ -81,6 +81,17 @@ isListed a =
     (cond (every (bars 1) (a .«edge-writes»)) (cond (every (bars 2) (a .«edge-writes»)) (every (bars 3) (a .«edge-writes»)) false) false)
     false
 
+-- what an operand stands for is below the range up to the top that another can be
+abbrev isClear : Operand → Operand → Bool
+isClear x y = cond (bars 3 y) true (cond (isSame x y) true (cond (isSame «R[A]» x) (has («R[A+1…A+B-1]» ∷ «R[A+1…A+B]» ∷ []) y) false))
+
+abbrev areClear : List Operand → Bool
+areClear xs = every (λ (y : Operand). every (λ (x : Operand). isClear x y) xs) xs
+
+-- an edge has a register that is written over it
+abbrev edgeTold : Accesses → Bool
+edgeTold a = cond (eqb (edgeNumber (a .edge)) 0) true (cond (has (a .«edge-writes») «R[A]») true (has (a .«edge-writes») «R[A+2]»))
+
 abbrev tests : Accesses → List Way → List Bool
 tests a ways =
     allRead a ways
@@ -93,6 +104,9 @@ tests a ways =
     ∷ isListed a
     ∷ topsLast (a .reads)
     ∷ topsLast (a .writes)
+    ∷ areClear (a .reads)
+    ∷ areClear (a .writes)
+    ∷ edgeTold a
     ∷ []
 
 pub record Agrees (a : Accesses) (ways : List Way) : Type 0 where
@@ -109,6 +123,9 @@ pub record Agrees (a : Accesses) (ways : List Way) : Type 0 where
   pub no-edge-tops : T (every (bars 3) (a .«edge-writes»))
   pub one-read-top : T (topsLast (a .reads))
   pub one-written-top : T (topsLast (a .writes))
+  pub reads-clear : T (areClear (a .reads))
+  pub writes-clear : T (areClear (a .writes))
+  pub edge-told : T (edgeTold a)
 
 abbrev passes : List Bool → Bool
 passes [] = true
@@ -125,6 +142,9 @@ agrees-by a ways t =
     let t8 = right-of (some (λ (w : Way). true) ways) _ t7 in
     let t9 = right-of (isListed a) _ t8 in
     let t10 = right-of (topsLast (a .reads)) _ t9 in
+    let t11 = right-of (topsLast (a .writes)) _ t10 in
+    let t12 = right-of (areClear (a .reads)) _ t11 in
+    let t13 = right-of (areClear (a .writes)) _ t12 in
     let l = left-of (isListed a) _ t8 in
     let l2 = right-of (every (bars 1) (a .writes)) _ l in
     let l3 = right-of (every (bars 1) (a .«edge-writes»)) _ l2 in
@@ -142,6 +162,9 @@ agrees-by a ways t =
       no-edge-tops = right-of (every (bars 2) (a .«edge-writes»)) _ l3;
       one-read-top = left-of (topsLast (a .reads)) _ t9;
       one-written-top = left-of (topsLast (a .writes)) _ t10;
+      reads-clear = left-of (areClear (a .reads)) _ t11;
+      writes-clear = left-of (areClear (a .writes)) _ t12;
+      edge-told = left-of (edgeTold a) _ t13;
     }
 
 agrees-at : ℕ → Bool
@@ -279,3 +302,55 @@ module _ (i pi ni : RawInstruction54) (c : Cell) where
     pub never : (k : ℕ) (xs : List Operand) → T (every (bars k) xs) → kind c ≡ k → Any Is xs → ⊥
     never k xs t e r =
         every-any Is (bars k) xs t r (λ x s h. barred i (pi .a) (ni .ax) c x (subst (λ (m : ℕ). T (bars m x)) (sym e) s) h)
+
+    -- what is stored up to the top is so on every way
+    pub tops-from : kind c ≡ 3 → Any StoredOn ways → Any Is (a .writes)
+    tops-from e r =
+        every-any StoredOn (λ (w : Way). every (listedStore a w) (stores w)) ways (agrees .all-listed) r
+        (λ w t k.
+        ⊎-elim (λ h. h)
+        (λ (h : T (leads (a .edge) (goOf w)) × Any Is (a .«edge-writes»)). absurd (never 3 (a .«edge-writes») (agrees .no-edge-tops) e (h .1)))
+        (listed w t k))
+
+edge-is : (e : Edge) → edgeNumber e ≡ 0 → e ≡ noEdge
+edge-is noEdge h = refl
+edge-is «p+1» h = absurd (omega (arith, h))
+edge-is «p+2» h = absurd (omega (arith, h))
+edge-is «p+1-Bx» h = absurd (omega (arith, h))
+
+module _ (i pi ni : RawInstruction54) where
+  -- if no register is written over an edge, there is none
+  pub no-edge : (a : Accesses) → T (edgeTold a) → ((q : ℕ) → Any (Is i pi ni (register q)) (a .«edge-writes») → ⊥) → a .edge ≡ noEdge
+  no-edge a t none =
+      ⊎-elim (λ u. edge-is (a .edge) (eqb→eq (edgeNumber (a .edge)) 0 u))
+      (λ u.
+      ⊎-elim
+      (λ v. absurd (none (i .a) (found i pi ni (register (i .a)) «R[A]» (a .«edge-writes») v (one-register (i .a) (i .a + 1) (omega arith) (register (i .a)) .0 refl))))
+      (λ v. absurd (none (i .a + 2) (found i pi ni (register (i .a + 2)) «R[A+2]» (a .«edge-writes») v (one-register (i .a + 2) (i .a + 3) (omega arith) (register (i .a + 2)) .0 refl))))
+      (one-of (has (a .«edge-writes») «R[A]») _ u))
+      (one-of (eqb (edgeNumber (a .edge)) 0) _ t)
+
+  module _ (q f : ℕ) where
+    past-a : (y : Operand) → T (has («R[A+1…A+B-1]» ∷ «R[A+1…A+B]» ∷ []) y) → Is i pi ni (upToTop f) y → f ≡ i .a + 1
+    past-a y t k =
+        ⊎-elim (λ h. past-first (i .b) (i .a + 1) (i .a + 1) (i .a + i .b) f h)
+        (⊎-elim (λ h. past-first (i .b) (i .a + 1) (i .a + 1) (i .a + i .b + 1) f h) (λ b. absurd b))
+        (found i pi ni (upToTop f) y («R[A+1…A+B-1]» ∷ «R[A+1…A+B]» ∷ []) t k)
+
+    is-a : (x : Operand) → T (isSame «R[A]» x) → Is i pi ni (register q) x → q ≡ i .a
+    is-a x t h = ap index (one-register (i .a) (i .a + 1) (omega arith) (register q) .1 (subst (Is i pi ni (register q)) (sym (is-same «R[A]» x t)) h))
+
+    clear : (x y : Operand) → T (isClear x y) → Is i pi ni (register q) x → Is i pi ni (upToTop f) y → q < f
+    clear x y t h k =
+        ⊎-elim (λ u. absurd (barred i (pi .a) (ni .ax) (upToTop f) y u k))
+        (λ u.
+        ⊎-elim
+        (λ v. absurd (omega (arith, one-kind (register q) (upToTop f) (locationOf y i (pi .a) (ni .ax)) (subst (Is i pi ni (register q)) (is-same x y v) h) k)))
+        (λ v. omega (arith, is-a x (left-of (isSame «R[A]» x) _ v) h, past-a y (right-of (isSame «R[A]» x) _ v) k))
+        (one-of (isSame x y) _ u))
+        (one-of (bars 3 y) _ t)
+
+    pub all-clear : (xs : List Operand) → T (areClear xs) → Any (Is i pi ni (register q)) xs → Any (Is i pi ni (upToTop f)) xs → q < f
+    all-clear xs t h k =
+        every-any (Is i pi ni (upToTop f)) (λ (y : Operand). every (λ (x : Operand). isClear x y) xs) xs t k
+        (λ y s g. every-any (Is i pi ni (register q)) (λ (x : Operand). isClear x y) xs s h (λ x u e. clear x y u e g))

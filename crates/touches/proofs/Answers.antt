@@ -10,7 +10,7 @@ use lib.ListN.{length, take}
 use Rattle.touches.specs.declared.answer.Range.{Range}
 use Rattle.touches.specs.declared.intervals.Interval.{Interval}
 use Rattle.touches.specs.Lists.{rangeOf, rangesOf, indicesOf}
-use Rattle.touches.specs.Meaning.{rangesIn, numbersIn, Within, GapAfter, Longest, OnlyOne}
+use Rattle.touches.specs.Meaning.{rangesIn, numbersIn, Within, GapAfter, Longest, OnlyOne, ZeroRanges, ZeroIndices}
 use Rattle.touches.proofs.Ranges.{Inside, After, Canonical}
 use Rattle.touches.proofs.Unique as unique
 
@@ -34,6 +34,22 @@ indices-whole (x ∷ []) h = refl
 indices-whole (x ∷ y ∷ []) h = refl
 indices-whole (x ∷ y ∷ z ∷ []) h = refl
 indices-whole (x ∷ y ∷ z ∷ w ∷ xs) h = absurd (omega arith)
+
+pub zero-ranges : (xs : List Interval) → length xs ≤ 3 → ZeroRanges (rangesOf xs)
+unfolding rangesOf
+zero-ranges [] h = refl
+zero-ranges (x ∷ []) h = refl
+zero-ranges (x ∷ y ∷ []) h = refl
+zero-ranges (x ∷ y ∷ z ∷ []) h = refl
+zero-ranges (x ∷ y ∷ z ∷ w ∷ xs) h = absurd (omega arith)
+
+pub zero-indices : (xs : List ℕ) → length xs ≤ 3 → ZeroIndices (indicesOf xs)
+unfolding indicesOf
+zero-indices [] h = refl
+zero-indices (x ∷ []) h = refl
+zero-indices (x ∷ y ∷ []) h = refl
+zero-indices (x ∷ y ∷ z ∷ []) h = refl
+zero-indices (x ∷ y ∷ z ∷ w ∷ xs) h = absurd (omega arith)
 
 pub longest : (xs : List Interval) → Canonical xs → Longest (closed xs)
 longest [] k = tt

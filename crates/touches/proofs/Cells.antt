@@ -176,6 +176,13 @@ or-top n first t c R none both = go (eqb n 0) refl
     go false e =
         (⊎-elim (λ (h : (n ≡ 0) × (c ≡ upToTop first)). absurd (eqb-false n 0 e (h .0))) (λ r. both .0 r), λ a. inr (both .1 a))
 
+pub past-first : (n first r end f : ℕ) → At (upToTop f) (cond (eqb n 0) (ToTop first) (Registers r end)) → f ≡ first
+past-first n first r end f = go (eqb n 0)
+  where
+    go : (b : Bool) → At (upToTop f) (cond b (ToTop first) (Registers r end)) → f ≡ first
+    go true a = ⊎-elim (λ e. e) (λ b. absurd b) a
+    go false a = absurd a
+
 or-constant :
     (k n : ℕ) (c : Cell) →
     (((k ≡ 0) × (c ≡ register n)) ⊎ ((k ≡ 0 → ⊥) × (c ≡ constant n))) ↔ At c (cond (eqb k 0) (Registers n (n + 1)) (Constant n))

@@ -9,6 +9,7 @@ pub mod Cells
 pub mod Ways
 pub mod Sorts
 pub mod Agree
+pub mod Heights
 pub mod Whole
 pub mod Meaning
 pub mod Laws

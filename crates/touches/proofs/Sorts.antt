@@ -83,6 +83,9 @@ at-sort (upToTop q) (ToTop first) a = refl
 at-sort (upToTop q) (Constant index) a = absurd a
 at-sort (upToTop q) (Upvalue index) a = absurd a
 
+pub one-kind : (c d : Cell) (t : Location) → At c t → At d t → kind c ≡ kind d
+one-kind c d t a b = at-sort c t a ∙ sym (at-sort d t b)
+
 choose : (P : Location → Type 0) (b : Bool) (s t : Location) → P s → P t → P (cond b s t)
 choose P true s t h k = h
 choose P false s t h k = k

@@ -16,7 +16,7 @@ use Rattle.touches.specs.Operands.{Operand, locationOf}
 use Rattle.touches.specs.Canonical.{canonical, rising}
 use Rattle.touches.specs.Lists.{intervalsOf, topsOf, constantsOf, upvaluesOf, gather, rangesOf, indicesOf, firstTop, topOf}
 use Rattle.touches.specs.Touches.{locationsOf, touchesBy}
-use Rattle.touches.specs.Meaning.{rangesIn, numbersIn, Within, Longest, Rising, Form, UpFrom, NamedRead, NamedWritten, NamedOnEdge}
+use Rattle.touches.specs.Meaning.{rangesIn, numbersIn, Within, Longest, Rising, AtMostOne, Form, UpFrom, NamedRead, NamedWritten, NamedOnEdge, NamesNothing}
 use Rattle.touches.specs.Executions.{Cell, register, constant, upvalue, upToTop, Any}
 use Rattle.touches.proofs.Ranges as ranges
 use Rattle.touches.proofs.Rising as rises
@@ -97,15 +97,20 @@ top-named [] h q = (λ u. absurd (omega (arith, u .0)), λ a. absurd a)
 top-named (x ∷ []) h q = (λ u. inl (sym (u .1)), ⊎-elim (λ e. (refl, sym e)) (λ a. absurd a))
 top-named (x ∷ y ∷ xs) h q = absurd (omega arith)
 
+one-or-none : (xs : List ℕ) → AtMostOne (topOf xs)
+unfolding firstTop
+one-or-none [] = inr (refl, refl)
+one-or-none (x ∷ xs) = inl refl
+
 both : {X Y Z : Type 0} → X ↔ Y → Y ↔ Z → X ↔ Z
 both f g = (λ x. g .0 (f .0 x), λ z. f .1 (g .1 z))
 
 -- The answer for locations read, written on every way, and written over an edge
 
 module _ (rs ws : List Location) (edge : ℕ) (ms : List Location) (few : length rs ≤ 3) (few2 : length ws ≤ 3) (few3 : length ms ≤ 3) where
-  pub in-form : Form (touchesBy rs ws edge ms)
+  pub in-form : (touchesBy rs ws edge ms .«edge_writes» .count ≡ 0 → edge ≡ 0) → Form (touchesBy rs ws edge ms)
   unfolding touchesBy rangesOf indicesOf
-  in-form =
+  in-form told =
       record {
         reads = (ranges-form rs few, ranges-fit rs few);
         constants = (numbers-form rs few constantsOf rises.one-constant, numbers-fit rs few constantsOf rises.one-constant);
@@ -113,6 +118,19 @@ module _ (rs ws : List Location) (edge : ℕ) (ms : List Location) (few : length
         writes = (ranges-form ws few2, ranges-fit ws few2);
         «upvalue-writes» = (numbers-form ws few2 upvaluesOf rises.one-upvalue, numbers-fit ws few2 upvaluesOf rises.one-upvalue);
         «edge-writes» = (ranges-form ms few3, ranges-fit ms few3);
+        «zero-ranges» = (
+          answers.zero-ranges (rangesAt rs few) (ranges-fit rs few),
+          (answers.zero-ranges (rangesAt ws few2) (ranges-fit ws few2), answers.zero-ranges (rangesAt ms few3) (ranges-fit ms few3)),
+        );
+        «zero-indices» = (
+          answers.zero-indices (numbersAt rs few constantsOf rises.one-constant) (numbers-fit rs few constantsOf rises.one-constant),
+          (
+            answers.zero-indices (numbersAt rs few upvaluesOf rises.one-upvalue) (numbers-fit rs few upvaluesOf rises.one-upvalue),
+            answers.zero-indices (numbersAt ws few2 upvaluesOf rises.one-upvalue) (numbers-fit ws few2 upvaluesOf rises.one-upvalue),
+          ),
+        );
+        tops = (one-or-none (gather topsOf rs), one-or-none (gather topsOf ws));
+        «no-edge» = told;
       }
 
   pub read-named : length (gather topsOf rs) ≤ 1 → (c : Cell) → NamedRead (touchesBy rs ws edge ms) c ↔ Any (At c) rs
@@ -139,3 +157,13 @@ module _ (rs ws : List Location) (edge : ℕ) (ms : List Location) (few : length
   edge-named none none2 none3 (constant q) = (λ a. absurd a, none q)
   edge-named none none2 none3 (upvalue q) = (λ a. absurd a, none2 q)
   edge-named none none2 none3 (upToTop q) = (λ a. absurd a, none3 q)
+
+pub names-nothing : NamesNothing (touchesBy [] [] 0 [])
+unfolding gather
+names-nothing c = (
+  λ h. read-named [] [] 0 [] (omega arith) (omega arith) (omega arith) (omega arith) c .0 h,
+  (
+    λ h. write-named [] [] 0 [] (omega arith) (omega arith) (omega arith) (omega arith) (λ q a. a) c .0 h,
+    λ h. edge-named [] [] 0 [] (omega arith) (omega arith) (omega arith) (λ q a. a) (λ q a. a) (λ q a. a) c .0 h,
+  ),
+)

@@ -91,6 +91,65 @@ names i pi ni c returned = ((i .b ≡ 0) × (c ≡ upToTop (i .a))) ⊎ ((j : �
 names i pi ni c elements =
     ((i .b ≡ 0) × (c ≡ upToTop (i .a + 1))) ⊎ ((j : ℕ) × (((0 < j) × (j ≤ i .b)) × (c ≡ register (i .a + j))))
 
+-- The registers that an access names when L->top.p is base + t; the top after the word for what it stores, before it
+-- for what it reads. Only a count of 0 looks at the top.
+abbrev counted : ℕ → ℕ → ℕ → ℕ
+counted field byTop byField = cond (eqb field 0) byTop byField
+
+abbrev pub namesAt : RawInstruction54 → RawInstruction54 → RawInstruction54 → ℕ → ℕ → Access → Type 0
+-- "if (B == 0) then B = top - A"
+namesAt i pi ni t q arguments = (j : ℕ) × (((0 < j) × (j < counted (i .b) (t - i .a) (i .b))) × (q ≡ i .a + j))
+-- "'top' is set to last_result+1"
+namesAt i pi ni t q results = (j : ℕ) × ((j < counted (i .c) (t - i .a) (i .c - 1)) × (q ≡ i .a + j))
+-- n = GETARG_B(i) - 1; if (n < 0) n = cast_int(L->top.p - ra);
+namesAt i pi ni t q returned = (j : ℕ) × ((j < counted (i .b) (t - i .a) (i .b - 1)) × (q ≡ i .a + j))
+-- if (n == 0) n = cast_int(L->top.p - ra) - 1;
+namesAt i pi ni t q elements = (j : ℕ) × (((0 < j) × (j ≤ counted (i .b) (t - i .a - 1) (i .b))) × (q ≡ i .a + j))
+namesAt i pi ni t q «ra» = names i pi ni (register q) «ra»
+namesAt i pi ni t q «ra+1» = names i pi ni (register q) «ra+1»
+namesAt i pi ni t q «ra+2» = names i pi ni (register q) «ra+2»
+namesAt i pi ni t q «ra+3» = names i pi ni (register q) «ra+3»
+namesAt i pi ni t q «ra+4» = names i pi ni (register q) «ra+4»
+namesAt i pi ni t q vRB = names i pi ni (register q) vRB
+namesAt i pi ni t q vRC = names i pi ni (register q) vRC
+namesAt i pi ni t q RKC = names i pi ni (register q) RKC
+namesAt i pi ni t q KB = names i pi ni (register q) KB
+namesAt i pi ni t q KC = names i pi ni (register q) KC
+namesAt i pi ni t q «k+Bx» = names i pi ni (register q) «k+Bx»
+namesAt i pi ni t q «k+Ax» = names i pi ni (register q) «k+Ax»
+namesAt i pi ni t q «RA-pi» = names i pi ni (register q) «RA-pi»
+namesAt i pi ni t q «upvals[A]» = names i pi ni (register q) «upvals[A]»
+namesAt i pi ni t q «upvals[B]» = names i pi ni (register q) «upvals[B]»
+namesAt i pi ni t q nils = names i pi ni (register q) nils
+namesAt i pi ni t q pieces = names i pi ni (register q) pieces
+namesAt i pi ni t q iterated = names i pi ni (register q) iterated
+
+-- The tops that an access can meet: past the function that is called, and past the table; of values returned and of
+-- results there may be none.
+abbrev pub Meets : RawInstruction54 → ℕ → Access → Type 0
+Meets i t arguments = i .b ≡ 0 → i .a < t
+Meets i t results = i .c ≡ 0 → i .a ≤ t
+Meets i t returned = i .b ≡ 0 → i .a ≤ t
+Meets i t elements = i .b ≡ 0 → i .a < t
+Meets i t «ra» = Unit {0}
+Meets i t «ra+1» = Unit {0}
+Meets i t «ra+2» = Unit {0}
+Meets i t «ra+3» = Unit {0}
+Meets i t «ra+4» = Unit {0}
+Meets i t vRB = Unit {0}
+Meets i t vRC = Unit {0}
+Meets i t RKC = Unit {0}
+Meets i t KB = Unit {0}
+Meets i t KC = Unit {0}
+Meets i t «k+Bx» = Unit {0}
+Meets i t «k+Ax» = Unit {0}
+Meets i t «RA-pi» = Unit {0}
+Meets i t «upvals[A]» = Unit {0}
+Meets i t «upvals[B]» = Unit {0}
+Meets i t nils = Unit {0}
+Meets i t pieces = Unit {0}
+Meets i t iterated = Unit {0}
+
 -- How a case goes on, pc being past the word.
 pub data Go : Type 0 where
   vmbreak : Go
@@ -147,7 +206,9 @@ op_arithI =
     ∷ way vmbreak (run (vRB ∷ []) [] ∷ [])
     ∷ []
 
--- #define op_arith_aux(L,v1,v2,iop,fop) and its like: a test of v1 that fails ends the test of v2
+-- #define op_arith_aux(L,v1,v2,iop,fop) and its like: a test of v1 that fails ends the test of v2, but for op_bitwiseK,
+-- which takes v2, a constant, first of all: there the first of the two failing executions does not occur, and the
+-- other reads all that it would
 abbrev op_arith_aux : Access → Access → List Way
 op_arith_aux v1 v2 =
     way «pc++» (run (v1 ∷ v2 ∷ []) («ra» ∷ []) ∷ [])
@@ -254,6 +315,8 @@ switch =
     ∷ [])
     ∷ vmcase «OP_CALL» (straight («ra» ∷ arguments ∷ []) (results ∷ []))
     ∷ vmcase «OP_TAILCALL» (way leave (run («ra» ∷ arguments ∷ []) [] ∷ []) ∷ [])
+    -- what returns store, RETURN1 to base - 1, is the result of the caller's CALL, and no register of this function; so
+    -- RETURN0 and RETURN1
     ∷ vmcase «OP_RETURN» (way leave (run (returned ∷ []) [] ∷ []) ∷ [])
     ∷ vmcase «OP_RETURN0» (way leave (run [] [] ∷ []) ∷ [])
     -- no result asked for, or setobjs2s(L, base - 1, ra)
@@ -361,3 +424,22 @@ abbrev pub WrittenOnlyTo : List ℕ → ℕ → Cell → ℤ → Type 0
 WrittenOnlyTo ws p c z =
     Any (λ (w : Way). LeadsTo ws p z w × Touched ws p c (wayStores w)) (waysAt ws p)
     × (All (λ (w : Way). Touched ws p c (wayStores w)) (waysAt ws p) → ⊥)
+
+-- The same at a stack top t.
+
+abbrev pub TouchedAt : List ℕ → ℕ → ℕ → ℕ → List Access → Type 0
+TouchedAt ws p t q accesses = Any (namesAt (instruction (getD ws p 0)) (instruction (getD ws (p - 1) 0)) (instruction (getD ws (p + 1) 0)) t q) accesses
+
+abbrev pub ReadsAt : List ℕ → ℕ → ℕ → ℕ → Type 0
+ReadsAt ws p t q = Any (λ (w : Way). TouchedAt ws p t q (wayReads w)) (waysAt ws p)
+
+abbrev pub WrittenAt : List ℕ → ℕ → ℕ → ℕ → Type 0
+WrittenAt ws p t q =
+    Any (λ (w : Way). TouchedAt ws p t q (wayStores w)) (waysAt ws p) × All (λ (w : Way). TouchedAt ws p t q (wayStores w)) (waysAt ws p)
+
+-- the tops that can be: before the word, and after it
+abbrev pub TopBefore : List ℕ → ℕ → ℕ → Type 0
+TopBefore ws p t = All (λ (w : Way). All (Meets (instruction (getD ws p 0)) t) (wayReads w)) (waysAt ws p)
+
+abbrev pub TopAfter : List ℕ → ℕ → ℕ → Type 0
+TopAfter ws p t = All (λ (w : Way). All (Meets (instruction (getD ws p 0)) t) (wayStores w)) (waysAt ws p)

@@ -1,13 +1,13 @@
 -- What the answer says, in document 02's words: that it has the form asked for, and that it lists exactly what lvm.c
 -- touches (specs/Executions.antt). proofs/Meaning.antt proves it for every word.
 -- Assumes nothing.
-use Prim.Native.Nat.{ℕ, _+_, _≤_, _<_}
+use Prim.Native.Nat.{ℕ, _+_, _-_, _≤_, _<_}
 use mathlib.Core.Path.{_≡_}
 use mathlib.Core.Logic.{_⊎_, _↔_}
 use mathlib.Core.Bool.{true, false}
 use mathlib.Core.List.{List, [], _∷_}
 use lib.IntN.{ℤ, pos}
-use lib.ListN.{length, getD, take}
+use lib.ListN.{length, getD, take, drop, replicate}
 use Rattle.graph.specs.Graph.{In}
 use Rattle.runs.specs.Steps.{isInvalid}
 use Rattle.runs.specs.Successors.{successorsOf, isSuccessor}
@@ -18,7 +18,7 @@ use Rattle.touches.specs.declared.answer.Indices.{Indices}
 use Rattle.touches.specs.declared.answer.Top.{Top}
 use Rattle.touches.specs.declared.answer.Touches.{Touches}
 use Rattle.touches.specs.Touches.{touchesBy, touchesOf}
-use Rattle.touches.specs.Executions.{Cell, register, constant, upvalue, upToTop, waysAt, nexts, Reads, WrittenOnAll, WrittenOnlyTo}
+use Rattle.touches.specs.Executions.{Cell, register, constant, upvalue, upToTop, waysAt, nexts, Reads, WrittenOnAll, WrittenOnlyTo, ReadsAt, WrittenAt, TopBefore, TopAfter}
 
 -- the items up to the count
 abbrev pub rangesIn : Ranges → List Range
@@ -54,6 +54,17 @@ Rising (x ∷ xs) = Past x xs × Rising xs
 abbrev pub OnlyOne : Type 0
 OnlyOne = (xs ys : List Range) → Longest xs → Longest ys → ((q : ℕ) → Within q xs ↔ Within q ys) → xs ≡ ys
 
+-- places past the count hold 0
+abbrev pub ZeroRanges : Ranges → Type 0
+ZeroRanges r = drop (r .count) (r .items) ≡ replicate (3 - r .count) (record { first = 0; last = 0 })
+
+abbrev pub ZeroIndices : Indices → Type 0
+ZeroIndices r = drop (r .count) (r .items) ≡ replicate (3 - r .count) 0
+
+-- one range up to the top, or none
+abbrev pub AtMostOne : Top → Type 0
+AtMostOne t = (t .count ≡ 1) ⊎ ((t .count ≡ 0) × (t .first ≡ 0))
+
 -- An answer's lists, each in its form, and none longer than its array, so that nothing is dropped
 pub record Form (t : Touches) : Type 0 where
   pub reads : Longest (rangesIn (t .reads)) × (t .reads .count ≤ 3)
@@ -62,6 +73,11 @@ pub record Form (t : Touches) : Type 0 where
   pub writes : Longest (rangesIn (t .writes)) × (t .writes .count ≤ 3)
   pub «upvalue-writes» : Rising (numbersIn (t .«upvalue_writes»)) × (t .«upvalue_writes» .count ≤ 3)
   pub «edge-writes» : Longest (rangesIn (t .«edge_writes»)) × (t .«edge_writes» .count ≤ 3)
+  pub «zero-ranges» : ZeroRanges (t .reads) × (ZeroRanges (t .writes) × ZeroRanges (t .«edge_writes»))
+  pub «zero-indices» : ZeroIndices (t .constants) × (ZeroIndices (t .upvalues) × ZeroIndices (t .«upvalue_writes»))
+  pub tops : AtMostOne (t .«reads_to_top») × AtMostOne (t .«writes_to_top»)
+  -- no edge if nothing is written on one step only
+  pub «no-edge» : t .«edge_writes» .count ≡ 0 → t .edge ≡ 0
 
 -- What an answer names: as read, as written on every way on, and as written on one way on only.
 
@@ -96,9 +112,31 @@ pub record Exact (ws : List ℕ) (p : ℕ) : Type 0 where
   -- "listed with that step": one of the word's, by document 01's table
   pub edge : 0 < touchesOf ws p .«edge_writes» .count → isSuccessor ws p (touchesOf ws p .edge) ≡ true
 
+-- register q is in a range up to the top, when that is t
+abbrev pub Below : Top → ℕ → ℕ → Type 0
+Below top t q = (top .count ≡ 1) × ((top .first ≤ q) × (q < t))
+
+-- "a range up to the stack top is given apart, by its first register past those touched at every top"
+pub record Tops (ws : List ℕ) (p : ℕ) : Type 0 where
+  -- the registers listed plainly are those touched at every top
+  pub «every-read» : (q : ℕ) → NamedRead (touchesOf ws p) (register q) ↔ ((t : ℕ) → TopBefore ws p t → ReadsAt ws p t q)
+  pub «every-write» : (q : ℕ) → NamedWritten (touchesOf ws p) (register q) ↔ ((t : ℕ) → TopAfter ws p t → WrittenAt ws p t q)
+  -- with the range up to the top they are what is touched at a top
+  pub reads : (t q : ℕ) → (NamedRead (touchesOf ws p) (register q) ⊎ Below (touchesOf ws p .«reads_to_top») t q) ↔ ReadsAt ws p t q
+  pub writes : (t q : ℕ) → (NamedWritten (touchesOf ws p) (register q) ⊎ Below (touchesOf ws p .«writes_to_top») t q) ↔ WrittenAt ws p t q
+  -- and it starts past them
+  pub «past-reads» : (q : ℕ) → NamedRead (touchesOf ws p) (register q) → touchesOf ws p .«reads_to_top» .count ≡ 1 → q < touchesOf ws p .«reads_to_top» .first
+  pub «past-writes» : (q : ℕ) → NamedWritten (touchesOf ws p) (register q) → touchesOf ws p .«writes_to_top» .count ≡ 1 → q < touchesOf ws p .«writes_to_top» .first
+
+abbrev pub NamesNothing : Touches → Type 0
+NamesNothing t = (c : Cell) → (NamedRead t c → ⊥) × ((NamedWritten t c → ⊥) × (NamedOnEdge t c → ⊥))
+
 pub record Meaning : Type 0 where
   pub form : (ws : List ℕ) (p : ℕ) → Form (touchesOf ws p)
   pub «only-one» : OnlyOne
   pub exact : (ws : List ℕ) (p : ℕ) → isInvalid (successorsOf ws p) ≡ false → Exact ws p
+  pub tops : (ws : List ℕ) (p : ℕ) → isInvalid (successorsOf ws p) ≡ false → Tops ws p
   -- "A bad word touches nothing", nor does a word number of n or more, which has no steps either
   pub bad : (ws : List ℕ) (p : ℕ) → isInvalid (successorsOf ws p) ≡ true → touchesOf ws p ≡ touchesBy [] [] 0 []
+  pub «bad-names-nothing» : (ws : List ℕ) (p : ℕ) → isInvalid (successorsOf ws p) ≡ true → NamesNothing (touchesOf ws p)
+  pub «nothing-past-end» : (ws : List ℕ) (p : ℕ) → length ws ≤ p → NamesNothing (touchesOf ws p)

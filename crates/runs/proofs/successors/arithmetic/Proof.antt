@@ -1,28 +1,40 @@
 -- `runs::successors::arithmetic` meets its contract. Assumes nothing.
+use native.Mathlib.Omega.{arith}
 use Rattle.runs.specs.Steps.{unless}
+use Rattle.runs.specs.Successors.{opcodeAt}
+use Rattle.runs.proofs.Steps.{two-in, none-out}
 use borrow.Author.Needs.{needs}
 use Rattle.runs.proofs.successors.arithmetic.Statement.{statement}
 use Rattle.runs.proofs.successors.arithmetic.Tie as tie
 
 returns : tie.Need-returns
-unfolding unless
-returns c =
-    let a = c .before .before in
-    rw (← a .before .opcode-at .ensures, ← a .is-between .ensures, c .before .if1 .taken) (c .two-of .ensures)
+returns c = none-out _ _ (c .if1 .taken)
+
+shared-slice-read-opcode : tie.Need-shared-slice-read-opcode
+shared-slice-read-opcode c = omega arith
 
 returns-2 : tie.Need-returns-2
-unfolding unless
-returns-2 c = let a = c .before in rw (← a .before .opcode-at .ensures, ← a .is-between .ensures, c .if1 .left)
+unfolding unless opcodeAt
+returns-2 c =
+    let a = c .before in
+    rw (← a .before .opcode .ensures, ← a .is-between .ensures, c .if2 .taken) (two-in (omega arith) (a .before .before .before .if1 .left))
+
+returns-3 : tie.Need-returns-3
+unfolding unless opcodeAt
+returns-3 c = let a = c .before in rw (← a .before .opcode .ensures, ← a .is-between .ensures, c .if2 .left)
 
 pub arithmetic-spec : {M : Type 1} → statement M
 arithmetic-spec =
     tie.close
     (tie.spec
     (λ c. search needs)
-    (λ c κs. search needs)
-    (λ c κs. search needs)
-    (λ c. search needs)
-    (λ c. search needs)
-    (λ c κs. search needs)
     returns
-    returns-2)
+    (λ c. search needs)
+    (λ c. search needs)
+    shared-slice-read-opcode
+    (λ c κs. search needs)
+    (λ c κs. search needs)
+    (λ c. search needs)
+    (λ c. search needs)
+    returns-2
+    returns-3)
