@@ -842,6 +842,80 @@ static void fours(void) {
     CHECK(feeds_four(&ms, 0, most, 0) && four_refuse(ms, 0, most, 1, LAWENDEB_OVER_BUDGET));
 }
 
+/* ---- registers set before use */
+
+/* The answer, and n marks with the rest as lent: bits, the first mark highest; 99 else. */
+static unsigned assigned(const uint32_t *words, size_t n, uint8_t parameters, uint64_t number,
+                         uint64_t place) {
+    unsigned bits = 0;
+    size_t i;
+    lend();
+    if (!answered(lawendeb_definite_assignment(words, n, parameters, marks, n + 1), number, place))
+        return 99;
+    for (i = 0; i < n; i++) {
+        if (marks[i] > 1)
+            return 99;
+        bits = 2 * bits + marks[i];
+    }
+    return lent_from(n) ? bits : 99;
+}
+
+static void assignments(void) {
+    enum {
+        MOVE = 0,
+        LOADTRUE = 7,
+        LOADNIL = 8,
+        ADD = 34,
+        MMBIN = 46,
+        TESTSET = 67,
+        CALL = 68,
+        RETURN1 = 72,
+        TFORPREP = 75,
+        TFORCALL = 76,
+        TFORLOOP = 77
+    };
+    const uint32_t same[2] = {word_abc(MOVE, 3, 3, 0), RETURN0};
+    const uint32_t high[3] = {word_abc(LOADNIL, 255, 2, 0), word_abc(CALL, 255, 3, 1), RETURN0};
+    const uint32_t top[4] = {word_abc(LOADTRUE, 0, 0, 0), word_abc(CALL, 0, 1, 0),
+                             word_abc(MOVE, 2, 1, 0), RETURN0};
+    const uint32_t sum[4] = {word_abc(LOADTRUE, 1, 0, 0), word_abc(ADD, 0, 1, 1),
+                             word_abc(MMBIN, 0, 1, 6), word_abc(RETURN1, 0, 0, 0)};
+    const uint32_t copy[5] = {word_abc(LOADTRUE, 1, 0, 0), word_abc(TESTSET, 0, 1, 0), word_jump(1),
+                              RETURN0, word_abc(RETURN1, 0, 0, 0)};
+    const uint32_t before[5] = {word_jump(2), word_abc(MOVE, 1, 6, 0), RETURN0,
+                                word_abc(MOVE, 0, 5, 0), word_jump(-4)};
+    const uint32_t both[2] = {word_abc(MOVE, 0, 9, 0), 83};
+    uint32_t loop[5] = {word_abc(LOADNIL, 0, 3, 0), word_abx(TFORPREP, 0, 0),
+                        word_abc(TFORCALL, 0, 0, 0), word_abx(TFORLOOP, 0, 2), RETURN0};
+    CHECK(assigned(same, 2, 3, LAWENDEB_UNSET_REGISTER, 0) == 3);
+    CHECK(assigned(same, 2, 4, LAWENDEB_ACCEPTED, 0) == 3);
+    CHECK(assigned(high, 3, 255, LAWENDEB_ACCEPTED, 0) == 7);
+    CHECK(assigned(high + 1, 2, 255, LAWENDEB_UNSET_REGISTER, 0) == 3);
+    CHECK(assigned(top, 4, 0, LAWENDEB_UNSET_REGISTER, 2) == 15);
+    CHECK(assigned(sum, 4, 0, LAWENDEB_UNSET_REGISTER, 2) == 15);
+    CHECK(assigned(copy, 5, 0, LAWENDEB_ACCEPTED, 0) == 31);
+    CHECK(assigned(loop, 5, 0, LAWENDEB_UNSET_REGISTER, 3) == 31);
+    loop[2] = word_abc(TFORCALL, 0, 0, 1);
+    CHECK(assigned(loop, 5, 0, LAWENDEB_ACCEPTED, 0) == 31);
+    loop[0] = word_abc(LOADNIL, 0, 2, 0);
+    CHECK(assigned(loop, 5, 0, LAWENDEB_UNSET_REGISTER, 1) == 31);
+    /* the lowest, though every path to it was broken before; a word that no path meets */
+    CHECK(assigned(before, 5, 0, LAWENDEB_UNSET_REGISTER, 1) == 31);
+    CHECK(assigned(before, 3, 0, LAWENDEB_REACHES_INVALID, 0) == 4);
+    CHECK(assigned(before + 2, 2, 0, LAWENDEB_ACCEPTED, 0) == 2);
+
+    /* refusals: 1, 6, 7, 8, 17 in this order */
+    CHECK(assigned(both, 2, 0, LAWENDEB_REACHES_INVALID, 1) == 3);
+    lend();
+    CHECK(answered(lawendeb_definite_assignment(many, MANY, 0, marks, 0), LAWENDEB_TOO_MANY_WORDS, 0));
+    CHECK(answered(lawendeb_definite_assignment(both, 2, 0, marks, 1), LAWENDEB_SHORT_SLICE, 0));
+    CHECK(answered(lawendeb_definite_assignment(both, 0, 0, marks, 0), LAWENDEB_NO_WORDS, 0));
+    CHECK(lent_from(0));
+    CHECK(answered(lawendeb_definite_assignment(many, MANY - 1, 1, marks, MANY),
+                   LAWENDEB_REACHES_INVALID, MANY - 2));
+    CHECK(marks[0] == 1 && marks[MANY - 2] == 1 && lent_from(MANY - 1));
+}
+
 /* ---- rehearsals */
 
 enum { SCRIPTS = LAWENDEB_MOST_SCRIPTS, PLACES = 8 };
@@ -1087,6 +1161,7 @@ int main(void) {
     refusals();
     touches();
     fours();
+    assignments();
     rehearsals();
     chunks();
     deep();

@@ -1,25 +1,28 @@
 /* Lawendeb for C and C++, on x86-64 Linux (System V calls). What the functions do is proved; what
    is asked of the caller stands here.
 
-   Eight archives, to be linked alone or side by side; all are made in target/staticlib/:
+   Nine archives, to be linked alone or side by side; all are made in target/staticlib/:
      libmeter.a     begin, feed and reset, for controllers: `rt staticlib meter`. It needs no
                     symbol.
      libexports.a   steps, the longest run, records: `rt staticlib exports`. It needs memset.
      libranges.a    the longest run by two tables: `rt staticlib ranges`. It needs memset.
      libservice.a   nearest service, crossing steps: `rt staticlib service`. It needs memset.
      libtouches.a   what a word reads and writes: `rt staticlib touches`. It needs memset.
+     libassignment.a  registers set before use: `rt staticlib assignment`. It needs memset.
      libbudget.a    begin, feed and reset of four scripts: `rt staticlib budget`. It needs no
                     symbol.
      librehearsal.a scripts in rotation: `rt staticlib rehearsal`. It needs memset.
      libchunk.a     compiled scripts: `rt staticlib chunk`. It needs memset.
-   They write nothing but what a call is lent: no heap, no static data, and as measured less than 1
-   kB of stack, but less than 2 kB for what a word touches, for a question about services and for a
-   rehearsal, and less than 13 kB for a pass over a chunk, which goes down with its functions, 32
-   levels at most (docs/BENCHMARKS.md). So every call is reentrant, and calls on different memory
-   may run at once, in threads or interrupts. A begin, a feed, a reset and what a word touches take
-   a bounded time, whatever the number of words; a run and a question about services take time in
-   proportion to the words, a lift to words, constants and names, a rehearsal to the words of its
-   scripts, its choices and the words that it runs, a pass to the chunk's bytes.
+   They write nothing but what a call is lent: no heap, no static data, and as measured less than
+   1 kB of stack, but less than 2 kB for what a word touches, for a question about services and for
+   a rehearsal, less than 13 kB for a pass over a chunk, which goes down with its functions, 32
+   levels at most, and less than 400 kB for registers set before use, whose two tables of fixed size
+   lie there: no call for a small stack (docs/BENCHMARKS.md). So every call is reentrant, and calls
+   on different memory may run at once, in threads or interrupts. A begin, a feed, a reset and what
+   a word touches take a bounded time, whatever the number of words; a run and a question about
+   services take time in proportion to the words, registers set before use to the words times the
+   registers up to the highest that is read, a lift to words, constants and names, a rehearsal to
+   the words of its scripts, its choices and the words that it runs, a pass to the chunk's bytes.
 
    Each slice passes as a pointer and a length. The pointer is not null, even where the length is 0,
    and nobody writes the slice meanwhile. Slices that are written lie apart from all others. Any
@@ -67,6 +70,7 @@ extern "C" {
 #define LAWENDEB_HEADER_DIFFERS 14   /* a byte of a chunk's header */
 #define LAWENDEB_MALFORMED_CHUNK 15  /* it ends early; a count or number is over its limit; .. */
 #define LAWENDEB_TOO_DEEP 16         /* functions within functions, more than 32 levels */
+#define LAWENDEB_UNSET_REGISTER 17   /* one is read that some path has not set; place: the lowest */
 #define LAWENDEB_WEIGHTS_REFUSED 18  /* not 128 weights; or one is 0, place: the lowest such */
 #define LAWENDEB_LOW_ABOVE_HIGH 19   /* a low weight above its high one; place: the opcode */
 #define LAWENDEB_NO_SCRIPT 20        /* a script number above LAWENDEB_GUIDER */
@@ -337,6 +341,19 @@ LAWENDEB_ASSERT(sizeof(struct lawendeb_ranges) == 14 && sizeof(struct lawendeb_i
 
 /* What word p of the n words touches; a bad word, and a word number of n or more, nothing. */
 struct lawendeb_touches lawendeb_touches(const uint32_t *words, size_t n, size_t p);
+
+/* ---- registers set before use: libassignment.a */
+
+/* Whether on every path from word 0 each register that a word names as read was a parameter, one of
+   the first `parameters` registers, or was named as written earlier on that path: by what words
+   touch. A write that is listed with a step counts on a path that takes that step, a word's own
+   write not for its own read, a write up to the stack top not at all; a read up to the top needs
+   its named registers alone. Refused: 1, 6, 7, 8, and 17 where some path breaks this, with the
+   lowest word at which one does, in this order. `marks` gets, for each word, 1 if it is reachable
+   and else 0, also at 8 and 17; at 1, 6 and 7 nothing is written, nor ever past n. */
+struct lawendeb_answer lawendeb_definite_assignment(const uint32_t *words, size_t n,
+                                                    uint8_t parameters, uint8_t *marks,
+                                                    size_t marks_n);
 
 /* ---- rehearsing scripts: librehearsal.a */
 

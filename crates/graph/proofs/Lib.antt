@@ -10,3 +10,4 @@ pub mod Monotone
 pub mod Unreachable
 pub mod Distance
 pub mod Crossing
+pub mod Assignment

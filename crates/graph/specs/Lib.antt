@@ -9,3 +9,4 @@ pub mod Monotone
 pub mod Unreachable
 pub mod Distance
 pub mod Crossing
+pub mod Assignment

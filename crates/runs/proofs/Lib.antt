@@ -2,6 +2,7 @@ pub mod Between
 pub mod BothTables
 pub mod Columns
 pub mod Counted
+pub mod Cut
 pub mod Demand
 pub mod Entries
 pub mod Held

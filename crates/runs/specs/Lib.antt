@@ -15,4 +15,5 @@ pub mod Laws
 pub mod Entries
 pub mod SearchInvariants
 pub mod PassInvariants
+pub mod Cut
 pub mod Outcome

@@ -1,4 +1,5 @@
 // Layer 2, over fields: the successors of a word, and the longest run without a service.
+pub mod cutting;
 pub mod edges;
 mod lengths;
 pub mod longest;

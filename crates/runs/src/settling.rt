@@ -18,7 +18,7 @@ use fields::columns::*;
 
 // The entry of word p, by a lent copy of the opcode table. The most frequent words come first, and each has its own call, so that the
 // compiler puts the call's answer into the loop.
-fn entry_in(table: &[u8; 512], words: &[u32], p: usize) -> u32
+pub(crate) fn entry_in(table: &[u8; 512], words: &[u32], p: usize) -> u32
     requires { ⌜ (now table ≡ opcodeTable) × (length (now words) ≤ mostWords) × (p < length (now words)) ⌝ }
     ensures { λ r. ⌜ Says r p (successorsOf (now (words .entry)) p) ⌝ }
 {

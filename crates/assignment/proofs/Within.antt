@@ -1,0 +1,148 @@
+-- Registers in ranges. Assumes nothing.
+use mathlib.Core.Path.{_≡_, refl, sym, ap, ap₂, subst, _∙_}
+use mathlib.Core.Logic.{_⊎_, _↔_, inl, inr, ⊎-elim}
+use mathlib.Core.Bool.{Bool, true, false, cond, _&&_, _||_, or-false, false≢true}
+use mathlib.Core.List.{List, [], _∷_}
+use Prim.Native.Nat.{ℕ, zero, suc, _+_, _≤_, _<_, max}
+use native.Mathlib.Omega.{arith}
+use borrow.Author.Tests.{leb-true, le-leb, lt-leb}
+use lib.Dec.{leb, eqb}
+use lib.ListN.{length, getD, take}
+use Rattle.touches.specs.declared.answer.Range.{Range}
+use Rattle.touches.specs.Meaning.{Within}
+use Rattle.assignment.specs.Uses.{inRange, inRanges, endOf}
+
+-- the test is that of the relation
+in-within : (r : ℕ) (xs : List Range) → inRanges r xs ≡ true → Within r xs
+unfolding inRanges
+in-within r [] e = absurd (false≢true e)
+in-within r (x ∷ xs) e = go (in-within r xs) (leb (x .first) r) refl (leb r (x .last)) refl e
+  where
+    go : (inRanges r xs ≡ true → Within r xs) → (a : Bool) → leb (x .first) r ≡ a → (b : Bool) → leb r (x .last) ≡ b → (a && b) || inRanges r xs ≡ true → Within r (x ∷ xs)
+    go rec true d true f h = inl (leb-true (x .first) r d, leb-true r (x .last) f)
+    go rec true d false f h = inr (rec h)
+    go rec false d b f h = inr (rec h)
+
+within-in : (r : ℕ) (xs : List Range) → Within r xs → inRanges r xs ≡ true
+unfolding inRanges
+within-in r [] w = absurd w
+within-in r (x ∷ xs) (inl h) = rw (le-leb (x .first) r (h .0), le-leb r (x .last) (h .1))
+within-in r (x ∷ xs) (inr w) = go (inRange r x) (within-in r xs w)
+  where
+    go : (b : Bool) → inRanges r xs ≡ true → b || inRanges r xs ≡ true
+    go true e = refl
+    go false e = e
+
+pub in-ranges : (r : ℕ) (xs : List Range) → (inRanges r xs ≡ true) ↔ Within r xs
+in-ranges r xs = (in-within r xs, within-in r xs)
+
+-- none is past the end
+pub before-end : (r : ℕ) (xs : List Range) → Within r xs → r < endOf xs
+unfolding endOf
+before-end r [] w = absurd w
+before-end r (x ∷ xs) (inl h) = omega (arith, h .1)
+before-end r (x ∷ xs) (inr w) = omega (arith, before-end r xs w)
+
+-- three ranges, up to a count
+abbrev none : Range
+none = record { first = 0; last = 0 }
+
+abbrev nth : List Range → ℕ → Range
+nth l i = getD l i none
+
+three : (l : List Range) → length l ≡ 3 → l ≡ nth l 0 ∷ nth l 1 ∷ nth l 2 ∷ []
+three [] e = absurd (omega arith)
+three (a ∷ []) e = absurd (omega arith)
+three (a ∷ b ∷ []) e = absurd (omega arith)
+three (a ∷ b ∷ c ∷ []) e = refl
+three (a ∷ b ∷ c ∷ d ∷ l) e = absurd (omega arith)
+
+module _ (l : List Range) (e : length l ≡ 3) (k : ℕ) where
+  by-three : {X : Type 0} (f : List Range → X) → f (take k (nth l 0 ∷ nth l 1 ∷ nth l 2 ∷ [])) ≡ f (take k l)
+  by-three f = ap (λ (x : List Range). f (take k x)) (sym (three l e))
+
+-- which place decides
+module _ (r : ℕ) (a b c : Range) where
+  first-place : (k : ℕ) → (k ≡ 0 → ⊥) → inRange r a ≡ true → true ≡ inRanges r (take k (a ∷ b ∷ c ∷ []))
+  unfolding inRanges
+  first-place zero n e = absurd (n refl)
+  first-place (suc k) n e = rw e
+
+  only-place : (k : ℕ) → k ≡ 1 → inRange r a ≡ false → false ≡ inRanges r (take k (a ∷ b ∷ c ∷ []))
+  unfolding inRanges
+  only-place k d e = rw (d, e)
+
+  second-place : (k : ℕ) → (k ≡ 0 → ⊥) → (k ≡ 1 → ⊥) → inRange r a ≡ false → inRange r b ≡ true → true ≡ inRanges r (take k (a ∷ b ∷ c ∷ []))
+  unfolding inRanges
+  second-place zero n m e f = absurd (n refl)
+  second-place (suc zero) n m e f = absurd (m refl)
+  second-place (suc (suc k)) n m e f = rw (e, f)
+
+  two-places : (k : ℕ) → k ≡ 2 → inRange r a ≡ false → inRange r b ≡ false → false ≡ inRanges r (take k (a ∷ b ∷ c ∷ []))
+  unfolding inRanges
+  two-places k d e f = rw (d, e, f)
+
+  third-place : (k : ℕ) → (k ≡ 0 → ⊥) → (k ≡ 1 → ⊥) → (k ≡ 2 → ⊥) → inRange r a ≡ false → inRange r b ≡ false → inRange r c ≡ inRanges r (take k (a ∷ b ∷ c ∷ []))
+  unfolding inRanges
+  third-place zero n m o e f = absurd (n refl)
+  third-place (suc zero) n m o e f = absurd (m refl)
+  third-place (suc (suc zero)) n m o e f = absurd (o refl)
+  third-place (suc (suc (suc zero))) n m o e f = rw (e, f, or-false)
+  third-place (suc (suc (suc (suc k)))) n m o e f = rw (e, f, or-false)
+
+-- the same of any three
+module _ (r : ℕ) (l : List Range) (t : length l ≡ 3) (k : ℕ) where
+  pub in-none : k ≡ 0 → false ≡ inRanges r (take k l)
+  unfolding inRanges
+  in-none e = rw e
+
+  module _ (n : k ≡ 0 → ⊥) where
+    pub in-first : inRange r (nth l 0) ≡ true → true ≡ inRanges r (take k l)
+    in-first e = first-place r (nth l 0) (nth l 1) (nth l 2) k n e ∙ by-three l t k (inRanges r)
+
+    module _ (a : inRange r (nth l 0) ≡ false) where
+      pub in-only : k ≡ 1 → false ≡ inRanges r (take k l)
+      in-only e = only-place r (nth l 0) (nth l 1) (nth l 2) k e a ∙ by-three l t k (inRanges r)
+
+      module _ (m : k ≡ 1 → ⊥) where
+        pub in-second : inRange r (nth l 1) ≡ true → true ≡ inRanges r (take k l)
+        in-second e = second-place r (nth l 0) (nth l 1) (nth l 2) k n m a e ∙ by-three l t k (inRanges r)
+
+        module _ (b : inRange r (nth l 1) ≡ false) where
+          pub in-two : k ≡ 2 → false ≡ inRanges r (take k l)
+          in-two e = two-places r (nth l 0) (nth l 1) (nth l 2) k e a b ∙ by-three l t k (inRanges r)
+
+          pub in-third : (k ≡ 2 → ⊥) → inRange r (nth l 2) ≡ inRanges r (take k l)
+          in-third o = third-place r (nth l 0) (nth l 1) (nth l 2) k n m o a b ∙ by-three l t k (inRanges r)
+
+-- the end of three ranges, up to a count
+module _ (a b c : Range) where
+  end-of-one : (k : ℕ) → k ≡ 1 → max (a .last + 1) 0 ≡ endOf (take k (a ∷ b ∷ c ∷ []))
+  unfolding endOf
+  end-of-one k e = rw e
+
+  end-of-two : (k : ℕ) → k ≡ 2 → max (a .last + 1) (max (b .last + 1) 0) ≡ endOf (take k (a ∷ b ∷ c ∷ []))
+  unfolding endOf
+  end-of-two k e = rw e
+
+  end-of-three : (k : ℕ) → (k ≡ 0 → ⊥) → (k ≡ 1 → ⊥) → (k ≡ 2 → ⊥) → max (a .last + 1) (max (b .last + 1) (max (c .last + 1) 0)) ≡ endOf (take k (a ∷ b ∷ c ∷ []))
+  unfolding endOf
+  end-of-three zero n m o = absurd (n refl)
+  end-of-three (suc zero) n m o = absurd (m refl)
+  end-of-three (suc (suc zero)) n m o = absurd (o refl)
+  end-of-three (suc (suc (suc zero))) n m o = refl
+  end-of-three (suc (suc (suc (suc k)))) n m o = refl
+
+module _ (l : List Range) (t : length l ≡ 3) (k : ℕ) where
+  pub end-none : k ≡ 0 → 0 ≡ endOf (take k l)
+  unfolding endOf
+  end-none e = rw e
+
+  pub end-one : k ≡ 1 → max (nth l 0 .last + 1) 0 ≡ endOf (take k l)
+  end-one e = end-of-one (nth l 0) (nth l 1) (nth l 2) k e ∙ by-three l t k endOf
+
+  pub end-two : k ≡ 2 → max (nth l 0 .last + 1) (max (nth l 1 .last + 1) 0) ≡ endOf (take k l)
+  end-two e = end-of-two (nth l 0) (nth l 1) (nth l 2) k e ∙ by-three l t k endOf
+
+  pub end-three : (k ≡ 0 → ⊥) → (k ≡ 1 → ⊥) → (k ≡ 2 → ⊥) → max (nth l 0 .last + 1) (max (nth l 1 .last + 1) (max (nth l 2 .last + 1) 0)) ≡ endOf (take k l)
+  end-three n m o = end-of-three (nth l 0) (nth l 1) (nth l 2) k n m o ∙ by-three l t k endOf
