@@ -1,4 +1,3 @@
-pub mod Writing
 pub mod Lowest
 pub mod Within
 pub mod Digits

@@ -6,14 +6,14 @@ use mathlib.Core.List.{List, [], _∷_, _++_}
 use Prim.Native.Nat.{ℕ, zero, suc, _+_, _*_, _-_, _/_, _%_, _≤_, _<_}
 use native.Mathlib.Omega.{arith}
 use lib.Dec.{ltb, leb, eqb}
-use lib.ListN.{length, drop, getD, replicate}
+use lib.ListN.{length, drop, getD}
 use borrow.Author.Tests.{ltb-true}
 use Rattle.values.specs.Values.{«TAG_NIL», «TAG_FALSE», «TAG_TRUE», «TAG_INTEGER», «TAG_FLOAT», «TAG_SHORT_STRING», «TAG_LONG_STRING»}
 use Rattle.common.specs.Limits.{mostWords, mostConstants, mostNames}
 use Rattle.chunk.specs.Limits.{levelsBelow, sizeMax, intMax}
 use Rattle.chunk.specs.Reading.{Result, done, refused, Reader, bind, andThen, only, repeat}
-use Rattle.chunk.specs.Lundump.{Function, Constant, Text, absent, text, Vector, loadBlock, loadByte, unsignedFrom, loadUnsigned, loadSize, loadInt}
-use Rattle.chunk.specs.Lundump.{loadNumber, loadInteger, stringOf, loadStringN, present, loadString, loadVector, loadItems, wordsFrom, loadCode}
+use Rattle.chunk.specs.Lundump.{Function, Constant, Text, absent, text, loadBlock, loadByte, unsignedFrom, loadUnsigned, loadSize, loadInt}
+use Rattle.chunk.specs.Lundump.{loadNumber, loadInteger, stringOf, loadStringN, present, loadString, loadVector, loadItems, loadCode}
 use Rattle.chunk.specs.Lundump.{constantOf, loadConstant, loadConstants, loadUpvalues, loadAbsLine, loadLocVar, loadLines, loadName, namesFrom, loadNames}
 use Rattle.chunk.specs.Lundump.{loadHead, functionWith, several, noneOf, loadProtos, loadFunction, checkHeader, undump}
 use Rattle.chunk.proofs.Thens.{then1, then2, then3, then4, then5, then6, then7}

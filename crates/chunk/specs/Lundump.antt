@@ -3,7 +3,7 @@
 -- What the C refuses by `error` is 15 here, a header byte that differs 14. Document 02 adds the limits on counts (15), the unknown tag (3)
 -- and the levels (16).
 -- Assumes nothing.
-use mathlib.Core.Bool.{Bool, true, false, cond}
+use mathlib.Core.Bool.{cond}
 use mathlib.Core.List.{List, [], _∷_, _++_}
 use Prim.Native.Nat.{ℕ, zero, suc, _+_, _*_, _/_, _%_}
 use lib.Dec.{ltb, leb, eqb}
@@ -11,7 +11,7 @@ use lib.ListN.{length, drop, getD, replicate}
 use Rattle.values.specs.Values.{«TAG_NIL», «TAG_FALSE», «TAG_TRUE», «TAG_INTEGER», «TAG_FLOAT», «TAG_SHORT_STRING», «TAG_LONG_STRING»}
 use Rattle.chunk.specs.declared.reading.Refusal.the-variants.{Header, Malformed, TooDeep, UnknownTag}
 use Rattle.common.specs.Limits.{mostWords, mostConstants, mostNames}
-use Rattle.chunk.specs.Limits.{levelsBelow, sizeMax, intMax, shortLength}
+use Rattle.chunk.specs.Limits.{levelsBelow, sizeMax, intMax}
 use Rattle.chunk.specs.Reading.{Result, done, refused, Reader, bind, andThen, only, repeat, littleEnd}
 
 -- loadBlock: `size` bytes, or "truncated chunk". What they hold is looked up by position

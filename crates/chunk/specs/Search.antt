@@ -6,7 +6,6 @@ use Prim.Native.Nat.{ℕ, zero, suc}
 use lib.Dec.{leb}
 use lib.ListN.{length}
 use Rattle.common.specs.Numbers.{«ACCEPTED»}
-use Rattle.chunk.specs.declared.reading.Refusal.{Refusal}
 use Rattle.chunk.specs.declared.reading.Refusal.the-variants.{Malformed, Short}
 use Rattle.chunk.specs.declared.reading.Cursor.{Cursor}
 use Rattle.chunk.specs.declared.reading.Cursor.the-variants.{At, Refused}

@@ -4,3 +4,4 @@ pub mod Over
 pub mod Put
 pub mod Clearing
 pub mod Stores
+pub mod Writing

@@ -1,15 +1,15 @@
 -- What leaves by the exports is what came in.
 -- Assumes nothing.
-use Prim.Native.Nat.{ℕ, suc, _+_, _-_, _*_, _/_, _%_, _<_, _^_}
-use mathlib.Core.Path.{_≡_, refl, sym, _∙_, ap}
+use Prim.Native.Nat.{ℕ, _-_, _*_, _/_, _%_, _<_, _^_}
+use mathlib.Core.Path.{_≡_, refl, _∙_, ap}
 use mathlib.Core.Bool.{Bool, true, false}
 use mathlib.Core.List.{List}
 use native.Mathlib.Nat.{div-add-mod', add-comm}
 use native.Mathlib.Omega.{arith}
-use lib.Dec.{eqb, ltb}
-use lib.ListN.{length, getD}
-use lib.IntN.{ℤ, pos, negsuc}
-use lib.Ieee.{binary64, nanBits, toBits}
+use lib.Dec.{ltb}
+use lib.ListN.{getD}
+use lib.IntN.{pos, negsuc}
+use lib.Ieee.{binary64, nanBits}
 use mir.Syntax.{w64}
 use mir.Val.{ofZ}
 use Rattle.values.specs.declared.model.ConstantValue.{ConstantValue}
@@ -23,7 +23,7 @@ use Rattle.values.specs.declared.ir.EffectTarget.the-variants as target
 use Rattle.common.specs.Chain.{choose}
 use Rattle.values.specs.Values.{spanOf, signed64, floatOf, valueOf, constantOf, nameOf}
 use Rattle.records.specs.Lift.{liftOf}
-use Rattle.records.specs.Sources.{operandIn, targetIn, immediateFloat, Sources}
+use Rattle.records.specs.Sources.{operandIn, immediateFloat}
 use Rattle.records.proofs.Sources.{sources}
 use Rattle.exports.specs.declared.parts.FlatPair.{FlatPair}
 use Rattle.exports.specs.Record.{spanNumber, floatBits, pair, flatName, flatValue, flatOperand, flatTarget}

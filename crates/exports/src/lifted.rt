@@ -1,7 +1,7 @@
 // The records of a whole function as numbers, record after record, in the caller's list.
 ghost use mathlib.Core.Path.{_≡_};
 ghost use mathlib.Core.List.{[], _∷_};
-ghost use Prim.Native.Nat.{ℕ, _+_, _*_, _<_, _≤_};
+ghost use Prim.Native.Nat.{_+_, _*_, _<_, _≤_};
 ghost use lib.ListN.{length};
 ghost use Rattle.common.specs.Lists.{put};
 ghost use Rattle.records.specs.Laws.{Recorded};

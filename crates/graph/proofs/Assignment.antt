@@ -1,6 +1,6 @@
 -- For one register, what is reachable over cut edges is what some path reaches without setting it. Assumes nothing.
 use mathlib.Core.Path.{_≡_, refl, sym, ap, subst, _∙_}
-use mathlib.Core.Logic.{_⊎_, _↔_, inl, inr, ⊎-elim}
+use mathlib.Core.Logic.{_⊎_, inl, inr, ⊎-elim}
 use mathlib.Core.Bool.{Bool, true, false, cond, _&&_, _||_, false≢true, true≢false}
 use mathlib.Core.List.{List, [], _∷_, _++_}
 use Prim.Native.Nat.{ℕ, zero, suc, _+_, _≤_, _<_}
@@ -9,13 +9,12 @@ use native.Mathlib.Numerals.{add-one}
 use native.Mathlib.Omega.{arith}
 use borrow.Author.Tests.{leb-true, le-leb, eqb-true, eq-eqb}
 use lib.Dec.{leb, eqb}
-use Rattle.common.specs.Lowest.{lowestFrom}
 use Rattle.common.proofs.Lowest.{lowest-laws}
 use Rattle.common.proofs.Order.{split, same-or-not, past}
 use Rattle.graph.specs.Graph.{Graph, In, Lawful, Along, Path, Reachable}
 use Rattle.graph.specs.Marks.{markOf}
 use Rattle.graph.specs.Distance.{lastOf}
-use Rattle.graph.specs.Assignment.{Usage, Bounded, SetAlong, SetOn, UnsetAlong, SetBeforeUse, Breaks, without, cut, someBelow, readsUnset, unsetAt, lowestUnset, Assignment, Assignments, Cutting}
+use Rattle.graph.specs.Assignment.{Usage, Bounded, SetAlong, SetOn, UnsetAlong, SetBeforeUse, Breaks, without, cut, someBelow, readsUnset, unsetAt, lowestUnset, Assignments, Cutting}
 use Rattle.graph.proofs.Paths.{along-in}
 use Rattle.graph.proofs.Laws.{reaching, marking}
 

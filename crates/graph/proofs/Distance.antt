@@ -1,6 +1,6 @@
 -- The distance to service: no walk that ends is shorter, and one has as many words. Assumes nothing.
 use mathlib.Core.Path.{_≡_, refl, sym, ap, ap₂, subst, _∙_}
-use mathlib.Core.Logic.{_⊎_, inl, inr, ⊎-elim}
+use mathlib.Core.Logic.{_⊎_, inl, inr}
 use mathlib.Core.Bool.{Bool, true, false, cond, _||_, false≢true, true≢false}
 use mathlib.Core.List.{List, [], _∷_}
 use Prim.Native.Nat.{ℕ, zero, suc, _+_, _-_, _≤_, _<_, min}
@@ -8,7 +8,7 @@ use native.Mathlib.Nat.{le-antisymm}
 use native.Mathlib.Omega.{arith}
 use lib.ListN.{length}
 use Rattle.common.proofs.Order.{split}
-use Rattle.graph.specs.Graph.{Graph, In, Lawful, Reachable, Segment}
+use Rattle.graph.specs.Graph.{Graph, In, Lawful, Segment}
 use Rattle.graph.specs.Distance.{Ends, someServes, endsBy, leastOf, nearer, nearest, distanceOf, lastOf, Distance, Distances}
 use Rattle.graph.proofs.Paths.{Free, reach-in, reach-of, segment-free, segment-start, segment-of}
 

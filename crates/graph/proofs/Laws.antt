@@ -1,5 +1,5 @@
 -- The laws that other crates cite. Assumes nothing.
-use mathlib.Core.Path.{_≡_, refl, sym, ap, ap₂, subst, _∙_}
+use mathlib.Core.Path.{_≡_, refl, sym, ap, subst}
 use mathlib.Core.Logic.{inl, inr}
 use mathlib.Core.Bool.{Bool, true, false, _||_, or-true, false≢true}
 use mathlib.Core.List.{List, [], _∷_}
@@ -11,7 +11,7 @@ use Rattle.common.specs.Lowest.{lowestFrom}
 use Rattle.common.proofs.Lowest.{lowest-laws}
 use Rattle.graph.specs.Graph.{Graph, In, member, Lawful, Reachable}
 use Rattle.graph.specs.Longest.{lengthOf, most, longest, first}
-use Rattle.graph.specs.Laws.{Reaching, Bits, Passing, Counting, Laws}
+use Rattle.graph.specs.Laws.{Reaching, Bits, Passing, Laws}
 use Rattle.graph.proofs.Paths.{Reach, start, next, along-in, reach-in, reach-of, reachable-of, reachable-next, segment-start}
 use Rattle.graph.proofs.Numbers.{most-same, most-more, ones-set, ones-le}
 use Rattle.graph.proofs.Marks.{mark-of-reach, reach-of-mark, mark-bit}

@@ -2,7 +2,7 @@
 -- at each word as many steps as are marked, and so no more than there are words. Assumes nothing.
 use mathlib.Core.Path.{_≡_, refl, sym, ap, subst, _∙_}
 use mathlib.Core.Logic.{_⊎_, inl, inr, ⊎-elim}
-use mathlib.Core.Bool.{Bool, true, false, cond, _||_, or-true, false≢true}
+use mathlib.Core.Bool.{Bool, true, false, cond, _||_, false≢true}
 use mathlib.Core.List.{List, [], _∷_}
 use Prim.Native.Nat.{ℕ, zero, suc, _+_, _≤_, _<_, zero-le}
 use native.Mathlib.Nat.{not-suc-le-zero, le-antisymm}
@@ -18,7 +18,7 @@ use Rattle.common.proofs.Stores.{at-set, stays}
 use Rattle.graph.proofs.Numbers.{ones-set, ones-le}
 use Rattle.graph.specs.Marks.{someOf, leads, markOf}
 use Rattle.graph.proofs.Paths.{Reach, start, next, some-word}
-use Rattle.common.proofs.Order.{one-of, bit, same-or-not, past}
+use Rattle.common.proofs.Order.{bit, same-or-not, past}
 
 -- every successor of p is marked
 abbrev Closed : Graph → List ℕ → ℕ → Type 0

@@ -8,7 +8,7 @@ use mathlib.Core.List.{List, [], _∷_, _++_}
 use Prim.Native.Nat.{ℕ, zero, suc, _+_, _≤_, _<_}
 use lib.Dec.{leb, eqb}
 use Rattle.common.specs.Lowest.{lowest}
-use Rattle.graph.specs.Graph.{Graph, In, Lawful, Path}
+use Rattle.graph.specs.Graph.{Graph, Lawful, Path}
 use Rattle.graph.specs.Marks.{markOf}
 use Rattle.graph.specs.Distance.{lastOf}
 

@@ -14,7 +14,7 @@ use Rattle.sheet.specs.declared.reading.Sheet.the-variants.{Words, Malformed, T
 use Rattle.sheet.specs.Format.{sheetOf, wordsOf}
 use Rattle.sheet.proofs.Claims.{claims as sheet-claims}
 use Rattle.sheet.proofs.Laws.{laws}
-use Rattle.listing.specs.Answer.{runText, reply, answerOf}
+use Rattle.listing.specs.Answer.{reply, answerOf}
 use Rattle.listing.specs.Claims.{pageLength, decidingLength, Claims, Enough, Counted}
 use Rattle.listing.proofs.Lines.{length-run, replied}
 

@@ -7,11 +7,11 @@ use mathlib.Core.List.{List, [], _∷_}
 use native.Mathlib.Omega.{arith}
 use lib.Dec.{ltb, eqb}
 use Rattle.common.specs.Limits.{mostWords}
-use Rattle.common.specs.Numbers.{«ACCEPTED», «TOO_MANY_WORDS», «NO_STEP», «FOREIGN_METER», «WEIGHTS_REFUSED»}
-use Rattle.runs.specs.Weights.{refusesWeights, weightsPlace}
+use Rattle.common.specs.Numbers.{«ACCEPTED»}
+use Rattle.runs.specs.Weights.{refusesWeights}
 use Rattle.meter.specs.declared.step.Meter.{Meter}
 use Rattle.meter.specs.declared.step.Fed.{Fed}
-use Rattle.meter.specs.Feed.{Scale, isBegun, showing, movedTo, isForeign, isStray, beginOf, resetOf, refusal, feedOf}
+use Rattle.meter.specs.Feed.{Scale, isBegun, showing, movedTo, isForeign, isStray, beginOf, resetOf, feedOf}
 use Rattle.meter.specs.Model.{Call, begin, feed, reset}
 use Rattle.meter.specs.Calls.{meterCalled, meterAfter}
 use Rattle.meter.specs.Highest.{countsShown, largest, hasReset, atReset, HighestAfter}

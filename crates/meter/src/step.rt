@@ -1,10 +1,9 @@
 // Begin, feed and reset by value: a meter goes in, a meter comes out.
 ghost use mathlib.Core.Path.{_≡_};
 ghost use Prim.Native.Nat.{_*_, _<_, _≤_, max};
-ghost use lib.ListN.{length};
 ghost use Rattle.common.specs.Limits.{mostWords};
 ghost use Rattle.runs.specs.Instance.{graphOf};
-ghost use Rattle.runs.specs.Weights.{heaviestWeight, weightOf};
+ghost use Rattle.runs.specs.Weights.{heaviestWeight};
 ghost use Rattle.meter.specs.Feed.{scaleOf, beginOf, resetOf, oneService, showing, movedTo, isForeign, isStray, refusal, feedOf};
 use common::limits::MOST_WORDS;
 

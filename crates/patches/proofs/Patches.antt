@@ -6,14 +6,14 @@ use mathlib.Core.Bool.{Bool, true, false, _&&_, _||_, true≢false}
 use mathlib.Core.List.{List}
 use Prim.Native.Nat.{ℕ, _+_, _-_, _≤_, _<_}
 use native.Mathlib.Omega.{arith}
-use borrow.Author.Tests.{ltb-false, eq-eqb, ne-eqb}
+use borrow.Author.Tests.{ltb-false, eq-eqb}
 use lib.Dec.{ltb, eqb}
 use lib.ListN.{length, getD, List·getD-eq-default}
 use Rattle.common.specs.Limits.{mostWords}
 use Rattle.common.specs.Numbers.{«ACCEPTED», «TOO_MANY_WORDS», «SHORT_SLICE», «NO_WORDS», «REACHES_INVALID», «WEIGHTS_REFUSED»}
 use Rattle.common.specs.Chain.{refuseIf}
 use Rattle.common.specs.Lists.{over}
-use Rattle.common.specs.Lowest.{lowest, lowestFrom}
+use Rattle.common.specs.Lowest.{lowestFrom}
 use Rattle.common.proofs.Lowest.{lowest-laws}
 use Rattle.common.proofs.Order.{split, same-or-not, bit}
 use Rattle.common.proofs.Over.{over-laws}

@@ -15,7 +15,7 @@ use Rattle.records.specs.Lift.{liftOf}
 use Rattle.values.specs.Spans.{firstNamePast}
 use Rattle.records.specs.Refusals.{firstUnknownTag, firstStringPast, answerOf, planOf}
 use Rattle.records.specs.Walk.{recordOrBlank}
-use Rattle.records.specs.Laws.{Recorded, PlanLaws}
+use Rattle.records.specs.Laws.{PlanLaws}
 
 -- a check that is passed
 pass : (test : Bool) (k place : ℕ) (later : Answer) → refuseIf test (answer (suc k) place) later .number ≡ 0 → (test ≡ false) × (later .number ≡ 0)

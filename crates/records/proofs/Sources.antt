@@ -1,6 +1,6 @@
 -- Where what a record says comes from: arm by arm, what it pushes; then group by group, which arm is taken.
 -- Assumes nothing.
-use Prim.Native.Nat.{ℕ, zero, suc, _+_, _-_}
+use Prim.Native.Nat.{ℕ, zero, suc, _-_}
 use mathlib.Core.Path.{_≡_, refl, subst}
 use mathlib.Core.Bool.{Bool, true, false}
 use mathlib.Core.List.{List, [], _∷_}
@@ -14,8 +14,6 @@ use Rattle.values.specs.declared.ir.TypedOperand.{TypedOperand}
 use Rattle.values.specs.declared.ir.TypedOperand.the-variants as O
 use Rattle.values.specs.declared.ir.EffectTarget.{EffectTarget}
 use Rattle.values.specs.declared.ir.EffectTarget.the-variants as E
-use Rattle.values.specs.declared.ir.OperandSlot.{OperandSlot}
-use Rattle.values.specs.declared.ir.TargetSlot.{TargetSlot}
 use Rattle.values.specs.declared.ir.ImplicitEffect.{ImplicitEffect}
 use Rattle.values.specs.declared.ir.OptionalPc.{OptionalPc}
 use Rattle.common.specs.Chain.{choose}

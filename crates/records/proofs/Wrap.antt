@@ -4,7 +4,7 @@ use Prim.Native.Nat.{ℕ, zero, suc, _+_, _-_, _<_, _≤_, _^_}
 use mathlib.Core.Path.{_≡_, _∙_, ap, sym}
 use native.Mathlib.Omega.{arith}
 use native.Mathlib.Nat.{not-suc-le-zero}
-use lib.IntN.{ℤ, pos, negsuc, negℤ, _-ℤ_, _+ℤ_, +ℤ-assoc}
+use lib.IntN.{pos, negsuc, negℤ, _-ℤ_, _+ℤ_, +ℤ-assoc}
 use borrow.Author.Tests.{lt-ltb, le-ltb}
 use Rattle.records.specs.Lift.{wrap}
 

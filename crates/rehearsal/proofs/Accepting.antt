@@ -9,7 +9,7 @@ use native.Mathlib.Omega.{arith}
 use borrow.Author.Tests.{ltb-true, ltb-false, lt-ltb, eqb-true, eqb-false}
 use lib.Dec.{ltb, eqb}
 use lib.ListN.{length}
-use Rattle.common.proofs.Order.{same-or-not, split}
+use Rattle.common.proofs.Order.{same-or-not}
 use Rattle.common.specs.Numbers.{«ACCEPTED», «REACHES_INVALID»}
 use Rattle.runs.specs.declared.longest.Run.{Run}
 use Rattle.runs.specs.Run as Run
@@ -18,7 +18,7 @@ use Rattle.runs.specs.Counted.{ones}
 use Rattle.runs.proofs.Laws.{laws}
 use Rattle.rehearsal.specs.Trial.{trialOf, trialMarks, trialLengths}
 use Rattle.rehearsal.specs.Rehearse.{Tried, tryScript, untried, scriptAt, acceptance}
-use Rattle.rehearsal.specs.Accepting.{runNumber, runPlace, LowestRefused, leftBelow, LastTried, Accepting}
+use Rattle.rehearsal.specs.Accepting.{runNumber, LowestRefused, leftBelow, LastTried, Accepting}
 use Rattle.rehearsal.proofs.Trial.{light}
 
 -- a run keeps the slices' lengths, whatever it answers

@@ -4,13 +4,13 @@ use mathlib.Core.Path.{_≡_, refl, sym, subst, ap, _∙_}
 use mathlib.Core.Logic.{_⊎_, inl, inr, ⊎-elim}
 use mathlib.Core.Bool.{Bool, true, false, cond, _||_, true≢false}
 use mathlib.Core.List.{List, [], _∷_}
-use Prim.Native.Nat.{ℕ, zero, suc, _+_, _*_, _-_, _≤_, _<_}
+use Prim.Native.Nat.{ℕ, zero, suc, _*_, _-_, _≤_, _<_}
 use native.Mathlib.Omega.{arith}
-use borrow.Author.Tests.{ltb-true, ltb-false, le-ltb, eqb-true, eqb-false, eq-eqb, ne-eqb}
+use borrow.Author.Tests.{ltb-false, le-ltb, eqb-true, eqb-false}
 use lib.Dec.{ltb, eqb}
 use lib.ListN.{length}
 use Rattle.common.specs.Numbers.{«ACCEPTED», «OUT_OF_RANGE»}
-use Rattle.graph.specs.Graph.{In, Path, Reachable}
+use Rattle.graph.specs.Graph.{In, Reachable}
 use Rattle.runs.specs.declared.edges.Successors.{Successors}
 use Rattle.runs.specs.declared.edges.Successors.the-variants.{Invalid, Stop, One, Two}
 use Rattle.runs.specs.Steps.{isInvalid, listOf, Below}
@@ -23,7 +23,7 @@ use Rattle.runs.proofs.Laws.{laws}
 use Rattle.rehearsal.specs.declared.answer.Rehearsal.{Rehearsal}
 use Rattle.rehearsal.specs.declared.answer.Rehearsal.the-variants.{Rehearsed, Refused}
 use Rattle.rehearsal.specs.Machine.{Event}
-use Rattle.rehearsal.specs.Waits.{waitsOf, longestOf, longestWait, WaitIn, turnsOf}
+use Rattle.rehearsal.specs.Waits.{waitsOf, longestOf, longestWait, turnsOf}
 use Rattle.rehearsal.specs.Schedule.{Scheduled}
 use Rattle.rehearsal.specs.Paths.{wordsOf, OnPath, Proper}
 use Rattle.rehearsal.specs.Trial.{trialOf}

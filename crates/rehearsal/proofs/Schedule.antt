@@ -15,8 +15,8 @@ use Rattle.rehearsal.specs.declared.machine.Move.{Move}
 use Rattle.rehearsal.specs.declared.machine.Move.the-variants.{Return, Starve, Go}
 use Rattle.rehearsal.specs.Machine.{Event, State, Step, halt, ran, taskAt, moveOf, moved, stepFrom, followed, trace, tasksFrom, startOf}
 use Rattle.rehearsal.specs.Schedule as S
-use Rattle.rehearsal.specs.Schedule.{needed, Between}
-use Rattle.rehearsal.proofs.Ring.{Has, has-append, has-last, has-split, Order, order-leaves, order-rotates, first-once, passed, alone, order-start}
+use Rattle.rehearsal.specs.Schedule.{needed}
+use Rattle.rehearsal.proofs.Ring.{Has, has-append, has-last, Order, order-leaves, order-rotates, first-once, passed, alone, order-start}
 
 module _ (graphs : ℕ → Graph) (k q : ℕ) (choices : List ℕ) (limit : ℕ) where
   abbrev stepsOf : Event → List ℕ

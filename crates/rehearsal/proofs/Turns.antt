@@ -14,7 +14,7 @@ use Rattle.rehearsal.specs.declared.machine.Move.{Move}
 use Rattle.rehearsal.specs.declared.machine.Move.the-variants.{Return, Starve, Go}
 use Rattle.rehearsal.specs.declared.machine.Turn.{Turn}
 use Rattle.rehearsal.specs.declared.machine.Turn.the-variants.{Over, Returned, Starved}
-use Rattle.rehearsal.specs.Machine.{Event, State, ran, taskAt, moveOf, moved, followed, trace}
+use Rattle.rehearsal.specs.Machine.{Event, State, taskAt, moveOf, moved, followed, trace}
 use Rattle.rehearsal.specs.Running.{turned, turnOf}
 
 -- the running numbers of a script while a trace is read: whether it had a turn, the words of others since, the

@@ -1,12 +1,10 @@
 -- Document 02, C-21: "with k scripts no wait between two turns of an unfinished script exceeds (k - 1) times q".
 -- proofs/Bound.antt proves it for any graphs, any choices and any number of words.
 -- Assumes nothing.
-use mathlib.Core.Path.{_≡_}
-use mathlib.Core.List.{List, [], _∷_, _++_}
+use mathlib.Core.List.{List, [], _∷_}
 use Prim.Native.Nat.{ℕ, _*_, _-_, _≤_}
-use lib.ListN.{length}
 use Rattle.graph.specs.Graph.{Graph}
-use Rattle.rehearsal.specs.Machine.{Event, trace, startOf}
+use Rattle.rehearsal.specs.Machine.{trace, startOf}
 use Rattle.rehearsal.specs.Waits.{waitsOf, longestWait}
 
 -- each number of a list is at most b

@@ -1,13 +1,12 @@
 -- With all weights 1 the run is that of counted words. Assumes nothing.
-use mathlib.Core.Path.{_≡_, refl, sym, ap, _∙_}
+use mathlib.Core.Path.{_≡_, refl}
 use mathlib.Core.Bool.{false}
 use mathlib.Core.List.{List}
-use Prim.Native.Nat.{ℕ, _<_}
-use native.Mathlib.Omega.{arith}
+use Prim.Native.Nat.{ℕ}
 use lib.ListN.{length, getD, getD-replicate}
 use Rattle.fields.specs.Word.{opcodeOf}
 use Rattle.runs.specs.Steps.{unitWeight}
-use Rattle.runs.specs.Weights.{weightCount, weightOf, isZeroAt, lowestZero, refusesWeights}
+use Rattle.runs.specs.Weights.{weightCount, weightOf, lowestZero, refusesWeights}
 use Rattle.runs.specs.Run.{runOf, marksAfter, lengthsAfter}
 use Rattle.runs.specs.Counted.{ones, countedRun, countedMarks, countedLengths, EarlierRun}
 use Rattle.runs.proofs.Weights.{opcode-small}

@@ -1,7 +1,7 @@
 -- Entries and the queue in the lengths, and the graph that settled entries hold. No word is read here. Assumes nothing.
-use mathlib.Core.Path.{_≡_, refl, sym, ap, ap₂, subst, _∙_}
+use mathlib.Core.Path.{_≡_, refl, sym, ap, subst, _∙_}
 use mathlib.Core.Logic.{_⊎_, inl, inr, ⊎-elim}
-use mathlib.Core.Bool.{Bool, true, false, cond, _&&_}
+use mathlib.Core.Bool.{Bool, true, false, cond}
 use mathlib.Core.List.{List, [], _∷_, map}
 use Prim.Native.Nat.{ℕ, zero, suc, _+_, _*_, _/_, _%_, _≤_, _<_}
 use native.Mathlib.Nat.{not-suc-le-zero, mod-eq-of-lt}
@@ -11,15 +11,13 @@ use lib.Dec.{eqb, ltb}
 use lib.ListN.{length, getD, set, length-set, length-map, List·getD-map, List·getD-eq-default}
 use lib.Seq.{map-set-same}
 use Rattle.common.specs.Limits.{mostWords}
-use Rattle.common.specs.Lowest.{lowest}
 use Rattle.common.proofs.Order.{split, past}
 use Rattle.common.proofs.Stores.{at-set}
 use Rattle.graph.specs.Graph.{In}
-use Rattle.graph.specs.Marks.{markOf}
 use Rattle.runs.specs.declared.edges.Successors.{Successors}
 use Rattle.runs.specs.declared.edges.Successors.the-variants.{Invalid, Stop, One, Two}
-use Rattle.runs.specs.Steps.{ordered, listOf, isInvalid, servesOf, graphBy, Below}
-use Rattle.runs.specs.Entries.{«TARGETS», «ENTRIES», byKind, entryAt, entries, queueOf, Settled, stepsOf, graphIn, invalidBy, lowestBy, Carries, Packs, Says}
+use Rattle.runs.specs.Steps.{ordered, listOf, graphBy, Below}
+use Rattle.runs.specs.Entries.{«TARGETS», «ENTRIES», entryAt, entries, queueOf, Settled, stepsOf, graphIn, lowestBy, Carries, Packs, Says}
 use Rattle.runs.specs.SearchInvariants.{Queued, entered, Pushes}
 use Rattle.runs.proofs.Moves.{in-one}
 use Rattle.runs.proofs.Turn.{Both}

@@ -2,7 +2,7 @@
 use mathlib.Core.Path.{_≡_, refl, sym, ap, subst, _∙_}
 use mathlib.Core.Logic.{inl}
 use mathlib.Core.Bool.{Bool, true, cond}
-use mathlib.Core.List.{List, [], _∷_}
+use mathlib.Core.List.{List}
 use Prim.Native.Nat.{ℕ, _+_, _-_, _/_, _<_}
 use native.Mathlib.Omega.{arith}
 use lib.ListN.{length, getD}
@@ -13,7 +13,7 @@ use Rattle.runs.specs.Steps.{graphBy}
 use Rattle.runs.specs.Entries.{«ENTRIES», entries, queueOf, Settled, graphIn}
 use Rattle.runs.specs.SearchInvariants.{Room, Turned, Visiting, Visited, Lent, Held, PushAsks, VisitAsks, Visits, FollowAsks, Follows}
 use Rattle.runs.proofs.Entries.{queue-is, queue-length, same-length, settled-graph}
-use Rattle.runs.proofs.Turn.{Following, following-none, in-hand, following-on, followed, fewer, Searching, searching-on}
+use Rattle.runs.proofs.Turn.{Following, following-none, in-hand, following-on, fewer, Searching, searching-on}
 
 pub held-on : {m₀ l₀ m l : List ℕ} → Held m₀ l₀ → entries l ≡ entries l₀ → length m ≡ length m₀ → Held m l
 held-on {m₀} {l₀} {m} {l} k e s =

@@ -1,13 +1,13 @@
 -- A word measured by its entry, and the pass from the highest word down, over any weights. No word is read here. Assumes nothing.
 use mathlib.Core.Path.{_≡_, refl, sym, ap, subst, _∙_}
-use mathlib.Core.Logic.{inl, inr, ⊎-elim}
-use mathlib.Core.Bool.{Bool, true, false, cond, _&&_}
+use mathlib.Core.Logic.{inl, ⊎-elim}
+use mathlib.Core.Bool.{Bool, true, false, cond}
 use mathlib.Core.List.{List, [], _∷_}
 use Prim.Native.Nat.{ℕ, _+_, _-_, _*_, _/_, _%_, _≤_, _<_, max}
 use native.Mathlib.Nat.{le-trans, mul-le-mul-left}
 use native.Mathlib.Omega.{arith}
 use borrow.Author.Tests.{eq-eqb, ne-eqb, leb-false, lt-leb, ltb-false}
-use lib.Dec.{ltb, leb, eqb}
+use lib.Dec.{ltb, leb}
 use lib.ListN.{length, getD, set, length-set, List·getD-eq-default}
 use lib.Seq.{getD-set-same, getD-set-other}
 use Rattle.common.specs.Limits.{mostWords}
@@ -21,11 +21,11 @@ use Rattle.graph.specs.Longest.{best, lengthOf}
 use Rattle.graph.proofs.Laws.{laws}
 use Rattle.graph.proofs.Ceiling.{ceiling}
 use Rattle.runs.specs.declared.edges.Successors.{Successors}
-use Rattle.runs.specs.declared.edges.Successors.the-variants.{Invalid, Stop, One, Two}
+use Rattle.runs.specs.declared.edges.Successors.the-variants.{One, Two}
 use Rattle.runs.specs.Steps.{ordered, listOf, isInvalid, servesOf}
-use Rattle.runs.specs.Entries.{«TARGETS», «ENTRIES», «KIND_NONE», «KIND_NEXT», «KIND_TARGET», entryAt, entries, stepsOf, graphIn, invalidBy, lowestBy}
-use Rattle.runs.specs.PassInvariants.{Filled, Lengths, Measuring, Measures, FillAsks, Fills, stepsIn, lengthIn, invalidFrom, at}
-use Rattle.runs.proofs.Entries.{Among, ordered-among, entries-length, entry-is, entry-target, entry-both}
+use Rattle.runs.specs.Entries.{«TARGETS», «ENTRIES», «KIND_NONE», «KIND_NEXT», «KIND_TARGET», entryAt, entries, stepsOf, graphIn, invalidBy}
+use Rattle.runs.specs.PassInvariants.{Filled, Measuring, Measures, FillAsks, Fills, stepsIn, lengthIn, invalidFrom, at}
+use Rattle.runs.proofs.Entries.{ordered-among, entries-length, entry-is, entry-target, entry-both}
 
 -- the next word is no service
 next-unserved : (p : ℕ) → servesOf p (p + 1) ≡ false

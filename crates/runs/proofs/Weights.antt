@@ -3,7 +3,7 @@ use mathlib.Core.Path.{_≡_, refl, sym, ap, _∙_}
 use mathlib.Core.Logic.{⊎-elim}
 use mathlib.Core.Bool.{Bool, true, false, not, _||_, true≢false, false≢true}
 use mathlib.Core.List.{List}
-use Prim.Native.Nat.{ℕ, _+_, _%_, _≤_, _<_}
+use Prim.Native.Nat.{ℕ, _+_, _≤_, _<_}
 use native.Mathlib.Omega.{arith}
 use borrow.Author.Tests.{eqb-true, eqb-false, eq-eqb, ne-eqb, lt-ltb, le-ltb, ltb-false, not-false}
 use lib.Dec.{ltb, eqb}
@@ -12,7 +12,7 @@ use Rattle.common.specs.Lowest.{lowestFrom}
 use Rattle.common.proofs.Lowest.{lowest-laws}
 use Rattle.common.proofs.Order.{split, same-or-not}
 use Rattle.fields.specs.Word.{opcodeOf}
-use Rattle.runs.specs.Weights.{weightCount, weightOf, isZeroAt, lowestZero, refusesWeights, weightsPlace, Weighing, WeightLaws}
+use Rattle.runs.specs.Weights.{weightCount, isZeroAt, lowestZero, refusesWeights, weightsPlace, WeightLaws}
 
 -- two tests that both fail
 neither : (t u : Bool) → t || u ≡ false → (t ≡ false) × (u ≡ false)

@@ -10,7 +10,6 @@ use borrow.Author.Tests.{lt-ltb, le-ltb}
 use Rattle.common.specs.Limits.{mostWords}
 use Rattle.fields.specs.Word.{kOf}
 use Rattle.fields.specs.Table.{StepClass, following, returning, branching, skipping, skippingIfK, jumping, looping, preparing, entering, invalid, classOf, companionOf}
-use Rattle.runs.specs.declared.edges.Successors.{Successors}
 use Rattle.runs.specs.declared.edges.Successors.the-variants.{Invalid}
 use Rattle.runs.specs.Columns.{classFrom, companionFrom}
 use Rattle.runs.specs.Steps.{unless, one, Below}

@@ -1,7 +1,6 @@
 pub mod Near
 pub mod Cross
 pub mod Slices
-pub mod Writing
 pub mod Outcome
 pub mod Nearest
 pub mod ListedWords

@@ -1,14 +1,13 @@
 -- `specs/Claims.antt` holds, and what the program's page needs of it. Assumes nothing.
 use mathlib.Core.Path.{_≡_, refl, sym, _∙_, ap}
 use mathlib.Core.Bool.{Bool, true, false}
-use mathlib.Core.List.{List, [], _∷_, _++_}
+use mathlib.Core.List.{List, [], _∷_}
 use Prim.Native.Nat.{ℕ, zero, suc, _+_, _≤_, _<_}
 use native.Mathlib.Omega.{arith}
 use lib.Dec.{ltb}
-use lib.ListN.{length, take, getD, length-append}
+use lib.ListN.{length, getD, length-append}
 use lib.Seq.{length-take-le}
 use borrow.Author.Tests.{ltb-true, ltb-false}
-use Rattle.common.specs.Numbers.{«MALFORMED_CHUNK»}
 use Rattle.common.specs.Lists.{put}
 use Rattle.common.proofs.Put.{put-laws}
 use Rattle.chunk.specs.declared.reading.Refusal.{Refusal}

@@ -2,7 +2,7 @@
 -- Assumes nothing.
 use Prim.Native.Nat.{ℕ, _+_, _<_}
 use mathlib.Core.Path.{_≡_, refl, ap, sym, subst, _∙_}
-use mathlib.Core.Logic.{_⊎_, inl, inr, ⊎-elim, _↔_}
+use mathlib.Core.Logic.{_⊎_, inl, inr, ⊎-elim}
 use mathlib.Core.Bool.{Bool, true, false, cond}
 use mathlib.Core.List.{List, [], _∷_}
 use native.Mathlib.Omega.{arith}
@@ -13,9 +13,9 @@ use Rattle.fields.proofs.Laws.{laws}
 use Rattle.touches.specs.Operands.{Operand, «R[A]», «R[A+1]», «R[A+2]», «R[A+3]», «R[A+1…A+B-1]», «R[A+1…A+B]», locationOf}
 use Rattle.touches.specs.Cases.{Edge, noEdge, «p+1», «p+2», «p+1-Bx», Accesses, accessesOf}
 use Rattle.touches.specs.Table.{numberOf, operandFrom, edgeNumber}
-use Rattle.touches.specs.Executions.{Cell, register, constant, upvalue, upToTop, Access, names, Way, waysOf, wayReads, wayStores, Any, All}
+use Rattle.touches.specs.Executions.{Cell, register, upToTop, Access, names, Way, waysOf, wayReads, wayStores, Any, All}
 use Rattle.touches.proofs.Rows.{operand-back}
-use Rattle.touches.proofs.Choices.{every, some, left-of, right-of, one-of, any-to, any-map, all-map, every-any, every-all, some-any, some-all}
+use Rattle.touches.proofs.Choices.{every, some, left-of, right-of, one-of, every-any, every-all, some-any, some-all}
 use Rattle.touches.proofs.Cells.{At, kind, index, one-register, past-first, meant, named}
 use Rattle.touches.proofs.Ways.{goOf, leads}
 use Rattle.touches.proofs.Sorts.{bars, barred, one-kind, topsLast}
@@ -234,9 +234,6 @@ module _ (i pi ni : RawInstruction54) (c : Cell) where
     reads-into r =
         every-any Is (λ (x : Operand). some (λ (w : Way). has (reads w) x) ways) (a .reads) (agrees .read-somewhere) r
         (λ x t h. some-any ReadOn (λ (w : Way). has (reads w) x) ways t (λ w s. into-accesses (wayReads w) (found x (reads w) s h)))
-
-    on-all : (x : Operand) → T (has (a .writes) x) → Is x → Any Is (a .writes)
-    on-all x t h = found x (a .writes) t h
 
     -- what is written on every way
     every-way : Any Is (a .writes) → All StoredOn ways

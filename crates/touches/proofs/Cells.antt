@@ -1,7 +1,7 @@
 -- What an access of lvm.c names is what its operand stands for: the cells of a location, and an access at a time.
 -- Assumes nothing.
 use Prim.Native.Nat.{ℕ, suc, _+_, _-_, _≤_, _<_}
-use mathlib.Core.Path.{_≡_, refl, ap, sym, subst, _∙_}
+use mathlib.Core.Path.{_≡_, refl, ap}
 use mathlib.Core.Logic.{_⊎_, inl, inr, ⊎-elim, _↔_}
 use mathlib.Core.Bool.{Bool, true, false, cond}
 use mathlib.Core.List.{List, [], _∷_, _++_}
@@ -12,11 +12,10 @@ use Rattle.fields.specs.declared.word.RawInstruction54.{RawInstruction54}
 use Rattle.graph.specs.Graph.{In}
 use Rattle.touches.specs.declared.intervals.Interval.{Interval}
 use Rattle.touches.specs.declared.locations.Location.{Location}
-use Rattle.touches.specs.declared.locations.Location.the-variants.{Nothing, Registers, ToTop, Constant, Upvalue}
+use Rattle.touches.specs.declared.locations.Location.the-variants.{Registers, ToTop, Constant, Upvalue}
 use Rattle.touches.specs.Operands.{Operand, «R[A]», «R[A+1]», «R[A+2]», «R[A+3]», «R[A+4]», «R[B]», «R[C]», «RK[C]», «R[A]-before», «K[B]», «K[C]», «K[Bx]», «K[Ax]-after», «UpValue[A]», «UpValue[B]», «R[A…A+B]», «R[A…A+B-1]», «R[A+1…A+B-1]», «R[A…A+B-2]», «R[A+1…A+B]», «R[A…A+C-2]», «R[A+4…A+3+C]», locationOf}
 use Rattle.touches.specs.Lists.{intervalsOf, topsOf, constantsOf, upvaluesOf, gather}
 use Rattle.touches.specs.Executions.{Cell, register, constant, upvalue, upToTop, Access, «ra», «ra+1», «ra+2», «ra+3», «ra+4», vRB, vRC, RKC, KB, KC, «k+Bx», «k+Ax», «RA-pi», «upvals[A]», «upvals[B]», nils, pieces, arguments, results, iterated, returned, elements, names, Any}
-use Rattle.touches.proofs.Order.{split}
 use Rattle.touches.proofs.Ranges.{Inside}
 
 -- a cell of a location

@@ -1,7 +1,7 @@
 -- What an access names at a stack top is what it names plainly, and the range up to the top that it names.
 -- Assumes nothing.
-use Prim.Native.Nat.{ℕ, suc, _+_, _-_, _≤_, _<_}
-use mathlib.Core.Path.{_≡_, refl, ap, sym, subst, _∙_}
+use Prim.Native.Nat.{ℕ, _+_, _-_, _≤_, _<_}
+use mathlib.Core.Path.{_≡_, refl, ap}
 use mathlib.Core.Logic.{_⊎_, inl, inr, ⊎-elim, _↔_}
 use mathlib.Core.Bool.{Bool, true, false, cond}
 use mathlib.Core.List.{List, [], _∷_}
@@ -9,7 +9,7 @@ use native.Mathlib.Omega.{arith}
 use lib.Dec.{T, eqb}
 use borrow.Author.Tests.{eqb-true, eqb-false}
 use Rattle.fields.specs.declared.word.RawInstruction54.{RawInstruction54}
-use Rattle.touches.specs.Executions.{Cell, register, constant, upvalue, upToTop, Access, «ra», «ra+1», «ra+2», «ra+3», «ra+4», vRB, vRC, RKC, KB, KC, «k+Bx», «k+Ax», «RA-pi», «upvals[A]», «upvals[B]», nils, pieces, arguments, results, iterated, returned, elements, names, namesAt, Meets, Any, All}
+use Rattle.touches.specs.Executions.{register, upToTop, Access, «ra», «ra+1», «ra+2», «ra+3», «ra+4», vRB, vRC, RKC, KB, KC, «k+Bx», «k+Ax», «RA-pi», «upvals[A]», «upvals[B]», nils, pieces, arguments, results, iterated, returned, elements, names, namesAt, Meets, Any, All}
 use Rattle.touches.proofs.Cells.{kind, index, meant, named}
 use Rattle.touches.proofs.Sorts.{bars, barred}
 

@@ -2,16 +2,16 @@
 use Prim.Native.Nat.{ℕ, suc, _+_, _-_, _≤_, _<_}
 use mathlib.Core.Path.{_≡_, refl, ap, sym, subst, _∙_}
 use mathlib.Core.Logic.{_⊎_, inl, inr, ⊎-elim, _↔_}
-use mathlib.Core.Bool.{Bool, true, false, cond}
+use mathlib.Core.Bool.{Bool, true, false}
 use mathlib.Core.List.{List, [], _∷_}
 use native.Mathlib.Omega.{arith}
-use lib.Dec.{T, ltb}
+use lib.Dec.{T}
 use borrow.Author.Tests.{le-ltb}
 use lib.IntN.{ℤ, pos}
 use lib.ListN.{length, getD, take}
 use Rattle.fields.specs.declared.word.RawInstruction54.{RawInstruction54}
-use Rattle.fields.specs.Word.{fieldsOf, opcodeOf, aOf, axOf}
-use Rattle.fields.specs.Lopcodes.{«GET_OPCODE», «GETARG_Bx», instruction}
+use Rattle.fields.specs.Word.{fieldsOf, aOf, axOf}
+use Rattle.fields.specs.Lopcodes.{«GET_OPCODE», instruction}
 use Rattle.fields.proofs.Laws.{laws}
 use Rattle.graph.specs.Graph.{In}
 use Rattle.runs.specs.Steps.{isInvalid, unless}
@@ -21,13 +21,12 @@ use Rattle.touches.specs.declared.answer.Top.{Top}
 use Rattle.touches.specs.declared.answer.Touches.{Touches}
 use Rattle.touches.specs.declared.intervals.Interval.{Interval}
 use Rattle.touches.specs.declared.locations.Location.{Location}
-use Rattle.touches.specs.Operands.{Operand, locationOf}
-use Rattle.touches.specs.Cases.{Edge, noEdge, Accesses, edgeOf, accessesOf}
-use Rattle.touches.specs.Lists.{topsOf, gather, rangesOf, intervalsOf}
-use Rattle.touches.specs.Canonical.{canonical}
+use Rattle.touches.specs.Operands.{Operand}
+use Rattle.touches.specs.Cases.{Edge, Accesses, edgeOf, accessesOf}
+use Rattle.touches.specs.Lists.{gather, rangesOf, intervalsOf}
 use Rattle.touches.specs.Touches.{locationsOf, touchesBy, touchesAt, touchesIn, touchesOf}
-use Rattle.touches.specs.Executions.{Cell, register, constant, upvalue, upToTop, Way, way, next, waysOf, waysAt, nexts, wayReads, wayStores, names, Any, All, Touched, LeadsTo, Reads, WrittenOnAll, WrittenOnlyTo, Access, namesAt, Meets, TouchedAt, ReadsAt, WrittenAt, TopBefore, TopAfter}
-use Rattle.touches.specs.Meaning.{Form, NamedRead, NamedWritten, NamedOnEdge, rangesIn, Within, Longest, Exact, Below, Tops, NamesNothing, Meaning}
+use Rattle.touches.specs.Executions.{Cell, register, constant, upvalue, upToTop, Way, way, waysAt, nexts, wayReads, wayStores, names, Any, All, Touched, LeadsTo, Reads, WrittenOnAll, WrittenOnlyTo, Access, namesAt, Meets, TouchedAt, ReadsAt, WrittenAt, TopBefore, TopAfter}
+use Rattle.touches.specs.Meaning.{Form, NamedRead, NamedWritten, NamedOnEdge, Within, Longest, Exact, Below, Tops, NamesNothing, Meaning}
 use Rattle.touches.proofs.Answers as answers
 use Rattle.touches.proofs.Rows.{Fits, accesses-fit}
 use Rattle.touches.proofs.Choices.{every, any-map, all-map}

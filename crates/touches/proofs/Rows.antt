@@ -1,7 +1,7 @@
 -- The code's table: a row's digits lead back to the operands of its opcode's case.
 -- Assumes nothing.
 use Prim.Native.Nat.{ℕ, zero, suc, _+_, _-_, _*_, _/_, _%_, _^_, _≤_, _<_}
-use mathlib.Core.Path.{_≡_, refl, ap, sym, _∙_}
+use mathlib.Core.Path.{_≡_, refl, ap, _∙_}
 use mathlib.Core.Bool.{Bool, true, false, cond, true≢false}
 use mathlib.Core.List.{List, [], _∷_}
 use mathlib.Core.Logic.{⊎-elim}
@@ -20,7 +20,7 @@ use Rattle.touches.specs.declared.locations.Location.{Location}
 use Rattle.touches.specs.declared.locations.Location.the-variants.{Nothing}
 use Rattle.touches.specs.declared.answer.Touches.{Touches}
 use Rattle.touches.specs.Operands.{Operand, nothing, «R[A]», «R[A+1]», «R[A+2]», «R[A+3]», «R[A+4]», «R[B]», «R[C]», «RK[C]», «R[A]-before», «K[B]», «K[C]», «K[Bx]», «K[Ax]-after», «UpValue[A]», «UpValue[B]», «R[A…A+B]», «R[A…A+B-1]», «R[A+1…A+B-1]», «R[A…A+B-2]», «R[A+1…A+B]», «R[A…A+C-2]», «R[A+4…A+3+C]», locationOf}
-use Rattle.touches.specs.Cases.{Edge, noEdge, «p+1», «p+2», «p+1-Bx», edgeOf, Accesses, Case, vmcase, switch, vmdispatch, accessesOf}
+use Rattle.touches.specs.Cases.{Edge, noEdge, «p+1», «p+2», «p+1-Bx», Accesses, Case, vmcase, switch, vmdispatch, accessesOf}
 use Rattle.touches.specs.Lists.{gather}
 use Rattle.touches.specs.Table.{operands, operandFrom, edgeFrom, edgeNumber, numberOf, operandAt, digitsOf, packed, rowsOf, accessTable, touchesFrom, touchesWith}
 use Rattle.touches.specs.Touches.{locationsOf, touchesBy, touchesAt, touchesIn, touchesOf}

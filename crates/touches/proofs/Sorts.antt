@@ -1,28 +1,24 @@
 -- The two definitions agree: which kinds of cells an operand can stand for, and tests of the 83 cases, which antt
 -- computes.
 -- Assumes nothing.
-use Prim.Native.Nat.{ℕ, suc, _+_, _≤_, _<_}
-use mathlib.Core.Path.{_≡_, refl, ap, sym, subst, _∙_}
-use mathlib.Core.Logic.{_⊎_, inl, inr, ⊎-elim, _↔_}
+use Prim.Native.Nat.{ℕ, _+_, _≤_}
+use mathlib.Core.Path.{_≡_, refl, sym, subst, _∙_}
+use mathlib.Core.Logic.{inl}
 use mathlib.Core.Bool.{Bool, true, false, cond}
-use mathlib.Core.List.{List, [], _∷_, _++_}
+use mathlib.Core.List.{List, [], _∷_}
 use native.Mathlib.Omega.{arith}
-use lib.Dec.{T, eqb, eqb→eq}
+use lib.Dec.{T, eqb}
 use lib.ListN.{length, length-append}
 use Rattle.fields.specs.declared.word.RawInstruction54.{RawInstruction54}
 use Rattle.graph.specs.Graph.{In}
 use Rattle.touches.specs.declared.locations.Location.{Location}
 use Rattle.touches.specs.declared.locations.Location.the-variants.{Nothing, Registers, ToTop, Constant, Upvalue}
 use Rattle.touches.specs.Operands.{Operand, nothing, «R[A]», «R[A+1]», «R[A+2]», «R[A+3]», «R[A+4]», «R[B]», «R[C]», «RK[C]», «R[A]-before», «K[B]», «K[C]», «K[Bx]», «K[Ax]-after», «UpValue[A]», «UpValue[B]», «R[A…A+B]», «R[A…A+B-1]», «R[A+1…A+B-1]», «R[A…A+B-2]», «R[A+1…A+B]», «R[A…A+C-2]», «R[A+4…A+3+C]», locationOf}
-use Rattle.touches.specs.Cases.{Accesses, accessesOf}
-use Rattle.touches.specs.Table.{numberOf, operandFrom}
 use Rattle.touches.specs.Lists.{topsOf, gather}
 use Rattle.touches.specs.Touches.{locationsOf}
-use Rattle.touches.specs.Executions.{Cell, register, constant, upvalue, upToTop, Access, names, Way, waysOf, wayReads, wayStores, Any, All}
-use Rattle.touches.proofs.Rows.{operand-back}
-use Rattle.touches.proofs.Choices.{every, some, left-of, right-of, one-of, any-to, any-map, all-map, every-any, every-all, some-any, some-all}
-use Rattle.touches.proofs.Cells.{At, kind, meant, named}
-use Rattle.touches.proofs.Ways.{goOf, leads}
+use Rattle.touches.specs.Executions.{Cell, register, constant, upvalue, upToTop}
+use Rattle.touches.proofs.Choices.{some, left-of, right-of}
+use Rattle.touches.proofs.Cells.{At, kind}
 
 -- The kinds of cells that an operand can stand for
 

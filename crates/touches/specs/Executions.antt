@@ -4,7 +4,7 @@
 -- registers, constants and upvalues that lvm.c reads and writes in some execution". An execution that ends in an
 -- error goes on nowhere and is left out.
 -- Assumes nothing.
-use Prim.Native.Nat.{ℕ, suc, _+_, _-_, _≤_, _<_}
+use Prim.Native.Nat.{ℕ, _+_, _-_, _≤_, _<_}
 use mathlib.Core.Path.{_≡_}
 use mathlib.Core.Logic.{_⊎_}
 use mathlib.Core.Bool.{cond}

@@ -1,7 +1,7 @@
 // What a word touches (document 02, C-14).
 ghost use mathlib.Core.Path.{_≡_};
 ghost use mathlib.Core.List.{[], _∷_};
-ghost use Prim.Native.Nat.{_+_, _-_, _/_, _%_, _^_, _*_, _<_};
+ghost use Prim.Native.Nat.{_+_, _-_, _/_, _%_, _^_, _<_};
 ghost use lib.ListN.{length, getD};
 ghost use Rattle.fields.specs.Word.{fieldsOf, opcodeOf, aOf, axOf};
 ghost use Rattle.touches.specs.Cases.{edgeOf};

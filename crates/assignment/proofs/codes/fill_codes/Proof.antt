@@ -7,7 +7,7 @@ use Rattle.runs.specs.declared.edges.Successors.{Successors}
 use Rattle.touches.specs.declared.answer.Touches.{Touches}
 use Rattle.assignment.specs.Codes.{codeOf, codeAt, packed}
 use Rattle.assignment.proofs.Uses.{touches-is, touches-listed}
-use Rattle.assignment.proofs.Writing.{Writing, writing-none, writing-more, writing-done}
+use Rattle.common.proofs.Writing.{Writing, writing-none, writing-more, writing-done}
 use Rattle.assignment.proofs.codes.fill_codes.Statement.{statement}
 use Rattle.assignment.proofs.codes.fill_codes.Tie as tie
 

@@ -2,7 +2,7 @@ use mathlib.Core.Path.{_≡_, refl, ap}
 use Prim.Native.Nat.{ℕ, _-_, _/_}
 use native.Mathlib.Omega.{arith}
 use lib.ListN.{getD}
-use Rattle.assignment.proofs.Writing.{Writing, Ahead, writing-none, writing-more, writing-done, ahead-more}
+use Rattle.common.proofs.Writing.{Writing, Ahead, writing-none, writing-more, writing-done, ahead-more}
 use Rattle.assignment.proofs.codes.shift_codes.Statement.{statement}
 use Rattle.assignment.proofs.codes.shift_codes.Tie as tie
 

@@ -1,6 +1,5 @@
 use Prim.Native.Nat.{_-_, _≤_}
 use lib.ListN.{length}
-use native.Mathlib.Omega.{arith}
 use borrow.Author.Needs.{needs}
 use Rattle.chunk_cases.proofs.passes.altered.Statement.{statement}
 use Rattle.chunk_cases.proofs.passes.altered.Tie as tie

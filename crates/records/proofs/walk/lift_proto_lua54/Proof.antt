@@ -3,7 +3,7 @@
 -- proof knows of the two callees is that each meets its contract. What the five shared slices own stands in one formula, `Lent` (proofs/Lent.antt).
 -- The invariant: the row is `filled` up to i. The variant: the number of turns left. Assumes nothing.
 use mathlib.Core.Path.{_≡_, refl, sym, _∙_, ap, subst}
-use Prim.Native.Nat.{ℕ, zero, suc, _+_, _*_, _<_, _≤_, _^_}
+use Prim.Native.Nat.{ℕ, zero, suc, _+_, _*_, _<_, _^_}
 use native.Mathlib.Nat.{add-zero, zero-add, lt-suc-self, lt-irrefl}
 use mathlib.Core.Bool.{Bool}
 use mathlib.Core.List.{[], _∷_, List}

@@ -1,6 +1,6 @@
 -- `rehearsal::rotation::next_turn` meets its contract: an ending of the turn at a time.
 -- Assumes nothing.
-use mathlib.Core.Path.{_≡_, refl, sym, ap, _∙_}
+use mathlib.Core.Path.{_≡_, ap}
 use Prim.Native.Nat.{ℕ, _≤_}
 use Rattle.graph.specs.Graph.{Graph}
 use native.Mathlib.Omega.{arith}

@@ -1,13 +1,13 @@
 -- `rehearsal::rotation::play` meets its contract: from every stage on the longest waits come out the same.
 -- Assumes nothing.
-use mathlib.Core.Path.{_≡_, refl, sym, subst, ap, _∙_}
-use Prim.Native.Nat.{ℕ, _≤_, _<_}
+use mathlib.Core.Path.{_≡_, sym, subst, ap, _∙_}
+use Prim.Native.Nat.{ℕ, _<_}
 use native.Mathlib.Omega.{arith}
 use borrow.Author.Needs.{needs}
 use Rattle.graph.specs.Graph.{Graph}
 use Rattle.rehearsal.specs.declared.machine.Stage.{Stage}
 use Rattle.rehearsal.specs.Waits.{longestWait}
-use Rattle.rehearsal.specs.Running.{Fine, nextStage}
+use Rattle.rehearsal.specs.Running.{Fine}
 use Rattle.rehearsal.specs.Rehearse.{graphsOf, rehearsed}
 use Rattle.rehearsal.proofs.Stages.{goingOn, next-same, next-fine, next-less, ended, start-fine, start-going}
 use Rattle.rehearsal.proofs.rotation.play.Statement.{statement}

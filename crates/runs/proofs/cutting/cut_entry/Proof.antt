@@ -1,5 +1,4 @@
 use native.Mathlib.Omega.{arith}
-use borrow.Author.Needs.{needs}
 use Rattle.runs.proofs.Cut.{none-left, one-cut, one-kept, two-left}
 use Rattle.runs.proofs.cutting.cut_entry.Statement.{statement}
 use Rattle.runs.proofs.cutting.cut_entry.Tie as tie

@@ -1,9 +1,8 @@
-use mathlib.Core.Path.{_≡_, refl, sym, _∙_}
+use mathlib.Core.Path.{_∙_}
 use mathlib.Core.List.{List}
 use Prim.Native.Nat.{ℕ}
 use native.Mathlib.Omega.{arith}
 use borrow.Author.Needs.{needs}
-use lib.ListN.{length}
 use Rattle.runs.proofs.Cut.{held-cut, marks-cut, work-cut}
 use Rattle.runs.proofs.cutting.search_cut.Statement.{statement}
 use Rattle.runs.proofs.cutting.search_cut.Tie as tie

@@ -1,12 +1,12 @@
 use Prim.Native.Nat.{ℕ, _-_, _<_}
 use native.Mathlib.Omega.{arith}
-use mathlib.Core.Path.{_≡_, sym, ap, ap₂, subst, _∙_}
+use mathlib.Core.Path.{sym, ap₂, subst, _∙_}
 use borrow.Author.Needs.{needs}
 use lib.ListN.{length}
 use Rattle.common.specs.Limits.{mostWords}
 use Rattle.runs.specs.declared.edges.Successors.{Successors}
 use Rattle.runs.specs.Cut.{cutSteps, stepsCut}
-use Rattle.runs.specs.Entries.{Says, entryAt}
+use Rattle.runs.specs.Entries.{Says}
 use Rattle.runs.proofs.Entries.{Settling, settling-none, settling-more, settling-done}
 use Rattle.runs.proofs.Cut.{cut-outside}
 use Rattle.runs.proofs.cutting.settle_cut.Statement.{statement}

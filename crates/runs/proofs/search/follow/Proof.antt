@@ -1,12 +1,11 @@
-use mathlib.Core.Path.{_≡_, refl, ap}
-use mathlib.Core.Bool.{Bool, true, cond}
-use Prim.Native.Nat.{ℕ, _+_, _-_, _/_, _<_}
+use mathlib.Core.Bool.{cond}
+use Prim.Native.Nat.{_+_, _-_, _<_}
 use native.Mathlib.Omega.{arith}
-use lib.ListN.{length, getD}
+use lib.ListN.{length}
 use Rattle.graph.specs.Laws.{ones}
 use Rattle.runs.specs.Entries.{entries, queueOf, graphIn}
 use Rattle.runs.proofs.Entries.{queue-length, same-length}
-use Rattle.runs.proofs.Turn.{head-in, following-none, followed}
+use Rattle.runs.proofs.Turn.{head-in, followed}
 use Rattle.runs.proofs.Held.{FollowingIn, visit-asks, following-in, fewer-in, following-first}
 use Rattle.runs.proofs.search.follow.Statement.{statement}
 use Rattle.runs.proofs.search.follow.Tie as tie

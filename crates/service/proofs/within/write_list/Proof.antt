@@ -1,8 +1,8 @@
 use Prim.Native.Nat.{_-_}
 use native.Mathlib.Omega.{arith}
 use borrow.Author.Needs.{needs}
+use Rattle.common.proofs.Writing.{Writing, writing-none, writing-more, writing-done}
 use Rattle.service.specs.Pass.{listedBy}
-use Rattle.service.proofs.Writing.{Writing, writing-none, writing-more, writing-done}
 use Rattle.service.proofs.within.write_list.Statement.{statement}
 use Rattle.service.proofs.within.write_list.Tie as tie
 

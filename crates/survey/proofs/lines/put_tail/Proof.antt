@@ -1,8 +1,6 @@
 use mathlib.Core.Path.{sym, ap}
 use Prim.Native.Nat.{ℕ, _+_}
 use borrow.Author.Needs.{needs}
-use lib.ListN.{length}
-use Rattle.survey.specs.Lines.{tailOf}
 use Rattle.survey.proofs.Columns.{length-accepted, length-refused, tail-accepted, tail-refused}
 use Rattle.survey.proofs.lines.put_tail.Statement.{statement}
 use Rattle.survey.proofs.lines.put_tail.Tie as tie

@@ -5,10 +5,10 @@ use mathlib.Core.List.{List}
 use Prim.Native.Nat.{ℕ, _+_, _≤_, _<_}
 use native.Mathlib.Omega.{arith}
 use lib.ListN.{length, getD, drop, set, length-set}
-use lib.Seq.{drop-set-lt}
+use lib.Seq.{drop-set-lt, getD-set-other}
 use Rattle.common.specs.Lists.{over}
 use Rattle.common.proofs.Over.{over-laws}
 use Rattle.common.proofs.Stores.{at-set}
 
 -- i of the n elements are stored; l₀ is the list as it was
 pub record Writing (f : ℕ → ℕ) (n : ℕ) (l₀ l : List ℕ) (i : ℕ) : Type 0 where
@@ -37,3 +37,10 @@ module _ (f : ℕ → ℕ) (n : ℕ) (l₀ : List ℕ) where
 
   pub writing-done : {l : List ℕ} {i : ℕ} → Writing f n l₀ l i → n ≤ i → l ≡ over f n l₀
   writing-done {l} {i} w h = over-laws .is f n l₀ l (omega (arith, w .same, w .long)) (λ p b. w .each p (omega arith)) (w .past)
+
+-- the elements that are not stored yet are as they were
+abbrev pub Ahead : List ℕ → List ℕ → ℕ → Type 0
+Ahead l₀ l i = (p : ℕ) → i ≤ p → getD l p 0 ≡ getD l₀ p 0
+
+pub ahead-more : (l₀ l : List ℕ) (i v : ℕ) → Ahead l₀ l i → Ahead l₀ (set l i v) (i + 1)
+ahead-more l₀ l i v a p h = getD-set-other l i p v 0 (λ e. omega arith) ∙ a p (omega arith)
