@@ -218,11 +218,12 @@ struct lawendeb_run_range {
     uint64_t number, place, low_longest, low_first, high_longest, high_first;
 };
 
-/* Both runs in one call, with one search. By any table between the two, entry by entry, the longest
-   run is at least low_longest and at most high_longest, accepted exactly if these are and else
-   refused alike; where it begins may be anywhere. Marks and lengths end as the run by the high
-   table leaves them. Refusals are 1, 6, 18 of the low table, 18 of the high one, 19, 7 and 8, tried
-   in this order; 8 leaves the marks and n zero lengths, the others alter nothing. */
+/* Both runs in one call, with one search. Where 18 and 19 let the two tables through: by any table
+   between them, entry by entry, the longest run is at least low_longest and at most high_longest,
+   accepted exactly if these are and else refused alike; where it begins may be anywhere. Marks and
+   lengths end as the run by the high table leaves them. Refusals are 1, 6, 18 of the low table, 18
+   of the high one, 19, 7 and 8, tried in this order; 8 leaves the marks and n zero lengths, the
+   others alter nothing. */
 struct lawendeb_run_range lawendeb_longest_runs(const uint32_t *words, size_t n, const uint8_t *low,
                                                 size_t low_n, const uint8_t *high, size_t high_n,
                                                 uint8_t *marks, size_t marks_n, uint32_t *lengths,

@@ -26,9 +26,11 @@ pub struct Counts {
     pub singles: u64,
     /// Single feeds that 1, 18, 11 or 10 refuses, with the others' counts alone above S.
     pub beside: u64,
-    /// Serving steps with S at the sum after them, or one below it.
+    /// Serving steps, answered 0 or 22, with S at the sum after them, or one below it.
     pub serving: u64,
-    /// Single feeds with a count of 2^32 - 1 in another meter.
+    /// Feeds, answered 0 or 22, with S at one of its ends, and the sum after them at S or one above it.
+    pub ends: u64,
+    /// Single feeds that 22 turns back beside a count of 2^32 - 1 in another meter.
     pub full: u64,
     /// Answers of single calls.
     pub answers: BTreeMap<u64, u64>,
@@ -87,11 +89,17 @@ impl Case {
 
     /// "If all four scripts are accepted, each one's L is at most S divided by 4, rounded down, every meter was just begun, S stays
     /// the same, and words and weights stay those of the accepted runs".
+    /// Begins and resets before the first feed may be what begins them, whatever S these name.
     fn is_free(&self) -> bool {
-        let begun = |m: &Meter| !m.begun && m.last == 0 && m.since == 0;
-        let Some(first) = self.calls.first() else { return false };
-        self.start.iter().all(begun)
-            && self.calls.iter().all(|c| c.budget == first.budget)
+        let opening = self.calls.iter().take_while(|c| !matches!(c.call, Call::Feed(_))).count();
+        let (before, later) = self.calls.split_at(opening);
+        let begun = |i: usize| {
+            let m = self.start[i];
+            (!m.begun && m.last == 0 && m.since == 0) || before.iter().any(|c| c.script == i as u32 && c.call == Call::Begin)
+        };
+        let Some(first) = later.first() else { return false };
+        (0..4).all(begun)
+            && later.iter().all(|c| c.budget == first.budget)
             && self.longest().is_some_and(|l| l <= u64::from(first.budget / 4))
     }
 }
@@ -125,7 +133,11 @@ pub fn compare_list(side: &Side, case: &Case) -> Result<u64, String> {
             Some(book) => {
                 let told = book.call(weights, c.call);
                 if a != told || got[i] != book.meter(got[i].highest) {
-                    return Err(format!("call {k}, {c:?}: {a:?}, {:?}; by its own book {told:?}, {:?}", got[i], book.meter(got[i].highest)));
+                    return Err(format!(
+                        "call {k}, {c:?}: {a:?}, {:?}; by its own book {told:?}, {:?}",
+                        got[i],
+                        book.meter(got[i].highest)
+                    ));
                 }
                 booked += 1;
             }
@@ -146,7 +158,13 @@ fn rearranged(rng: &mut Rng, ms: &Meters, i: usize) -> Meters {
         out[to].since += part;
     }
     for j in others {
-        out[j] = Meter { begun: rng.once_in(2), last: rng.next() as u32, services: rng.next() as u32, highest: rng.next() as u32, ..out[j] };
+        out[j] = Meter {
+            begun: rng.once_in(2),
+            last: rng.next() as u32,
+            services: rng.next() as u32,
+            highest: rng.next() as u32,
+            ..out[j]
+        };
     }
     out
 }
@@ -166,7 +184,10 @@ pub fn compare_single(side: &Side, case: &Case) -> Result<u64, String> {
             let mut other = rearranged(&mut rng, &case.start, c.script as usize);
             let again = case.by(side, &mut other, c);
             if again != a || other[c.script as usize] != *own {
-                return Err(format!("{c:?}: {a:?}, {own:?}; beside others with the same sum {again:?}, {:?}", other[c.script as usize]));
+                return Err(format!(
+                    "{c:?}: {a:?}, {own:?}; beside others with the same sum {again:?}, {:?}",
+                    other[c.script as usize]
+                ));
             }
         }
     }
@@ -198,7 +219,8 @@ fn smaller(case: &Case) -> Vec<Case> {
     }
     // A highest at the count may be what a meter had before: only what is smaller counts, or this would not end.
     let size = |c: &Case| {
-        let meters: u64 = c.start.iter().map(|m| u64::from(m.since) + u64::from(m.highest) + u64::from(m.services) + u64::from(m.last)).sum();
+        let meters: u64 =
+            c.start.iter().map(|m| u64::from(m.since) + u64::from(m.highest) + u64::from(m.services) + u64::from(m.last)).sum();
         let weights: u64 = c.weights.iter().flat_map(|w| &w.0).map(|&w| u64::from(w)).sum();
         let words: u64 = c.words.iter().flatten().map(|&w| u64::from(w) + (1 << 32)).sum();
         u128::from(meters) + u128::from(weights) + u128::from(words) + ((c.calls.len() as u128) << 64)
@@ -238,7 +260,11 @@ fn any_four(rng: &mut Rng, words: &[Vec<u32>; 4]) -> Meters {
     let plain = rng.once_in(2);
     let mut ms = Meters::default();
     for (m, words) in ms.iter_mut().zip(words) {
-        *m = if plain { Meter { services: rng.next() as u32, highest: rng.below(9) as u32, ..Meter::default() } } else { any_meter(rng, words.len()) };
+        *m = if plain {
+            Meter { services: rng.next() as u32, highest: rng.below(9) as u32, ..Meter::default() }
+        } else {
+            any_meter(rng, words.len())
+        };
         if !plain && rng.once_in(12) {
             m.since = u32::MAX - rng.below(2) as u32;
         }
@@ -261,30 +287,38 @@ pub fn list_case(rng: &mut Rng) -> Case {
     if let (true, Some(l)) = (rng.once_in(2), case.longest()) {
         fixed = Some((4 * l as u32).saturating_sub(rng.below(2) as u32));
     }
-    let mut at: [Option<usize>; 4] = [None; 4];
     if rng.once_in(3) {
         let begins = (0..4).map(|script| FourCall { script, budget: fixed.unwrap_or(1), call: Call::Begin });
         case.calls.extend(begins);
     }
+    let mut now = case.start;
+    for &c in &case.calls {
+        case.by_model(&mut now, c);
+    }
+    // The words that 22 turned back: often fed again, once another script went on.
+    let mut back: [Option<usize>; 4] = [None; 4];
     for _ in 0..rng.below(40) {
         let (script, budget) = (any_script(rng), fixed.unwrap_or_else(|| any_budget(rng)));
         let i = script as usize % 4;
-        let call = match rng.below(24) {
-            0 => Call::Begin,
-            1 => Call::Reset,
-            _ => Call::Feed(next_word(rng, &case.words[i], at[i])),
+        let call = match (rng.below(24), back[i]) {
+            (0, _) => Call::Begin,
+            (1, _) => Call::Reset,
+            (2..=12, Some(q)) => Call::Feed(q),
+            _ => Call::Feed(next_word(rng, &case.words[i], now[i].begun.then_some(now[i].last as usize))),
         };
-        case.calls.push(FourCall { script, budget, call });
-        match call {
-            Call::Begin => at[i] = None,
-            Call::Feed(q) if q < case.words[i].len() => at[i] = Some(q),
-            _ => {}
-        }
+        let c = FourCall { script, budget, call };
+        let answer = case.by_model(&mut now, c);
+        back[i] = match call {
+            Call::Feed(q) if answer.number == 22 => Some(q),
+            _ => None,
+        };
+        case.calls.push(c);
     }
     case
 }
 
-/// One call on any four meters; S often at what the sum would be after it, or beside that.
+/// One call on any four meters; S often at what the sum would be after it, or beside that, and at times at one of its ends, with
+/// another count such that the sum is there.
 pub fn single_case(rng: &mut Rng) -> Case {
     let mut case = list_case(rng);
     let (script, i) = (any_script(rng), rng.below(4));
@@ -300,11 +334,25 @@ pub fn single_case(rng: &mut Rng) -> Case {
         _ => Call::Feed(q),
     };
     let mut budget = any_budget(rng);
-    if !rng.once_in(3) {
-        let mut after = case.start;
-        feed(&case.words[i], &case.weights[i].0, &mut after[i], q);
-        let sum: u64 = after.iter().map(|m| u64::from(m.since)).sum();
-        budget = sum.saturating_add(rng.below(3) as u64).saturating_sub(1).min(u64::from(u32::MAX)) as u32;
+    let mut after = case.start;
+    feed(&case.words[i], &case.weights[i].0, &mut after[i], q);
+    match rng.below(6) {
+        0 | 1 => {}
+        2 => {
+            budget = rng.pick(&[1, ALLOWANCE]);
+            let j = (i + 1 + rng.below(3)) % 4;
+            let rest: u64 = (0..4).filter(|&k| k != j).map(|k| u64::from(after[k].since)).sum();
+            if let Some(count) = (u64::from(budget) + rng.below(3) as u64).checked_sub(1 + rest) {
+                case.start[j].since = count as u32;
+            }
+        }
+        _ => {
+            let sum: u64 = after.iter().map(|m| u64::from(m.since)).sum();
+            let near = (sum + rng.below(3) as u64).saturating_sub(1);
+            if (1..=u64::from(ALLOWANCE)).contains(&near) {
+                budget = near as u32;
+            }
+        }
     }
     if rng.once_in(4_000) {
         case.words[i] = vec![0; 32_767 + rng.below(3)];
@@ -329,12 +377,14 @@ fn count(case: &Case, number: u64, counts: &mut Counts) {
     }
     let others: u64 = (0..4).filter(|&j| j != i).map(|j| u64::from(case.start[j].since)).sum();
     counts.beside += u64::from([1, 10, 11, 18].contains(&number) && others > u64::from(c.budget));
-    counts.full += u64::from((0..4).any(|j| j != i && case.start[j].since == u32::MAX));
+    let summed = [0, 22].contains(&number);
+    counts.full += u64::from(number == 22 && (0..4).any(|j| j != i && case.start[j].since == u32::MAX));
     let mut after = case.start[i];
-    let fed = feed(&case.words[i], &case.weights[i].0, &mut after, q).number == 0;
-    if fed && case.start[i].begun && serves(case.start[i].last as usize, q) {
-        let sum = others + u64::from(after.since);
-        counts.serving += u64::from([sum, sum - 1].contains(&u64::from(c.budget)));
+    feed(&case.words[i], &case.weights[i].0, &mut after, q);
+    let sum = others + u64::from(after.since);
+    if summed && [sum, sum - 1].contains(&u64::from(c.budget)) {
+        counts.serving += u64::from(case.start[i].begun && serves(case.start[i].last as usize, q));
+        counts.ends += u64::from([1, ALLOWANCE].contains(&c.budget));
     }
 }
 

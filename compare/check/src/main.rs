@@ -104,7 +104,7 @@ fn main() {
     let start = Instant::now();
     let c = fours::all(&sides::four_sides(), seed, lists);
     println!(
-        "four meters: {} lists of {} feeds against the model, {} of the calls against the script's own feeding book, {} lists with each L within a quarter of S; {} single calls on any four, each again beside others with the same sum, {} of them refused by 1, 18, 11 or 10 with the others above S, {} serving steps at S or one above, {} beside a count of 2^32 - 1, answers by number: {}",
+        "four meters: {} lists of {} feeds against the model, {} of the calls against the script's own feeding book, {} lists with each L within a quarter of S; {} single calls on any four, each again beside others with the same sum, {} of them refused by 1, 18, 11 or 10 with the others above S, {} serving steps at S or one above, {} at S or one above with S at one of its ends, {} turned back by 22 beside a count of 2^32 - 1, answers by number: {}",
         c.lists,
         c.feeds,
         c.booked,
@@ -112,6 +112,7 @@ fn main() {
         c.singles,
         c.beside,
         c.serving,
+        c.ends,
         c.full,
         by_number(&c.answers)
     );

@@ -116,17 +116,21 @@ fn with_table(rng: &mut Rng, code: &[u32], other: &[u32]) -> Vec<u32> {
     }
 }
 
-/// The words with those that the test takes, or some of them, replaced; how many differ now.
+/// The words with those that the test takes, or some of them, at least one, replaced; how many differ now.
 fn patch(rng: &mut Rng, words: &[u32], takes: impl Fn(usize) -> bool) -> (Vec<u32>, u64) {
-    let all = rng.once_in(2);
-    let mut patched = words.to_vec();
-    for q in (0..words.len()).filter(|&q| takes(q)) {
-        if all || rng.once_in(2) {
-            patched[q] = if rng.once_in(2) { rng.next() as u32 } else { gen::word(rng, words.len()) };
+    loop {
+        let all = rng.once_in(2);
+        let mut patched = words.to_vec();
+        for q in (0..words.len()).filter(|&q| takes(q)) {
+            if all || rng.once_in(2) {
+                patched[q] = if rng.once_in(2) { rng.next() as u32 } else { gen::word(rng, words.len()) };
+            }
+        }
+        let many = (0..words.len()).filter(|&q| patched[q] != words[q]).count() as u64;
+        if many > 0 {
+            return (patched, many);
         }
     }
-    let many = (0..words.len()).filter(|&q| patched[q] != words[q]).count() as u64;
-    (patched, many)
 }
 
 fn hold(sides: &[Side], rng: &mut Rng, words: &[u32], real: bool, counts: &mut Counts) {

@@ -3,7 +3,7 @@
 use crate::gen;
 use crate::rng::Rng;
 use crate::shrink::{shrink, words as smaller_words};
-use model::service::{brute, crossed, nearest, within};
+use model::service::{brute, crossed, nearest, taken, within};
 use model::Answer;
 use sides::Side;
 use std::collections::BTreeMap;
@@ -84,19 +84,37 @@ pub fn compare(side: &Side, c: &Case) -> Result<(u64, Answer), String> {
     Ok((3 * c.asked.len() as u64, answer))
 }
 
-/// The model's fewest against every stretch, for each reachable word of an accepted function; whether it is one.
+/// All three questions of the model, of an accepted function, against every stretch from its reachable words and every step that a
+/// course takes; whether it is one.
 fn compare_brute(c: &Case) -> Result<bool, String> {
     let n = c.words.len();
-    let mut accepted = false;
-    for p in 0..n {
-        let (mut marks, mut lengths) = (vec![0; n], vec![0; n]);
-        let got = nearest(&c.words, p, &mut marks, &mut lengths);
-        accepted = got.number == 0;
-        if accepted && marks[p] == 1 && (got.found, Some(got.fewest)) != (1, brute(&c.words, p)) {
-            return Err(format!("{got:?} from {p}, by every stretch {:?}", brute(&c.words, p)));
+    let (mut marks, mut lengths, mut list) = (vec![0; n], vec![0; n], vec![0; n]);
+    if nearest(&c.words, 0, &mut marks, &mut lengths).number != 0 {
+        return Ok(false);
+    }
+    let steps = taken(&c.words);
+    let met = |p: usize| p == 0 || steps.iter().any(|&(_, q)| q == p);
+    let fewest: Vec<Option<u64>> = (0..n).map(|p| if met(p) { brute(&c.words, p) } else { None }).collect();
+    for w in 0..=n {
+        let got = nearest(&c.words, w, &mut marks, &mut lengths);
+        let want = fewest.get(w).copied().flatten();
+        if (got.found == 1).then_some(got.fewest) != want {
+            return Err(format!("{got:?} from {w}, by every stretch {want:?}"));
+        }
+        let got = crossed(&c.words, w, &mut marks, &mut lengths).count;
+        let want = steps.iter().filter(|&&(p, q)| p.min(q) < w && w < p.max(q)).count() as u64;
+        if got != want {
+            return Err(format!("{got} steps over {w}, by every course {want}"));
         }
     }
-    Ok(accepted)
+    for &d in &c.asked {
+        within(&c.words, d, &mut marks, &mut lengths, &mut list);
+        let want: Vec<u8> = fewest.iter().map(|k| u8::from(k.is_some_and(|k| k <= d as u64))).collect();
+        if list != want {
+            return Err(format!("{list:?} within {d}, by every stretch {want:?}"));
+        }
+    }
+    Ok(true)
 }
 
 fn smaller(c: &Case) -> Vec<Case> {
@@ -125,7 +143,7 @@ fn hold(sides: &[Side], c: &Case, counts: &mut Counts) {
     counts.questions += all.0;
     *counts.answers.entry(all.1.number).or_default() += 1;
     if c.words.len() <= 12 {
-        let compared = compare_brute(c).unwrap_or_else(|_| fail("the model's own fewest", c, |c| compare_brute(c).map(|_| ())));
+        let compared = compare_brute(c).unwrap_or_else(|_| fail("the model", c, |c| compare_brute(c).map(|_| ())));
         counts.brute += u64::from(compared);
     }
     counts.functions += 1;

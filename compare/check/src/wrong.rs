@@ -233,7 +233,7 @@ fn itself(seed: u64) -> String {
 }
 
 fn beside(seed: u64) -> String {
-    // A step from a word or to it passes over it.
+    // A step from a word passes over it.
     let side = Side {
         name: "wrong crossing",
         crossed: |words, w, marks, lengths| {

@@ -21,6 +21,7 @@ struct Counts {
     real: u64,
     loaded: u64,
     apart: u64,
+    loaded_apart: u64,
     names: u64,
     caught: [u64; 4],
 }
@@ -152,7 +153,10 @@ fn real(bytes: &[u8], request: &Result<Vec<Function>, Refused>, counts: &mut Cou
     match (request, &loader) {
         (Ok(a), Ok(_)) => assert!(flat(bytes, a) == *real.as_ref().unwrap(), "an accepted chunk"),
         (Ok(_), Err(_)) => fail("accepted, and Lua refuses it", bytes, 0, &request.is_ok(), &loader.is_ok()),
-        (Err(Refused::Deep | Refused::Tag(_) | Refused::Bad(Why::Limit)), _) => counts.apart += 1,
+        (Err(Refused::Deep | Refused::Tag(_) | Refused::Bad(Why::Limit)), _) => {
+            counts.apart += 1;
+            counts.loaded_apart += u64::from(loader.is_ok());
+        }
         (Err(_), Ok(_)) => fail("refused, and Lua loads it", bytes, 0, &request.as_ref().err(), &loader.is_ok()),
         (Err(_), Err(_)) => {}
     }
@@ -259,6 +263,7 @@ fn long(counts: &mut Counts) {
             if got != wanted {
                 fail("a long chunk", &bytes[..end], k, &got, &wanted);
             }
+            fill(&bytes[..end], k, choose(&functions, k), [3, 2, 1, 4], counts);
         }
         counts.chunks += 1;
         counts.numbers[functions.err().map_or(0, |e| e.number()) as usize] += 1;
@@ -324,7 +329,7 @@ fn main() {
     }
     println!("{} chunks, {} functions, {} fills ({} of them with a slice too short), {} names shown: nothing differs", counts.chunks, counts.functions, counts.fills, counts.short, counts.names);
     println!("chunks by number:{}", (0..17).filter(|&n| counts.numbers[n] != 0).map(|n| format!(" {n}: {}", counts.numbers[n])).collect::<String>());
-    println!("held against Lua's loader: {} chunks, {} of them loaded, {} refused here for a limit, a level or a tag alone", counts.real, counts.loaded, counts.apart);
+    println!("held against Lua's loader: {} chunks, {} of them loaded, {} refused here for a limit, a level or a tag, {} of which Lua loads", counts.real, counts.loaded, counts.apart, counts.loaded_apart);
     println!("functions that a wrong reading gets wrong: names by count {}, limit after the shift {}, tag of the file {}, one level more {}", counts.caught[0], counts.caught[1], counts.caught[2], counts.caught[3]);
     if counts.caught.contains(&0) {
         eprintln!("a wrong reading was not caught");

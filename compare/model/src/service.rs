@@ -3,7 +3,7 @@
 use crate::run::run;
 use crate::steps::{serves, steps};
 use crate::{Answer, WORDS};
-use std::collections::VecDeque;
+use std::collections::{BTreeSet, VecDeque};
 
 /// Number and place of the refusal; whether the word has a fewest, and which.
 #[repr(C)]
@@ -109,6 +109,24 @@ fn stretches(words: &[u32], p: usize, so_far: u64, all: &mut Vec<u64>) {
             stretches(words, q, so_far + 1, all);
         }
     }
+}
+
+/// Every step that some course takes, by walking each course from word 0 until it comes to a word again.
+pub fn taken(words: &[u32]) -> BTreeSet<(usize, usize)> {
+    fn walk(words: &[u32], course: &mut Vec<usize>, all: &mut BTreeSet<(usize, usize)>) {
+        let p = course[course.len() - 1];
+        for &q in steps(words, p).list() {
+            all.insert((p, q));
+            if !course.contains(&q) {
+                course.push(q);
+                walk(words, course, all);
+                course.pop();
+            }
+        }
+    }
+    let mut all = BTreeSet::new();
+    walk(words, &mut vec![0], &mut all);
+    all
 }
 
 /// The fewest words by the definition, for functions of a few words that are accepted; `None` if no stretch ends so.

@@ -83,7 +83,7 @@ fn cut(case: &Case, used: Used, counts: &mut Counts) {
         let mut set = case.set.clone();
         set.limit = words as u32;
         let again = compare(&Case { set, ..case.clone() }, counts);
-        counts.at_limit += u64::from(words > 0 && again.words == words);
+        counts.at_limit += u64::from(again.words < used.words);
     }
     for choices in used.choices.saturating_sub(1)..=(used.choices + 1).min(case.set.choices.len()) {
         let mut set = case.set.clone();
@@ -145,7 +145,7 @@ fn main() {
     }
     println!("{sets} sets of scripts from seed {seed}; {} rehearsals with their cuts, {} words: no mismatch", counts.cases, counts.words);
     println!("answers by number: {:?}", counts.numbers);
-    println!("cut at the limit {}, by a missing choice {}; a wait of exactly (k - 1) q in {}", counts.at_limit, counts.starved, counts.at_bound);
+    println!("cut by the limit {}, by a missing choice {}; a wait of exactly (k - 1) q in {}", counts.at_limit, counts.starved, counts.at_bound);
     for (wrong, caught) in Wrong::ALL.iter().zip(counts.caught) {
         println!("wrong on purpose, {wrong:?}: caught in {caught}");
     }

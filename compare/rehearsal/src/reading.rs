@@ -214,15 +214,25 @@ fn longest_wait(all: &[Turn], script: usize, wrong: Option<Wrong>) -> u64 {
 }
 
 /// "23 a script count, q or choice out of range, before anything is rehearsed."
-fn out_of_range(set: &Set, wrong: Option<Wrong>) -> bool {
-    let looked_at: &[u8] = if wrong == Some(Wrong::UnusedUnchecked) { &[] } else { &set.choices };
-    !(1..=4).contains(&set.count) || !(1..=1000).contains(&set.quantum) || looked_at.iter().any(|&c| c > 1)
+fn out_of_range(set: &Set, looked_at: impl FnOnce() -> usize) -> bool {
+    !(1..=4).contains(&set.count) || !(1..=1000).contains(&set.quantum) || set.choices[..looked_at()].iter().any(|&c| c > 1)
+}
+
+/// How many choices the set would use, none if a script is refused.
+fn choices_used(set: &Set, marks: &[u8], lengths: &[u32]) -> usize {
+    let (mut marks, mut lengths) = (marks.to_vec(), lengths.to_vec());
+    let accepted = set.scripts[..set.count].iter().all(|words| accept(words, &mut marks, &mut lengths).0 == 0);
+    if accepted { turns(set, None).1.choices } else { 0 }
 }
 
 /// The whole answer, with the slices as they are afterwards, and what was used.
 pub fn rehearse(set: &Set, marks: &mut [u8], lengths: &mut [u32], wrong: Option<Wrong>) -> (Answer, Used) {
     let refused = |number, place| (Answer { number, place, waits: [0; 4] }, Used::default());
-    if out_of_range(set, wrong) {
+    let looked_at = || match wrong {
+        Some(Wrong::UnusedUnchecked) => choices_used(set, marks, lengths),
+        _ => set.choices.len(),
+    };
+    if out_of_range(set, looked_at) {
         return refused(23, 0);
     }
     let before = (marks.to_vec(), lengths.to_vec());

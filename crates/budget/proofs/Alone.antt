@@ -150,6 +150,7 @@ module _ (words weights : ℕ → List ℕ) (ms : Meters) (calls : List FourCall
         last = ap (λ (m : Meter). m .last) same ∙ f .last;
         count = ap (λ (m : Meter). m .count) same ∙ f .count;
         services = ap (λ (m : Meter). m .services) same ∙ f .services;
+        shown-highest = ap (λ (m : Meter). m .highest) (a .meter);
         highest = d .highest (meterOf ms i) own;
       }
 

@@ -19,7 +19,7 @@ use Rattle.runs.proofs.Laws.{laws}
 use Rattle.meter.specs.declared.step.Meter.{Meter}
 use Rattle.meter.specs.declared.step.FeedAnswer.{FeedAnswer}
 use Rattle.meter.specs.declared.step.Fed.{Fed}
-use Rattle.meter.specs.Feed.{Scale, ceiling, beginOf, feedOf, refusal}
+use Rattle.meter.specs.Feed.{Scale, ceiling, beginOf, resetOf, feedOf, refusal}
 use Rattle.meter.specs.Model.{Call, begin, feed, reset}
 use Rattle.meter.specs.Calls.{meterCalled, meterAfter}
 use Rattle.meter.specs.Bound.{Bound}
@@ -28,8 +28,8 @@ use Rattle.budget.specs.declared.step.Meters.{Meters}
 use Rattle.budget.specs.Four.{lastScript, refusedFour, meterOf, othersOf, isOutOfRange, beginFourOf, resetFourOf, feedFourOf}
 use Rattle.budget.specs.Calls.{FourCall, Scripts, scriptsOf, EachWith, JustBegun, EachBegun, madeBy, made, fourAfter, numbersOf, turnsBack, answered, ownCalls, allAnswers}
 use Rattle.budget.specs.Never as Claim
-use Rattle.budget.specs.Never.{AcceptedWithin, EachWithin, beginAt, fourBegins, TurnsBack}
-use Rattle.budget.proofs.Meters.{each, others-most}
+use Rattle.budget.specs.Never.{AcceptedWithin, EachWithin, isBegin, isFeed, NoFeeds, Begins, Opening, TurnsBack}
+use Rattle.budget.proofs.Meters.{others-most}
 use Rattle.budget.proofs.View.{settled, viewed, made-as, own-as, other-as}
 use Rattle.budget.proofs.Alone.{Plain, fed-plain, runs-alone}
 
@@ -139,83 +139,93 @@ module _ (words weights : ℕ → List ℕ) (s : ℕ) (accepted : EachWithin wor
   pub none : (calls : List FourCall) → EachWith s calls → (i : ℕ) → TurnsBack words weights i ms calls → ⊥
   none calls e i = none-from i [] calls e
 
--- Four begins.
+-- Begins and resets before the first feed.
 
 begin-begins : (m : Meter) → m .services ≤ ceiling → JustBegun (beginOf m)
 unfolding beginOf
 begin-begins m fits = record { begun = refl; fits = fits }
 
-module _ (g : Scripts) (s : ℕ) (ms : Meters) where
-  -- the meter of the script that is begun
-  its-own : (i : ℕ) → i ≤ 3 → meterOf (made g ms (beginAt s i) .meters) i ≡ beginOf (meterOf ms i)
-  its-own i l = own-as g ms i l (beginAt s i) (eq-eqb i i refl) .1
+-- a reset of a meter just begun
+reset-begins : (m : Meter) → JustBegun m → JustBegun (resetOf m)
+unfolding beginOf resetOf
+reset-begins m b = subst (λ (x : Meter). JustBegun (resetOf x)) (b .begun) (record { begun = refl; fits = b .fits })
 
-module _ (g : Scripts) (s : ℕ) where
-  -- a begin, and then begins of other scripts
-  begin-kept : (ms : Meters) (i k : ℕ) → i ≤ 3 → k ≤ 3 → JustBegun (meterOf ms i) → JustBegun (meterOf (made g ms (beginAt s k) .meters) i)
-  begin-kept ms i k l h b = go (eqb k i) refl
+module _ (g : Scripts) (i : ℕ) (l : i ≤ 3) where
+  -- what a begin and a reset of the script's own keep of its meter, every begin and reset keeps
+  unfed : (P : Meter → Type 0) → ((m : Meter) → P m → P (beginOf m)) → ((m : Meter) → P m → P (resetOf m))
+      → (ms : Meters) (c : FourCall) → isFeed (c .call) ≡ false → P (meterOf ms i) → P (meterOf (made g ms c .meters) i)
+  unfed P begins resets ms c n h = go (c .script) (c .budget) (c .call) n
     where
-      go : (t : Bool) → eqb k i ≡ t → JustBegun (meterOf (made g ms (beginAt s k) .meters) i)
-      go true e = rw (own-as g ms i l (beginAt s k) e .1) (begin-begins (meterOf ms i) (b .fits))
-      go false e = rw (other-as g ms i l (beginAt s k) e) b
+      go : (k s : ℕ) (call : Call) → isFeed call ≡ false → P (meterOf (made g ms (record { script = k; budget = s; call = call }) .meters) i)
+      go k s (feed q) e = absurd (true≢false e)
+      go k s begin e = own (eqb k i) refl
+        where
+          own : (t : Bool) → eqb k i ≡ t → P (meterOf (made g ms (record { script = k; budget = s; call = begin }) .meters) i)
+          own true d = rw (own-as g ms i l (record { script = k; budget = s; call = begin }) d .1) (begins (meterOf ms i) h)
+          own false d = rw (other-as g ms i l (record { script = k; budget = s; call = begin }) d) h
+      go k s reset e = own (eqb k i) refl
+        where
+          own : (t : Bool) → eqb k i ≡ t → P (meterOf (made g ms (record { script = k; budget = s; call = reset }) .meters) i)
+          own true d = rw (own-as g ms i l (record { script = k; budget = s; call = reset }) d .1) (resets (meterOf ms i) h)
+          own false d = rw (other-as g ms i l (record { script = k; budget = s; call = reset }) d) h
 
-  -- the first begin of a script, whatever its meter held
-  begin-made : (ms : Meters) (i : ℕ) → i ≤ 3 → meterOf ms i .services ≤ ceiling → JustBegun (meterOf (made g ms (beginAt s i) .meters) i)
-  begin-made ms i l fits = rw (its-own g s ms i l) (begin-begins (meterOf ms i) fits)
+  abbrev Fits : Meter → Type 0
+  Fits m = m .services ≤ ceiling
 
-  -- a begin of another script leaves the services
-  fits-kept : (ms : Meters) (i k : ℕ) → i ≤ 3 → eqb k i ≡ false → meterOf ms i .services ≤ ceiling → meterOf (made g ms (beginAt s k) .meters) i .services ≤ ceiling
-  fits-kept ms i k l e fits = rw (other-as g ms i l (beginAt s k) e) fits
+  fits-kept : (ms : Meters) (c : FourCall) → isFeed (c .call) ≡ false → Fits (meterOf ms i) → Fits (meterOf (made g ms c .meters) i)
+  unfolding beginOf resetOf
+  fits-kept = unfed Fits (λ m h. h) (λ m h. h)
 
-  four-begun : (ms : Meters) → ((i : ℕ) → i ≤ lastScript → meterOf ms i .services ≤ ceiling) → EachBegun (fourAfter g ms (fourBegins s))
-  four-begun ms fits =
-      let one : Meters = made g ms (beginAt s 0) .meters in
-      let two : Meters = made g one (beginAt s 1) .meters in
-      let three : Meters = made g two (beginAt s 2) .meters in
-      let axis : JustBegun (meterOf one 0) = begin-made ms 0 (omega arith) (fits 0 (omega arith)) in
-      let focuser : JustBegun (meterOf two 1) = begin-made one 1 (omega arith) (fits-kept ms 1 0 (omega arith) refl (fits 1 (omega arith))) in
-      let dome : JustBegun (meterOf three 2) =
-      begin-made two 2 (omega arith) (fits-kept one 2 1 (omega arith) refl (fits-kept ms 2 0 (omega arith) refl (fits 2 (omega arith)))) in
-      each (λ i. JustBegun (meterOf (fourAfter g ms (fourBegins s)) i))
-      (begin-kept three 0 3 (omega arith) (omega arith) (begin-kept two 0 2 (omega arith) (omega arith) (begin-kept one 0 1 (omega arith) (omega arith) axis)))
-      (begin-kept three 1 3 (omega arith) (omega arith) (begin-kept two 1 2 (omega arith) (omega arith) focuser))
-      (begin-kept three 2 3 (omega arith) (omega arith) dome)
-      (begin-made three 3 (omega arith)
-      (fits-kept two 3 2 (omega arith) refl (fits-kept one 3 1 (omega arith) refl (fits-kept ms 3 0 (omega arith) refl (fits 3 (omega arith))))))
+  begun-kept : (ms : Meters) (c : FourCall) → isFeed (c .call) ≡ false → JustBegun (meterOf ms i) → JustBegun (meterOf (made g ms c .meters) i)
+  begun-kept = unfed JustBegun (λ m b. begin-begins m (b .fits)) reset-begins
 
--- a begin's answer is not among those to feeds
-begin-silent : (g : Scripts) (s i k : ℕ) (ms : Meters) (calls : List FourCall) → allAnswers g i ms (beginAt s k ∷ calls) ≡ allAnswers g i (made g ms (beginAt s k) .meters) calls
-begin-silent g s i k ms calls = go (eqb k i)
-  where
-    later : List FeedAnswer
-    later = allAnswers g i (made g ms (beginAt s k) .meters) calls
+  -- the first begin of the script, whatever its meter held
+  begin-made : (ms : Meters) (c : FourCall) → c .script ≡ i → isBegin (c .call) ≡ true → Fits (meterOf ms i) → JustBegun (meterOf (made g ms c .meters) i)
+  begin-made ms c e b h = go (c .script) (c .budget) (c .call) e b
+    where
+      go : (k s : ℕ) (call : Call) → k ≡ i → isBegin call ≡ true → JustBegun (meterOf (made g ms (record { script = k; budget = s; call = call }) .meters) i)
+      go k s (feed q) e b = absurd (true≢false (sym b))
+      go k s reset e b = absurd (true≢false (sym b))
+      go k s begin e b = rw (own-as g ms i l (record { script = k; budget = s; call = begin }) (eq-eqb k i e) .1) (begin-begins (meterOf ms i) h)
 
-    go : (t : Bool) → cond t (answered begin (made g ms (beginAt s k) .answer) later) later ≡ later
-    go true = refl
-    go false = refl
+  stays-begun : (cs : List FourCall) → NoFeeds cs → (ms : Meters) → JustBegun (meterOf ms i) → JustBegun (meterOf (fourAfter g ms cs) i)
+  stays-begun [] n ms b = b
+  stays-begun (c ∷ cs) n ms b = stays-begun cs (n .1) (made g ms c .meters) (begun-kept ms c (n .0) b)
 
-begins-silent : (g : Scripts) (s i : ℕ) (ms : Meters) (calls : List FourCall) → allAnswers g i ms (fourBegins s ++ calls) ≡ allAnswers g i (fourAfter g ms (fourBegins s)) calls
-begins-silent g s i ms calls =
-    let one : Meters = made g ms (beginAt s 0) .meters in
-    let two : Meters = made g one (beginAt s 1) .meters in
-    let three : Meters = made g two (beginAt s 2) .meters in
-    begin-silent g s i 0 ms (beginAt s 1 ∷ beginAt s 2 ∷ beginAt s 3 ∷ calls)
-    ∙ begin-silent g s i 1 one (beginAt s 2 ∷ beginAt s 3 ∷ calls)
-    ∙ begin-silent g s i 2 two (beginAt s 3 ∷ calls)
-    ∙ begin-silent g s i 3 three calls
+  script-begun : (cs : List FourCall) → NoFeeds cs → Begins i cs → (ms : Meters) → Fits (meterOf ms i) → JustBegun (meterOf (fourAfter g ms cs) i)
+  script-begun [] n b ms h = absurd b
+  script-begun (c ∷ cs) n (inl b) ms h = stays-begun cs (n .1) (made g ms c .meters) (begin-made ms c (b .0) (b .1) h)
+  script-begun (c ∷ cs) n (inr b) ms h = script-begun cs (n .1) b (made g ms c .meters) (fits-kept ms c (n .0) h)
+
+four-begun : (g : Scripts) (ms : Meters) → ((i : ℕ) → i ≤ lastScript → meterOf ms i .services ≤ ceiling) → (opening : List FourCall) → Opening opening → EachBegun (fourAfter g ms opening)
+four-begun g ms fits opening o i l = script-begun g i l opening (o .no-feeds) (o .begins i l) ms (fits i l)
+
+-- the answer to a begin or a reset is not among those to feeds
+module _ (g : Scripts) (i : ℕ) where
+  silent : (t : Bool) (c : Call) → isFeed c ≡ false → (a : FeedAnswer) (later : List FeedAnswer) → cond t (answered c a later) later ≡ later
+  silent t (feed q) e a later = absurd (true≢false e)
+  silent true begin e a later = refl
+  silent false begin e a later = refl
+  silent true reset e a later = refl
+  silent false reset e a later = refl
+
+  opening-silent : (opening calls : List FourCall) → NoFeeds opening → (ms : Meters) → allAnswers g i ms (opening ++ calls) ≡ allAnswers g i (fourAfter g ms opening) calls
+  opening-silent [] calls n ms = refl
+  opening-silent (c ∷ cs) calls n ms =
+      silent (eqb (c .script) i) (c .call) (n .0) (made g ms c .answer) (allAnswers g i (made g ms c .meters) (cs ++ calls))
+      ∙ opening-silent cs calls (n .1) (made g ms c .meters)
 
 opened : (words weights : ℕ → List ℕ) (s : ℕ) → EachWithin words weights s → (ms : Meters) → ((i : ℕ) → i ≤ lastScript → meterOf ms i .services ≤ ceiling)
-    → (calls : List FourCall) → EachWith s calls → (i : ℕ) → TurnsBack words weights i ms (fourBegins s ++ calls) → ⊥
-opened words weights s accepted ms fits calls e i =
+    → (opening : List FourCall) → Opening opening → (calls : List FourCall) → EachWith s calls → (i : ℕ) → TurnsBack words weights i ms (opening ++ calls) → ⊥
+opened words weights s accepted ms fits opening o calls e i =
     let g : Scripts = scriptsOf words weights in
-    let start : Meters = fourAfter g ms (fourBegins s) in
-    rw (begins-silent g s i ms calls) (none words weights s accepted start (four-begun g s ms fits) calls e i)
+    rw (opening-silent g i opening calls (o .no-feeds) ms) (none words weights s accepted (fourAfter g ms opening) (four-begun g ms fits opening o) calls e i)
 
 pub never : Claim.Never
 never =
     record {
       none = none;
-      begun = λ ms fits words weights s. four-begun (scriptsOf words weights) s ms fits;
+      begun = λ ms fits words weights opening o. four-begun (scriptsOf words weights) ms fits opening o;
       opened = opened;
       next = next-never;
     }

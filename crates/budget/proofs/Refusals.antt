@@ -5,7 +5,7 @@ use mathlib.Core.Bool.{Bool, true, false, not, true≢false}
 use mathlib.Core.Path.{_≡_, refl, sym, ap, subst, _∙_}
 use native.Mathlib.Omega.{arith}
 use lib.Dec.{ltb, eqb}
-use borrow.Author.Tests.{ltb-true, ltb-false, lt-ltb, eqb-true, eq-eqb}
+use borrow.Author.Tests.{ltb-true, ltb-false, lt-ltb, le-ltb, eqb-true, eq-eqb}
 use Rattle.common.specs.Numbers.{«ACCEPTED», «NO_SCRIPT», «BUDGET_RANGE», «OVER_BUDGET»}
 use Rattle.common.specs.Chain.{refuseIf}
 use Rattle.meter.specs.declared.step.Meter.{Meter}
@@ -63,6 +63,14 @@ module _ (g : Scale) (ms : Meters) (i s q : ℕ) where
       (λ l e b h. (e, subst (λ (k : ℕ). s < k) (sum-after ms (f .meter) i l) b))
       (λ e b h. omega (arith, e, h))
 
+  out-of-range : i ≤ lastScript → isOutOfRange s ≡ true → feedFourOf g ms i s q .answer .number ≡ «BUDGET_RANGE»
+  unfolding feedFourOf
+  out-of-range l e = rw (le-ltb lastScript i l, e)
+
+  over-sum : i ≤ lastScript → isOutOfRange s ≡ false → f .answer .number ≡ «ACCEPTED» → s < f .meter .count + othersOf ms i → feedFourOf g ms i s q .answer .number ≡ «OVER_BUDGET»
+  unfolding feedFourOf settleFour
+  over-sum l r e b = rw (le-ltb lastScript i l, r, eq-eqb (f .answer .number) «ACCEPTED» e, lt-ltb s (sumOf (withMeter ms i (f .meter))) (subst (λ (k : ℕ). s < k) (sym (sum-after ms (f .meter) i l)) b))
+
   within : feedFourOf g ms i s q .answer .number ≡ «ACCEPTED» → sumOf (feedFourOf g ms i s q .meters) ≤ s
   within =
       outcomes (λ r. r .answer .number ≡ «ACCEPTED» → sumOf (r .meters) ≤ s)
@@ -93,4 +101,4 @@ unfolding made
 none g ms c l = ap (λ (r : FedFour). r .answer .number) (no-script g ms (c .script) (c .budget) (c .call) (lt-ltb lastScript (c .script) l))
 
 pub refusals : Claim.Refusals
-refusals = record { unchanged = unchanged; no-script = none; over-budget = over-budget; within = within }
+refusals = record { unchanged = unchanged; no-script = none; out-of-range = out-of-range; over-budget = over-budget; over-sum = over-sum; within = within }

@@ -48,7 +48,8 @@ module _ (words weights : ℕ → List ℕ) (ms : Meters) (calls : List FourCall
     pub count : shown .count ≡ weightSince (scale .graph) (scale .weight) (model .path)
     -- "services are those at the start plus the tally, at most 4,294,967,295": "its own services counter"
     pub services : shown .services ≡ min (meterOf ms i .services + model .tally) ceiling
-    -- request C-19: the highest, by the script's own list
+    -- request C-19: the highest is that of the script's meter alone, and so what its own list says
+    pub shown-highest : shown .highest ≡ meterAfter scale (meterOf ms i) own .highest
     pub highest : HighestAfter scale (meterOf ms i) own
 
 pub record Alone : Type 0 where

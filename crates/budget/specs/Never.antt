@@ -1,6 +1,8 @@
 -- Request C-20: "If all four scripts are accepted, each one's L is at most S divided by 4, rounded down, every meter was just begun, S stays the
 -- same, and words and weights stay those of the accepted runs, the allowance never turns a word back." proofs/Never.antt proves `Never`.
 -- Assumes nothing.
+use mathlib.Core.Logic.{_⊎_}
+use mathlib.Core.Bool.{Bool, true, false}
 use mathlib.Core.Path.{_≡_}
 use mathlib.Core.List.{List, [], _∷_, _++_}
 use Prim.Native.Nat.{ℕ, _/_, _≤_}
@@ -10,7 +12,7 @@ use Rattle.graph.specs.Graph.{In}
 use Rattle.runs.specs.Weights.{heaviestWeight}
 use Rattle.runs.specs.Run.{runOf, numberOf, longestOf}
 use Rattle.meter.specs.Feed.{scaleOf, ceiling}
-use Rattle.meter.specs.Model.{begin}
+use Rattle.meter.specs.Model.{Call, begin, feed, reset}
 use Rattle.budget.specs.declared.step.Meters.{Meters}
 use Rattle.budget.specs.Four.{lastScript, meterOf, feedFourOf}
 use Rattle.budget.specs.Calls.{FourCall, scriptsOf, EachWith, EachBegun, fourAfter, numbersOf, allAnswers}
@@ -29,12 +31,28 @@ pub record AcceptedWithin (ws weights : List ℕ) (s : ℕ) : Type 0 where
 abbrev pub EachWithin : (ℕ → List ℕ) → (ℕ → List ℕ) → ℕ → Type 0
 EachWithin words weights s = (i : ℕ) → i ≤ lastScript → AcceptedWithin (words i) (weights i) s
 
--- the four are begun, one after another, before the first feed
-abbrev pub beginAt : ℕ → ℕ → FourCall
-beginAt s i = record { script = i; budget = s; call = begin }
+-- the four are begun before the first feed: begins and resets, in any order and as many as there are, among them a begin of each script
+abbrev pub isBegin : Call → Bool
+isBegin begin = true
+isBegin (feed q) = false
+isBegin reset = false
 
-abbrev pub fourBegins : ℕ → List FourCall
-fourBegins s = beginAt s 0 ∷ beginAt s 1 ∷ beginAt s 2 ∷ beginAt s 3 ∷ []
+abbrev pub isFeed : Call → Bool
+isFeed begin = false
+isFeed (feed q) = true
+isFeed reset = false
+
+abbrev pub NoFeeds : List FourCall → Type 0
+NoFeeds [] = Unit {0}
+NoFeeds (c ∷ cs) = (isFeed (c .call) ≡ false) × NoFeeds cs
+
+abbrev pub Begins : ℕ → List FourCall → Type 0
+Begins i [] = ⊥
+Begins i (c ∷ cs) = ((c .script ≡ i) × (isBegin (c .call) ≡ true)) ⊎ Begins i cs
+
+pub record Opening (calls : List FourCall) : Type 0 where
+  pub no-feeds : NoFeeds calls
+  pub begins : (i : ℕ) → i ≤ lastScript → Begins i calls
 
 -- some feed of script i is turned back by the budget
 abbrev pub TurnsBack : (ℕ → List ℕ) → (ℕ → List ℕ) → ℕ → Meters → List FourCall → Type 0
@@ -47,11 +65,12 @@ pub record Never : Type 0 where
       → (calls : List FourCall) → EachWith s calls → (i : ℕ) → TurnsBack words weights i ms calls → ⊥
   -- such are four meters of any contents once all four scripts have been begun
   pub begun : (ms : Meters) → ((i : ℕ) → i ≤ lastScript → meterOf ms i .services ≤ ceiling)
-      → (words weights : ℕ → List ℕ) (s : ℕ) → EachBegun (fourAfter (scriptsOf words weights) ms (fourBegins s))
-  -- so that, from any four meters, a list that begins with four begins meets no 22
+      → (words weights : ℕ → List ℕ) (opening : List FourCall) → Opening opening → EachBegun (fourAfter (scriptsOf words weights) ms opening)
+  -- so that, from any four meters, a list that begins so meets no 22, whatever S its begins and resets name
   pub opened : (words weights : ℕ → List ℕ) (s : ℕ) → EachWithin words weights s
       → (ms : Meters) → ((i : ℕ) → i ≤ lastScript → meterOf ms i .services ≤ ceiling)
-      → (calls : List FourCall) → EachWith s calls → (i : ℕ) → TurnsBack words weights i ms (fourBegins s ++ calls) → ⊥
+      → (opening : List FourCall) → Opening opening
+      → (calls : List FourCall) → EachWith s calls → (i : ℕ) → TurnsBack words weights i ms (opening ++ calls) → ⊥
   -- and more: whatever S the calls before named, the next feed with this S is not answered 22
   pub next : (words weights : ℕ → List ℕ) (s : ℕ) → EachWithin words weights s → (ms : Meters) → EachBegun ms
       → (calls : List FourCall) (i q : ℕ)

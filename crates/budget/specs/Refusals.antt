@@ -1,12 +1,13 @@
 -- Request C-20: what a refusal of one of the four says, and what it leaves. It follows from the definitions that the contracts cite;
 -- proofs/Refusals.antt proves `Refusals`.
 -- Assumes nothing.
+use mathlib.Core.Bool.{true, false}
 use mathlib.Core.Path.{_≡_}
 use Prim.Native.Nat.{ℕ, _+_, _<_, _≤_}
-use Rattle.common.specs.Numbers.{«ACCEPTED», «NO_SCRIPT», «OVER_BUDGET»}
+use Rattle.common.specs.Numbers.{«ACCEPTED», «NO_SCRIPT», «BUDGET_RANGE», «OVER_BUDGET»}
 use Rattle.meter.specs.Feed.{Scale, feedOf}
 use Rattle.budget.specs.declared.step.Meters.{Meters}
-use Rattle.budget.specs.Four.{meterOf, sumOf, othersOf, lastScript, feedFourOf}
+use Rattle.budget.specs.Four.{meterOf, sumOf, othersOf, isOutOfRange, lastScript, feedFourOf}
 use Rattle.budget.specs.Calls.{FourCall, Scripts, made}
 
 pub record Refusals : Type 0 where
@@ -14,9 +15,13 @@ pub record Refusals : Type 0 where
   pub unchanged : (g : Scripts) (ms : Meters) (c : FourCall) → (made g ms c .answer .number ≡ «ACCEPTED» → ⊥) → made g ms c .meters ≡ ms
   -- "20 a script number above 3, first, also at begin and reset": whatever else is asked for
   pub no-script : (g : Scripts) (ms : Meters) (c : FourCall) → lastScript < c .script → made g ms c .answer .number ≡ «NO_SCRIPT»
+  -- "21 an S out of range, next, at a feed": whatever the words, the weights and the meters are
+  pub out-of-range : (g : Scale) (ms : Meters) (i s q : ℕ) → i ≤ lastScript → isOutOfRange s ≡ true → feedFourOf g ms i s q .answer .number ≡ «BUDGET_RANGE»
   -- "22 a feed after which the sum would be above S, last": the script's own feed is accepted, and its new count and the others' counts, as they
-  -- stand, are above S together
+  -- stand, are above S together; and where neither 20 nor 21 applies, every such feed
   pub over-budget : (g : Scale) (ms : Meters) (i s q : ℕ) → feedFourOf g ms i s q .answer .number ≡ «OVER_BUDGET»
       → (feedOf g (meterOf ms i) q .answer .number ≡ «ACCEPTED») × (s < feedOf g (meterOf ms i) q .meter .count + othersOf ms i)
+  pub over-sum : (g : Scale) (ms : Meters) (i s q : ℕ) → i ≤ lastScript → isOutOfRange s ≡ false → feedOf g (meterOf ms i) q .answer .number ≡ «ACCEPTED»
+      → s < feedOf g (meterOf ms i) q .meter .count + othersOf ms i → feedFourOf g ms i s q .answer .number ≡ «OVER_BUDGET»
   -- and after a feed that is accepted "the sum of the four counts" is within S
   pub within : (g : Scale) (ms : Meters) (i s q : ℕ) → feedFourOf g ms i s q .answer .number ≡ «ACCEPTED» → sumOf (feedFourOf g ms i s q .meters) ≤ s

@@ -1,5 +1,6 @@
 -- lundump.c of Lua 5.4.8, "for 4-byte words, 8-byte integers and 8-byte floats, little-endian": a reader for each of its functions, under
--- its name and in its order, but that loadProtos stands after loadFunction (which the C declares ahead of it).
+-- its name and in its order, but that loadProtos stands after loadFunction (which the C declares ahead of it), loadDebug is loadLines and then
+-- loadNames, checkliteral and fchecksize are both checkBytes, and luaU_undump is undump.
 -- What the C refuses by `error` is 15 here, a header byte that differs 14. Document 02 adds the limits on counts (15), the unknown tag (3)
 -- and the levels (16).
 -- Assumes nothing.

@@ -2,11 +2,11 @@
 use mathlib.Core.Path.{_≡_, refl, sym, ap, _∙_}
 use mathlib.Core.Bool.{Bool, true, false, cond, not, _||_, true≢false}
 use mathlib.Core.List.{List}
-use Prim.Native.Nat.{ℕ, _+_, _*_, _≤_}
+use Prim.Native.Nat.{ℕ, _+_, _*_, _≤_, _<_}
 use native.Mathlib.Omega.{arith}
 use lib.Dec.{ltb, leb, eqb}
 use lib.ListN.{length}
-use borrow.Author.Tests.{ltb-false, le-ltb}
+use borrow.Author.Tests.{leb-false, ltb-true, ltb-false, lt-ltb, le-ltb}
 use Rattle.common.specs.Limits.{mostWords}
 use Rattle.runs.specs.Steps.{unitWeight}
 use Rattle.runs.specs.Instance.{graphOf}
@@ -30,6 +30,21 @@ wider n last count false h = h
 let-through : (n : ℕ) (m : Meter) → countedForeign n (earlierMeter m) ≡ false → m .count ≤ m .highest → isForeign n m ≡ false
 unfolding countedForeign isForeign
 let-through n m h l = rw (le-ltb (m .highest) (m .count) l) (wider n (m .last) (m .count) (isBegun m) h)
+
+-- what is let through anew
+between : (n last count : ℕ) (t : Bool) → cond t (leb n last || (eqb count 0 || ltb (heaviestWeight * (last + 1)) count)) (not (eqb last 0) || not (eqb count 0)) ≡ false
+    → cond t (leb n last || (eqb count 0 || ltb (last + 1) count)) (not (eqb last 0) || not (eqb count 0)) ≡ true
+    → (t ≡ true) × (last < n) × (last + 1 < count) × (count ≤ heaviestWeight * (last + 1))
+between n last count true h g =
+    let a : (leb n last ≡ false) × (eqb count 0 || ltb (heaviestWeight * (last + 1)) count ≡ false) = neither (leb n last) (eqb count 0 || ltb (heaviestWeight * (last + 1)) count) h in
+    let b : (eqb count 0 ≡ false) × (ltb (heaviestWeight * (last + 1)) count ≡ false) = neither (eqb count 0) (ltb (heaviestWeight * (last + 1)) count) (a .1) in
+    (refl, leb-false n last (a .0), ltb-true (last + 1) count (rw (a .0, b .0) at g), ltb-false (heaviestWeight * (last + 1)) count (b .1))
+between n last count false h g = absurd (true≢false (sym g ∙ h))
+
+let-anew : (n : ℕ) (m : Meter) → isForeign n m ≡ false → countedForeign n (earlierMeter m) ≡ true
+    → (isBegun m ≡ true) × (m .last < n) × (m .last + 1 < m .count) × (m .count ≤ heaviestWeight * (m .last + 1))
+unfolding countedForeign isForeign
+let-anew n m h g = between n (m .last) (m .count) (isBegun m) (neither (ltb (m .highest) (m .count)) _ h .1) g
 
 module _ (ws : List ℕ) (m : Meter) (q : ℕ) where
   -- by any weights
@@ -59,6 +74,10 @@ module _ (ws : List ℕ) (m : Meter) (q : ℕ) where
   same-by false true e d h l = rw (e, laws .ones-accepted, let-through (length ws) m h l, h, strays, d)
   same-by false false e d h l = rw (e, laws .ones-accepted, let-through (length ws) m h l, h, strays, d) (rw moves)
 
+  many : mostWords < length ws → earlierFed (feedOf (scaleOf ws ones) m q) ≡ countedFeed (graphOf ws) (earlierMeter m) q
+  unfolding feedOf countedFeed
+  many l = rw (lt-ltb mostWords (length ws) l)
+
   aside : (t : Bool) → countedForeign (length ws) (earlierMeter m) ≡ t → isForeign (length ws) m ≡ true → m .count ≤ m .highest → t ≡ true
   aside true e f l = refl
   aside false e f l = absurd (true≢false (sym f ∙ let-through (length ws) m e l))
@@ -66,6 +85,8 @@ module _ (ws : List ℕ) (m : Meter) (q : ℕ) where
   pub earlier-feed : EarlierFeed ws m q
   earlier-feed =
       record {
+        many = many;
         same = same-by (ltb mostWords (length ws)) (countedStray (graphOf ws) (earlierMeter m) q) refl refl;
         aside = aside (countedForeign (length ws) (earlierMeter m)) refl;
+        kept = let-anew (length ws) m;
       }

@@ -4,7 +4,7 @@
 use mathlib.Core.Path.{_≡_}
 use mathlib.Core.Bool.{Bool, true, false, cond, not, _||_}
 use mathlib.Core.List.{List}
-use Prim.Native.Nat.{ℕ, _+_, _≤_}
+use Prim.Native.Nat.{ℕ, _+_, _*_, _≤_, _<_}
 use lib.Dec.{ltb, leb, eqb}
 use lib.ListN.{length}
 use Rattle.common.specs.Limits.{mostWords}
@@ -12,11 +12,12 @@ use Rattle.common.specs.Numbers.{«ACCEPTED», «TOO_MANY_WORDS», «NO_STEP»,
 use Rattle.common.specs.Chain.{refuseIf}
 use Rattle.graph.specs.Graph.{Graph}
 use Rattle.runs.specs.Instance.{graphOf}
+use Rattle.runs.specs.Weights.{heaviestWeight}
 use Rattle.runs.specs.Counted.{ones}
 use Rattle.meter.specs.declared.step.Meter.{Meter}
 use Rattle.meter.specs.declared.step.FeedAnswer.{FeedAnswer}
 use Rattle.meter.specs.declared.step.Fed.{Fed}
-use Rattle.meter.specs.Feed.{scaleOf, follows, oneService, isForeign, feedOf}
+use Rattle.meter.specs.Feed.{scaleOf, isBegun, follows, oneService, isForeign, feedOf}
 
 -- document 01's meter, "begun, last word, words since service, services"
 pub record EarlierMeter : Type 0 where
@@ -71,8 +72,14 @@ countedFeed g m q =
     (record { meter = countedMove g m q; answer = record { number = «ACCEPTED»; place = 0 } })))
 
 pub record EarlierFeed (ws : List ℕ) (m : Meter) (q : ℕ) : Type 0 where
+  -- 1 comes before number 11, whatever the meter holds
+  pub many : mostWords < length ws → earlierFed (feedOf (scaleOf ws ones) m q) ≡ countedFeed (graphOf ws) (earlierMeter m) q
   -- the feed of a meter that number 11 let through before, and whose highest is not below its count
   pub same : countedForeign (length ws) (earlierMeter m) ≡ false → m .count ≤ m .highest
       → earlierFed (feedOf (scaleOf ws ones) m q) ≡ countedFeed (graphOf ws) (earlierMeter m) q
   -- number 11 refuses no such meter that it let through before
   pub aside : isForeign (length ws) m ≡ true → m .count ≤ m .highest → countedForeign (length ws) (earlierMeter m) ≡ true
+  -- "a count above 255 times (last + 1), with its other conditions kept": what it lets through now and did not before is begun within the words,
+  -- with a count between
+  pub kept : isForeign (length ws) m ≡ false → countedForeign (length ws) (earlierMeter m) ≡ true
+      → (isBegun m ≡ true) × (m .last < length ws) × (m .last + 1 < m .count) × (m .count ≤ heaviestWeight * (m .last + 1))

@@ -1,4 +1,4 @@
-// The pass that settles the steps of every word before the search begins (request C-12). It alone reads words: what comes after goes by
+// The pass that settles the steps of every word before the search begins (request C-12). It alone reads words for their steps: what comes after goes by
 // the entries that it leaves.
 ghost use mathlib.Core.Path.{_≡_};
 ghost use Prim.Native.Nat.{_≤_, _<_};
