@@ -21,8 +21,8 @@
    on different memory may run at once, in threads or interrupts. A begin, a feed, a reset and what
    a word touches take a bounded time, whatever the number of words; a run and a question about
    services take time in proportion to the words, registers set before use to the words times the
-   registers up to the highest that is read, a lift to words, constants and names, a rehearsal to
-   the words of its scripts, its choices and the words that it runs, a pass to the chunk's bytes.
+   registers that are read, a lift to words, constants and names, a rehearsal to the words of its
+   scripts, its choices and the words that it runs, a pass to the chunk's bytes.
 
    Each slice passes as a pointer and a length. The pointer is not null, even where the length is 0,
    and nobody writes the slice meanwhile. Slices that are written lie apart from all others. Any

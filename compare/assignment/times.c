@@ -161,6 +161,18 @@ static void dense(void) {
     end(n, 0);
 }
 
+/* One parameter. MOVE reads registers from 255 down, at a distance; right before LOADNIL sets them, and in front as many
+   words as there is room for touch nothing. */
+static void spread(unsigned distance) {
+    uint32_t *w = begin();
+    size_t n = MOST, p = 0;
+    while (p < n - 2 - (255 - 1) / distance - 1) w[p++] = abc(CLOSE, 0, 0, 0);
+    w[p++] = abc(LOADNIL, 0, 255, 0);
+    for (unsigned r = 255; p < n - 1; r -= distance) w[p++] = abc(MOVE, 0, r, 0);
+    w[p++] = abc(RETURN0, 0, 0, 0);
+    end(p, 1);
+}
+
 static double now(void) {
     struct timespec t;
     clock_gettime(CLOCK_THREAD_CPUTIME_ID, &t);
@@ -228,5 +240,11 @@ int main(int count, char **arguments) {
     times("all registers, one way for each", rounds);
     dense();
     times("256 registers read by every other word", rounds);
+    static const unsigned distances[3] = {255, 21, 1};
+    for (int i = 0; i < 3; i++) {
+        spread(distances[i]);
+        snprintf(name, sizeof name, "registers from 255 down, %u apart, read and set last", distances[i]);
+        times(name, rounds);
+    }
     return 0;
 }

@@ -3,10 +3,10 @@ use mathlib.Core.Path.{_≡_, refl, sym, ap, ap₂, subst, _∙_}
 use mathlib.Core.Logic.{⊎-elim}
 use mathlib.Core.Bool.{Bool, true, false, cond, _&&_}
 use mathlib.Core.List.{List, [], _∷_}
-use Prim.Native.Nat.{ℕ, zero, suc, _+_, _*_, _-_, _/_, _%_, _≤_, _<_}
+use Prim.Native.Nat.{ℕ, suc, _+_, _*_, _-_, _/_, _%_, _≤_, _<_}
 use native.Mathlib.Omega.{arith}
 use borrow.Author.Tests.{le-leb, le-ltb}
-use lib.Dec.{leb, eqb}
+use lib.Dec.{eqb}
 use lib.ListN.{length, getD}
 use Rattle.common.proofs.Order.{split}
 use Rattle.graph.specs.Graph.{Graph}
@@ -21,8 +21,7 @@ use Rattle.runs.specs.Cut.{cutsFirst, cutsSecond, cutSteps, graphCut}
 use Rattle.touches.specs.declared.answer.Touches.{Touches}
 use Rattle.touches.specs.Touches.{touchesOf}
 use Rattle.assignment.specs.Uses.{readsBy, setsBy, usageOf}
-use Rattle.assignment.specs.Codes.{bitOf, cutsBy, codeOf, codeAt, packed, codesAt, Coded, readsIn, readsCut}
-use Rattle.assignment.proofs.Digits.{packed-first}
+use Rattle.assignment.specs.Codes.{bitOf, cutsBy, codeOf, codeAt, packed, Coded, readsCut}
 
 pub outside : (ws : List ℕ) (p : ℕ) → length ws ≤ p → successorsOf ws p ≡ Invalid
 unfolding successorsOf unless
@@ -95,14 +94,14 @@ cut-list t (Two a b) r x =
     go false true = refl
     go false false = refl
 
-module _ (ws : List ℕ) (k r : ℕ) (codes : List ℕ) (coded : Coded ws k r codes) where
+module _ (ws : List ℕ) (r k : ℕ) (codes : List ℕ) (coded : Coded ws r (suc k) codes) where
   -- a word's code
   rest : ℕ → ℕ
-  rest p = packed (codeAt ws p) (r + 1) (21 - (r - k) % 21 - 1)
+  rest p = packed (codeAt ws p) (r + 1) k
 
   code-is : (p : ℕ) → p < length ws → getD codes p 0 ≡ codeOf (touchesOf ws p) (successorsOf ws p) r + 8 * rest p
-  unfolding codeAt rest
-  code-is p h = coded p h ∙ packed-first (codeAt ws p) r (21 - (r - k) % 21) (omega arith)
+  unfolding codeAt rest packed
+  code-is p h = coded p h
 
   edges-cut : (p : ℕ) → listOf (cutSteps (getD codes p 0) (successorsOf ws p)) ≡ without (λ q. setsBy (touchesOf ws p) q r) (listOf (successorsOf ws p))
   unfolding cutSteps codeOf
@@ -120,8 +119,8 @@ module _ (ws : List ℕ) (k r : ℕ) (codes : List ℕ) (coded : Coded ws k r co
   pub graph-cut : graphCut ws codes ≡ cut (graphOf ws) (λ x y. usageOf ws .sets x y r)
   graph-cut = λ i. record { size = length ws; successors = λ p. edges-cut p i; serves = servesOf }
 
-  pub reads-cut : k ≤ r → (p : ℕ) → p < length ws → readsCut ws codes p ≡ readsUnset (graphOf ws) (usageOf ws) k p r
+  pub reads-cut : (p : ℕ) → p < length ws → readsCut ws codes p ≡ readsUnset (graphOf ws) (usageOf ws) 0 p r
   unfolding readsUnset
-  reads-cut l p h =
-      rw (le-leb k r l)
+  reads-cut p h =
+      rw (le-leb 0 r (omega arith))
       (ap₂ (λ (a : Bool) (g : Graph). a && eqb (markOf g p) 1) (ap (λ (x : ℕ). eqb (x / 4 % 2) 1) (code-is p h) ∙ reads-code (touchesOf ws p) (successorsOf ws p) r (rest p)) graph-cut)

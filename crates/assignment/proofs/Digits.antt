@@ -1,9 +1,9 @@
 -- Codes in a number, one after another. Assumes nothing.
-use mathlib.Core.Path.{_≡_, refl, sym, ap, ap₂, subst, _∙_}
-use Prim.Native.Nat.{ℕ, zero, suc, _+_, _*_, _-_, _/_, _%_, _≤_, _<_}
+use mathlib.Core.Path.{_≡_, refl, ap, _∙_}
+use Prim.Native.Nat.{ℕ, zero, suc, _+_, _*_, _-_, _/_, _≤_, _<_}
 use native.Mathlib.Nat.{not-suc-le-zero}
 use native.Mathlib.Omega.{arith}
-use Rattle.assignment.specs.Codes.{packed, «BLOCK»}
+use Rattle.assignment.specs.Codes.{packed}
 
 -- so many numbers k codes make
 room : ℕ → ℕ
@@ -41,12 +41,6 @@ packed-more f r k {c} e = ap (λ (x : ℕ). x + 8 * packed f (r + 1) k) e
 pub packed-none : (f : ℕ → ℕ) (r : ℕ) → 0 ≡ packed f r 0
 unfolding packed
 packed-none f r = refl
-
--- the first code of some
-pub packed-first : (f : ℕ → ℕ) (r k : ℕ) → 0 < k → packed f r k ≡ f r + 8 * packed f (r + 1) (k - 1)
-unfolding packed
-packed-first f r zero h = absurd (not-suc-le-zero h)
-packed-first f r (suc k) h = let e : k ≡ suc k - 1 = omega arith in ap (λ (x : ℕ). f r + 8 * packed f (r + 1) x) e
 
 -- a turn of the loop that packs them, from the last code to the first
 pub packed-turn : (f : ℕ → ℕ) (r i : ℕ) {codes c : ℕ} → 0 < i → i ≤ 21 → codes ≡ packed f (r + i) (21 - i) → c ≡ f (r + (i - 1)) → c + 8 * codes ≡ packed f (r + (i - 1)) (21 - (i - 1))

@@ -1,9 +1,9 @@
 -- The lowest word that passes one of several tests, found by one test after another; and some register, up to the last that is read.
 -- Assumes nothing.
-use mathlib.Core.Path.{_≡_, refl, sym, ap, ap₂, subst, _∙_}
+use mathlib.Core.Path.{_≡_, refl, sym, ap, _∙_}
 use mathlib.Core.Logic.{⊎-elim}
-use mathlib.Core.Bool.{Bool, true, false, cond, _||_, or-true, true≢false}
-use Prim.Native.Nat.{ℕ, zero, suc, _+_, _≤_, _<_}
+use mathlib.Core.Bool.{Bool, true, false, _||_, or-true}
+use Prim.Native.Nat.{ℕ, zero, suc, _≤_, _<_}
 use native.Mathlib.Omega.{arith}
 use Rattle.common.specs.Lowest.{lowest, lowestFrom}
 use Rattle.common.proofs.Lowest.{lowest-laws}
@@ -60,12 +60,12 @@ unfolding someBelow
 none-of t zero h = refl
 none-of t (suc k) h = rw (h k (omega arith), none-of t k (λ r l. h r (omega arith)))
 
--- from m on none does
-pub some-stays : (t : ℕ → Bool) (m k : ℕ) → m ≤ k → ((r : ℕ) → m ≤ r → t r ≡ false) → someBelow t k ≡ someBelow t m
+-- from m on none below k does
+pub some-stays : (t : ℕ → Bool) (m k : ℕ) → m ≤ k → ((r : ℕ) → m ≤ r → r < k → t r ≡ false) → someBelow t k ≡ someBelow t m
 unfolding someBelow
 some-stays t m zero l h = let e : m ≡ 0 = omega arith in ap (someBelow t) (sym e)
 some-stays t m (suc k) l h =
     ⊎-elim
     (λ d. ap (someBelow t) (sym d))
-    (λ d. let j : m ≤ k = omega (arith, past l (λ z. d (sym z))) in rw (h k j) (some-stays t m k j h))
+    (λ d. let j : m ≤ k = omega (arith, past l (λ z. d (sym z))) in rw (h k j (omega arith)) (some-stays t m k j (λ r i b. h r i (omega arith))))
     (same-or-not m (suc k))

@@ -1,23 +1,23 @@
 -- The answer and the marks are what the request says, by the argument over any graph. Assumes nothing.
 use mathlib.Core.Path.{_≡_, refl, sym, ap, subst, _∙_}
 use mathlib.Core.Logic.{_⊎_, _↔_, inl, inr, ⊎-elim}
-use mathlib.Core.Bool.{Bool, true, false, cond, _&&_, _||_, true≢false, false≢true}
+use mathlib.Core.Bool.{Bool, true, false, _&&_, _||_, true≢false, false≢true}
 use mathlib.Core.List.{List, [], _∷_, _++_}
 use Prim.Native.Nat.{ℕ, _≤_, _<_}
 use native.Mathlib.Nat.{pos-of-ne-zero}
 use native.Mathlib.Omega.{arith}
-use borrow.Author.Tests.{eqb-true, eq-eqb, ltb-true, lt-ltb}
-use lib.Dec.{eqb, ltb}
-use lib.ListN.{length, getD}
+use borrow.Author.Tests.{eqb-true, eq-eqb}
+use lib.Dec.{eqb}
+use lib.ListN.{length}
 use Rattle.common.specs.declared.answer.Answer.{Answer}
 use Rattle.common.specs.Limits.{mostWords}
-use Rattle.common.specs.Numbers.{«ACCEPTED», «TOO_MANY_WORDS», «SHORT_SLICE», «NO_WORDS», «REACHES_INVALID», «UNSET_REGISTER»}
+use Rattle.common.specs.Numbers.{«TOO_MANY_WORDS», «SHORT_SLICE», «NO_WORDS», «REACHES_INVALID», «UNSET_REGISTER»}
 use Rattle.common.specs.Chain.{answer, accepted}
 use Rattle.common.specs.Lists.{over}
 use Rattle.common.proofs.Lowest.{lowest-laws}
 use Rattle.common.proofs.Order.{split, same-or-not}
 use Rattle.common.proofs.Over.{over-laws}
-use Rattle.graph.specs.Graph.{Path, Reachable}
+use Rattle.graph.specs.Graph.{Reachable}
 use Rattle.graph.specs.Marks.{markOf}
 use Rattle.graph.specs.Laws.{Bits}
 use Rattle.graph.specs.Meaning.{Meaning}
@@ -29,14 +29,14 @@ use Rattle.runs.specs.Steps.{isInvalid, unitWeight}
 use Rattle.runs.specs.Successors.{successorsOf}
 use Rattle.runs.specs.Instance.{graphOf}
 use Rattle.runs.specs.Run.{reachesInvalid, lowestInvalid}
-use Rattle.runs.specs.Slices.{Kept, ReachableMarks}
+use Rattle.runs.specs.Slices.{ReachableMarks}
 use Rattle.runs.proofs.Laws as runs
 use Rattle.touches.specs.declared.answer.Touches.{Touches}
 use Rattle.touches.specs.Touches.{touchesOf}
 use Rattle.touches.specs.Meaning.{rangesIn, Within}
-use Rattle.assignment.specs.Uses.{inRanges, readsBy, setsBy, usageOf}
+use Rattle.assignment.specs.Uses.{inRanges, setsBy, usageOf}
 use Rattle.assignment.specs.Answers.{unsetOf, decided, assignmentOf, marksAssigned}
-use Rattle.assignment.specs.Meaning.{NamedAsRead, NamedAsWritten, WrittenAlong, WrittenOn, UnwrittenAlong, EveryCourseSets, CourseBreaks, ReachableBad, IsLowest, Nowhere, LetThrough, DefiniteAssignment}
+use Rattle.assignment.specs.Meaning.{WrittenAlong, WrittenOn, UnwrittenAlong, EveryCourseSets, CourseBreaks, ReachableBad, IsLowest, Nowhere, LetThrough, DefiniteAssignment}
 use Rattle.assignment.proofs.Within.{in-ranges}
 use Rattle.assignment.proofs.Uses.{bounded}
 use Rattle.assignment.proofs.Outcome.{decided-bad, decided-unset, decided-accepted, assigned-many, assigned-short, assigned-none, assigned-words, marks-words, marks-untouched}

@@ -1,15 +1,15 @@
 -- Which check answers where, and what the marks then hold. Assumes nothing.
-use mathlib.Core.Path.{_≡_, refl, sym, ap, ap₂, _∙_}
-use mathlib.Core.Bool.{Bool, true, false, cond}
+use mathlib.Core.Path.{_≡_, refl, sym, ap, _∙_}
+use mathlib.Core.Bool.{Bool, true, false}
 use mathlib.Core.List.{List, _++_}
 use Prim.Native.Nat.{ℕ, _≤_, _<_}
 use native.Mathlib.Omega.{arith}
 use borrow.Author.Tests.{lt-ltb, le-ltb, eq-eqb, ne-eqb}
-use lib.Dec.{ltb, eqb}
+use lib.Dec.{ltb}
 use lib.ListN.{length, drop}
 use Rattle.common.specs.declared.answer.Answer.{Answer}
 use Rattle.common.specs.Limits.{mostWords}
-use Rattle.common.specs.Numbers.{«ACCEPTED», «TOO_MANY_WORDS», «SHORT_SLICE», «NO_WORDS», «REACHES_INVALID», «UNSET_REGISTER»}
+use Rattle.common.specs.Numbers.{«TOO_MANY_WORDS», «SHORT_SLICE», «NO_WORDS», «REACHES_INVALID», «UNSET_REGISTER»}
 use Rattle.common.specs.Chain.{refuseIf, answer, accepted}
 use Rattle.common.specs.Lists.{tabulate, over}
 use Rattle.graph.specs.Marks.{markOf}

@@ -3,7 +3,7 @@ use mathlib.Core.Path.{_≡_, refl, sym, ap, subst, _∙_}
 use mathlib.Core.Logic.{⊎-elim}
 use mathlib.Core.Bool.{Bool, true, false, cond, false≢true}
 use mathlib.Core.List.{List, [], _∷_}
-use Prim.Native.Nat.{ℕ, zero, suc, _+_, _≤_, _<_, max}
+use Prim.Native.Nat.{ℕ, zero, suc, _+_, _≤_, _<_, min}
 use native.Mathlib.Nat.{not-suc-le-zero}
 use native.Mathlib.Omega.{arith}
 use lib.ListN.{length}
@@ -12,7 +12,6 @@ use Rattle.graph.specs.Longest.{most}
 use Rattle.graph.specs.Assignment.{Bounded}
 use Rattle.runs.specs.Steps.{isInvalid}
 use Rattle.runs.specs.Successors.{successorsOf}
-use Rattle.touches.specs.declared.answer.Range.{Range}
 use Rattle.touches.specs.declared.answer.Touches.{Touches}
 use Rattle.touches.specs.declared.intervals.Interval.{Interval}
 use Rattle.touches.specs.declared.locations.Location.{Location}
@@ -23,8 +22,8 @@ use Rattle.touches.specs.Table.{accessTable, touchesWith}
 use Rattle.touches.specs.Meaning.{rangesIn}
 use Rattle.touches.proofs.Laws.{laws}
 use Rattle.assignment.specs.Uses.{inRanges, readsBy, readsEnd, registersOf, usageOf}
-use Rattle.assignment.specs.Codes.{Listed}
-use Rattle.assignment.proofs.Within.{in-ranges, before-end}
+use Rattle.assignment.specs.Codes.{mostRegisters, nextIn, nextRead, Listed}
+use Rattle.assignment.proofs.Within.{in-ranges, before-end, next-from, next-none}
 use Rattle.assignment.proofs.Cuts.{outside}
 
 ranges-length : (n : ℕ) (xs : List Interval) → length (ranges n xs) ≡ n
@@ -73,3 +72,31 @@ bounded ws p r e =
     (λ h. absurd (false≢true (sym (reads-nothing ws p r h) ∙ e)))
     (λ h. omega (arith, before-end r (rangesIn (touchesOf ws p .reads)) (in-ranges r (rangesIn (touchesOf ws p .reads)) .0 e), most-above (readsEnd ws) (length ws) p h))
     (split (length ws) p)
+
+-- from a register on to the next that is read
+module _ (ws : List ℕ) (r : ℕ) where
+  pub read-from : (n : ℕ) → min r mostRegisters ≤ nextRead ws r n
+  unfolding nextRead
+  read-from zero = omega arith
+  read-from (suc n) = omega (arith, read-from n, next-from r (rangesIn (touchesOf ws n .reads)))
+
+  pub read-upto : (n : ℕ) → nextRead ws r n ≤ mostRegisters
+  unfolding nextRead
+  read-upto zero = omega arith
+  read-upto (suc n) = omega (arith, read-upto n)
+
+  pub read-more : (n : ℕ) → min (nextRead ws r n) (nextIn r (rangesIn (touchesOf ws n .reads))) ≡ nextRead ws r (n + 1)
+  unfolding nextRead
+  read-more n = let e : suc n ≡ n + 1 = omega arith in ap (nextRead ws r) e
+
+  unread-below : (n p q : ℕ) → p < n → r ≤ q → q < nextRead ws r n → readsBy (touchesOf ws p) q ≡ false
+  unfolding nextRead
+  unread-below zero p q b l h = absurd (not-suc-le-zero b)
+  unread-below (suc n) p q b l h =
+      ⊎-elim
+      (λ e. ap (λ (x : ℕ). readsBy (touchesOf ws x) q) e ∙ next-none r q (rangesIn (touchesOf ws n .reads)) l (omega arith))
+      (λ d. unread-below n p q (past (omega arith) (λ z. d (sym z))) l (omega arith))
+      (same-or-not p n)
+
+  pub unread : (p q : ℕ) → r ≤ q → q < nextRead ws r (length ws) → readsBy (touchesOf ws p) q ≡ false
+  unread p q l h = ⊎-elim (λ d. reads-nothing ws p q d) (λ d. unread-below (length ws) p q d l h) (split (length ws) p)

@@ -1,16 +1,17 @@
 -- Registers in ranges. Assumes nothing.
-use mathlib.Core.Path.{_≡_, refl, sym, ap, ap₂, subst, _∙_}
-use mathlib.Core.Logic.{_⊎_, _↔_, inl, inr, ⊎-elim}
+use mathlib.Core.Path.{_≡_, refl, sym, ap, _∙_}
+use mathlib.Core.Logic.{_↔_, inl, inr}
 use mathlib.Core.Bool.{Bool, true, false, cond, _&&_, _||_, or-false, false≢true}
 use mathlib.Core.List.{List, [], _∷_}
-use Prim.Native.Nat.{ℕ, zero, suc, _+_, _≤_, _<_, max}
+use Prim.Native.Nat.{ℕ, zero, suc, _≤_, _<_, min, max}
 use native.Mathlib.Omega.{arith}
-use borrow.Author.Tests.{leb-true, le-leb, lt-leb}
-use lib.Dec.{leb, eqb}
+use borrow.Author.Tests.{leb-true, le-leb}
+use lib.Dec.{leb}
 use lib.ListN.{length, getD, take}
 use Rattle.touches.specs.declared.answer.Range.{Range}
 use Rattle.touches.specs.Meaning.{Within}
 use Rattle.assignment.specs.Uses.{inRange, inRanges, endOf}
+use Rattle.assignment.specs.Codes.{mostRegisters, nextOf, nextIn}
 
 -- the test is that of the relation
 in-within : (r : ℕ) (xs : List Range) → inRanges r xs ≡ true → Within r xs
@@ -115,34 +116,52 @@ module _ (r : ℕ) (l : List Range) (t : length l ≡ 3) (k : ℕ) where
           pub in-third : (k ≡ 2 → ⊥) → inRange r (nth l 2) ≡ inRanges r (take k l)
           in-third o = third-place r (nth l 0) (nth l 1) (nth l 2) k n m o a b ∙ by-three l t k (inRanges r)
 
--- the end of three ranges, up to a count
-module _ (a b c : Range) where
-  end-of-one : (k : ℕ) → k ≡ 1 → max (a .last + 1) 0 ≡ endOf (take k (a ∷ b ∷ c ∷ []))
-  unfolding endOf
-  end-of-one k e = rw e
+-- the end and the next register of three ranges, up to a count
+module _ (f : List Range → ℕ) (l : List Range) (t : length l ≡ 3) (k : ℕ) where
+  pub of-none : k ≡ 0 → f [] ≡ f (take k l)
+  of-none e = rw e
 
-  end-of-two : (k : ℕ) → k ≡ 2 → max (a .last + 1) (max (b .last + 1) 0) ≡ endOf (take k (a ∷ b ∷ c ∷ []))
-  unfolding endOf
-  end-of-two k e = rw e
+  pub of-one : k ≡ 1 → f (nth l 0 ∷ []) ≡ f (take k l)
+  of-one e = rw e (by-three l t 1 f)
 
-  end-of-three : (k : ℕ) → (k ≡ 0 → ⊥) → (k ≡ 1 → ⊥) → (k ≡ 2 → ⊥) → max (a .last + 1) (max (b .last + 1) (max (c .last + 1) 0)) ≡ endOf (take k (a ∷ b ∷ c ∷ []))
-  unfolding endOf
-  end-of-three zero n m o = absurd (n refl)
-  end-of-three (suc zero) n m o = absurd (m refl)
-  end-of-three (suc (suc zero)) n m o = absurd (o refl)
-  end-of-three (suc (suc (suc zero))) n m o = refl
-  end-of-three (suc (suc (suc (suc k)))) n m o = refl
+  pub of-two : k ≡ 2 → f (nth l 0 ∷ nth l 1 ∷ []) ≡ f (take k l)
+  of-two e = rw e (by-three l t 2 f)
 
-module _ (l : List Range) (t : length l ≡ 3) (k : ℕ) where
-  pub end-none : k ≡ 0 → 0 ≡ endOf (take k l)
-  unfolding endOf
-  end-none e = rw e
+  pub of-three : (k ≡ 0 → ⊥) → (k ≡ 1 → ⊥) → (k ≡ 2 → ⊥) → f (nth l 0 ∷ nth l 1 ∷ nth l 2 ∷ []) ≡ f (take k l)
+  of-three n m o = go k n m o ∙ by-three l t k f
+    where
+      go : (k : ℕ) → (k ≡ 0 → ⊥) → (k ≡ 1 → ⊥) → (k ≡ 2 → ⊥) → f (nth l 0 ∷ nth l 1 ∷ nth l 2 ∷ []) ≡ f (take k (nth l 0 ∷ nth l 1 ∷ nth l 2 ∷ []))
+      go zero n m o = absurd (n refl)
+      go (suc zero) n m o = absurd (m refl)
+      go (suc (suc zero)) n m o = absurd (o refl)
+      go (suc (suc (suc zero))) n m o = refl
+      go (suc (suc (suc (suc k)))) n m o = refl
 
-  pub end-one : k ≡ 1 → max (nth l 0 .last + 1) 0 ≡ endOf (take k l)
-  end-one e = end-of-one (nth l 0) (nth l 1) (nth l 2) k e ∙ by-three l t k endOf
+-- the next register, and none before it
+next-of-from : (r : ℕ) (x : Range) → min r mostRegisters ≤ nextOf r x
+next-of-from r x = go (leb (max (x .first) r) (x .last))
+  where
+    go : (b : Bool) → min r mostRegisters ≤ cond b (max (x .first) r) mostRegisters
+    go true = omega arith
+    go false = omega arith
 
-  pub end-two : k ≡ 2 → max (nth l 0 .last + 1) (max (nth l 1 .last + 1) 0) ≡ endOf (take k l)
-  end-two e = end-of-two (nth l 0) (nth l 1) (nth l 2) k e ∙ by-three l t k endOf
+pub next-from : (r : ℕ) (xs : List Range) → min r mostRegisters ≤ nextIn r xs
+unfolding nextIn
+next-from r [] = omega arith
+next-from r (x ∷ xs) = omega (arith, next-of-from r x, next-from r xs)
 
-  pub end-three : (k ≡ 0 → ⊥) → (k ≡ 1 → ⊥) → (k ≡ 2 → ⊥) → max (nth l 0 .last + 1) (max (nth l 1 .last + 1) (max (nth l 2 .last + 1) 0)) ≡ endOf (take k l)
-  end-three n m o = end-of-three (nth l 0) (nth l 1) (nth l 2) k n m o ∙ by-three l t k endOf
+next-of-at : (r q : ℕ) (x : Range) → r ≤ q → x .first ≤ q → q ≤ x .last → nextOf r x ≤ q
+next-of-at r q x l a b = rw (le-leb (max (x .first) r) (x .last) (omega arith)) (omega arith)
+
+next-at : (r q : ℕ) (xs : List Range) → r ≤ q → Within q xs → nextIn r xs ≤ q
+unfolding nextIn
+next-at r q [] l w = absurd w
+next-at r q (x ∷ xs) l (inl h) = omega (arith, next-of-at r q x l (h .0) (h .1))
+next-at r q (x ∷ xs) l (inr w) = omega (arith, next-at r q xs l w)
+
+pub next-none : (r q : ℕ) (xs : List Range) → r ≤ q → q < nextIn r xs → inRanges q xs ≡ false
+next-none r q xs l h = go (inRanges q xs) refl
+  where
+    go : (b : Bool) → inRanges q xs ≡ b → b ≡ false
+    go true e = absurd (omega (arith, next-at r q xs l (in-within q xs e)))
+    go false e = refl

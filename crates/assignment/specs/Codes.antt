@@ -1,14 +1,14 @@
--- What the private functions ask and leave: codes of the words, for one register after another. No exported contract cites it.
+-- What the private functions ask and leave: which registers are read, and codes of the words, for one register after another. No exported
+-- contract cites it.
 -- Assumes nothing.
 use mathlib.Core.Path.{_≡_}
-use mathlib.Core.Logic.{_⊎_}
-use mathlib.Core.Bool.{Bool, cond, _&&_}
-use mathlib.Core.List.{List}
-use Prim.Native.Nat.{ℕ, zero, suc, _+_, _*_, _-_, _/_, _%_, _≤_, _<_}
-use lib.Dec.{eqb}
+use mathlib.Core.Bool.{Bool, false, cond, _&&_, _||_}
+use mathlib.Core.List.{List, [], _∷_}
+use Prim.Native.Nat.{ℕ, zero, suc, _+_, _*_, _/_, _%_, _≤_, _<_, min, max}
+use lib.Dec.{leb, eqb}
 use lib.ListN.{length, getD}
 use Rattle.common.specs.Limits.{mostWords}
-use Rattle.common.specs.Lowest.{lowest}
+use Rattle.common.specs.Lists.{over}
 use Rattle.graph.specs.Marks.{markOf}
 use Rattle.graph.specs.Assignment.{someBelow, readsUnset}
 use Rattle.runs.specs.declared.edges.Successors.{Successors}
@@ -16,13 +16,27 @@ use Rattle.runs.specs.declared.edges.Successors.the-variants.{Invalid, Stop, On
 use Rattle.runs.specs.Successors.{successorsOf}
 use Rattle.runs.specs.Instance.{graphOf}
 use Rattle.runs.specs.Cut.{graphCut}
+use Rattle.touches.specs.declared.answer.Range.{Range}
 use Rattle.touches.specs.declared.answer.Touches.{Touches}
 use Rattle.touches.specs.Touches.{touchesOf}
+use Rattle.touches.specs.Meaning.{rangesIn}
 use Rattle.assignment.specs.Uses.{readsBy, setsBy, usageOf}
 
 -- registers are numbers of 16 bits, so many of them
 abbrev pub mostRegisters : ℕ
 mostRegisters = 65536
+
+-- the lowest register from r on in a range, in one of several, and among what the first n words read; past all registers if there is none
+abbrev pub nextOf : ℕ → Range → ℕ
+nextOf r x = cond (leb (max (x .first) r) (x .last)) (max (x .first) r) mostRegisters
+
+unfoldable pub nextIn : ℕ → List Range → ℕ
+nextIn r [] = mostRegisters
+nextIn r (x ∷ xs) = min (nextOf r x) (nextIn r xs)
+
+unfoldable pub nextRead : List ℕ → ℕ → ℕ → ℕ
+nextRead ws r zero = mostRegisters
+nextRead ws r (suc n) = min (nextRead ws r n) (nextIn r (rangesIn (touchesOf ws n .reads)))
 
 -- lists of registers of three places each, as every answer has them
 pub record Listed (t : Touches) : Type 0 where
@@ -60,16 +74,9 @@ packed f r (suc k) = f r + «CODES» * packed f (r + 1) k
 abbrev pub «BLOCK» : ℕ
 «BLOCK» = 21
 
--- the codes of the n words from register r on, where those of some registers were taken off since the first
-abbrev pub codesAt : List ℕ → ℕ → ℕ → ℕ → ℕ
-codesAt ws parameters r p = packed (codeAt ws p) r («BLOCK» - (r - parameters) % «BLOCK»)
-
+-- k codes of each word, from register r on
 abbrev pub Coded : List ℕ → ℕ → ℕ → List ℕ → Type 0
-Coded ws parameters r codes = (p : ℕ) → p < length ws → getD codes p 0 ≡ codesAt ws parameters r p
-
--- as they are before they are brought to register r
-abbrev pub CodedBefore : List ℕ → ℕ → ℕ → List ℕ → Type 0
-CodedBefore ws parameters r codes = (r ≡ parameters) ⊎ ((parameters < r) × Coded ws parameters (r - 1) codes)
+Coded ws r k codes = (p : ℕ) → p < length ws → getD codes p 0 ≡ packed (codeAt ws p) r k
 
 -- a word reads, by its code
 abbrev pub readsIn : List ℕ → ℕ → Bool
@@ -82,6 +89,15 @@ readsMarked codes marks p = readsIn codes p && eqb (getD marks p 0) 1
 -- a word reads, and is reachable over the steps that its codes leave
 abbrev pub readsCut : List ℕ → List ℕ → ℕ → Bool
 readsCut ws codes p = readsIn codes p && eqb (markOf (graphCut ws codes) p) 1
+
+-- the codes without the first of each word
+abbrev pub taken : List ℕ → List ℕ → List ℕ
+taken ws codes = over (λ p. getD codes p 0 / «CODES») (length ws) codes
+
+-- a word reads, and is reachable so, by one of the k codes that each word has
+unfoldable pub readsAmong : List ℕ → ℕ → List ℕ → ℕ → Bool
+readsAmong ws zero codes p = false
+readsAmong ws (suc k) codes p = readsAmong ws k (taken ws codes) p || readsCut ws codes p
 
 -- a word reads some register below r that is unset
 abbrev pub unsetBelow : List ℕ → ℕ → ℕ → ℕ → Bool

@@ -6,16 +6,19 @@ ghost use lib.ListN.{length, getD};
 ghost use Rattle.common.specs.Limits.{mostWords};
 ghost use Rattle.common.specs.Lists.{over};
 ghost use Rattle.touches.specs.Table.{accessTable};
-ghost use Rattle.assignment.specs.Codes.{mostRegisters, «CODES», «BLOCK», Listed, bitOf, codeOf, codeAt, packed, Coded, CodedBefore};
+ghost use Rattle.assignment.specs.Codes.{mostRegisters, nextRead, «CODES», «BLOCK», Listed, bitOf, codeOf, codeAt, packed};
+use crate::ranges::MOST_REGISTERS;
 use crate::ranges::in_ranges;
+use crate::ranges::next_in;
 use crate::ranges::sets;
+use crate::ranges::smaller;
 use runs::edges::Successors;
 use runs::successors::successors;
 use touches::Touches;
 use touches::word::touches_in;
 
 // So many codes there is room for.
-const BLOCK: usize = 21;
+pub(crate) const BLOCK: usize = 21;
 
 // A code is below this.
 const CODES: u64 = 8;
@@ -63,21 +66,28 @@ fn codes_from(t: Touches, s: Successors, r: usize) -> u64
     codes
 }
 
-// The codes of all words for the registers from r on.
-fn fill_codes(rows: &[u64; 128], words: &[u32], r: usize, codes: &mut [u64])
+// The codes of all words for the registers from r on. The answer is the lowest register behind these that a word reads, past all registers if
+// there is none.
+pub(crate) fn fill_codes(rows: &[u64; 128], words: &[u32], r: usize, codes: &mut [u64]) -> usize
     requires { ⌜ (now rows ≡ accessTable) × (length (now words) ≤ mostWords) × (length (now words) ≤ length (now codes)) × (r ≤ mostRegisters) ⌝ }
+    ensures { λ s. ⌜ s ≡ nextRead (now (words .entry)) (r + «BLOCK») (length (now (words .entry))) ⌝ }
     ensures { λ _. ⌜ now (codes .exit) ≡ over (λ p. packed (codeAt (now (words .entry)) p) r «BLOCK») (length (now (words .entry))) (now (codes .entry)) ⌝ }
 {
     let n = words.len();
+    let mut next = MOST_REGISTERS;
     let mut i = 0;
     while i < n {
-        codes[i] = codes_from(touches_in(rows, words, i), successors(words, i), r);
+        let t = touches_in(rows, words, i);
+        let reads = t.reads;
+        next = smaller(next, next_in(reads, r + BLOCK));
+        codes[i] = codes_from(t, successors(words, i), r);
         i += 1;
     }
+    next
 }
 
 // The codes for one register are taken off.
-fn shift_codes(codes: &mut [u64], n: usize)
+pub(crate) fn shift_codes(codes: &mut [u64], n: usize)
     requires { ⌜ n ≤ length (now codes) ⌝ }
     ensures { λ _. ⌜ now (codes .exit) ≡ over (λ p. getD (now (codes .entry)) p 0 / «CODES») n (now (codes .entry)) ⌝ }
 {
@@ -86,22 +96,4 @@ fn shift_codes(codes: &mut [u64], n: usize)
         codes[i] = codes[i] / CODES;
         i += 1;
     }
-}
-
-// The codes are brought to register r, from the one before it or, where none are left, anew.
-pub(crate) fn codes_for(
-    rows: &[u64; 128],
-    words: &[u32],
-    parameters: usize,
-    r: usize,
-    codes: &mut [u64],
-)
-    requires { ⌜ (now rows ≡ accessTable) × (length (now words) ≤ mostWords) × (length (now words) ≤ length (now codes)) × (parameters ≤ r) × (r ≤ mostRegisters) × CodedBefore (now words) parameters r (now codes) ⌝ }
-    ensures { λ _. ⌜ Coded (now (words .entry)) parameters r (now (codes .exit)) ⌝ }
-{
-    if (r - parameters) % BLOCK == 0 {
-        fill_codes(rows, words, r, codes);
-        return;
-    }
-    shift_codes(codes, words.len());
 }

@@ -1,13 +1,16 @@
 // Registers in the ranges that a word's lists have, up to their count.
 ghost use mathlib.Core.Path.{_≡_};
-ghost use Prim.Native.Nat.{_+_, _≤_, max};
+ghost use Prim.Native.Nat.{_≤_, _<_, min, max};
 ghost use lib.ListN.{length};
 ghost use Rattle.touches.specs.Meaning.{rangesIn};
 ghost use Rattle.assignment.specs.Uses.{inRange, inRanges, endOf, setsBy};
-ghost use Rattle.assignment.specs.Codes.{mostRegisters, Listed};
+ghost use Rattle.assignment.specs.Codes.{mostRegisters, nextOf, nextIn, Listed};
 use touches::Touches;
 use touches::answer::Range;
 use touches::answer::Ranges;
+
+// Registers are numbers of 16 bits, so many of them.
+pub(crate) const MOST_REGISTERS: usize = 65536;
 
 fn in_range(x: Range, r: usize) -> bool
     ensures { λ b. ⌜ b ≡ inRange r x ⌝ }
@@ -44,7 +47,7 @@ pub(crate) fn in_ranges(x: Ranges, r: usize) -> bool
     in_range(items[2], r)
 }
 
-pub(crate) fn larger(x: usize, y: usize) -> usize
+fn larger(x: usize, y: usize) -> usize
     ensures { λ r. ⌜ r ≡ max x y ⌝ }
 {
     if x < y {
@@ -53,31 +56,51 @@ pub(crate) fn larger(x: usize, y: usize) -> usize
     x
 }
 
-fn end(x: Range) -> usize
-    ensures { λ r. ⌜ (r ≡ x .last + 1) × (r ≤ mostRegisters) ⌝ }
+pub(crate) fn smaller(x: usize, y: usize) -> usize
+    ensures { λ r. ⌜ r ≡ min x y ⌝ }
 {
-    x.last as usize + 1
+    if y < x {
+        return y;
+    }
+    x
 }
 
-// One past the highest register of the ranges; 0 if there is none.
-pub(crate) fn end_of(x: Ranges) -> usize
+// The lowest register from r on in a range, past all registers if there is none.
+fn next_of(x: Range, r: usize) -> usize
+    ensures { λ s. ⌜ (s ≡ nextOf r x) × (x .last < mostRegisters) ⌝ }
+{
+    let first = larger(x.first as usize, r);
+    if first <= x.last as usize {
+        return first;
+    }
+    MOST_REGISTERS
+}
+
+// The same in one of several; and none of them goes past all registers, by the width of its numbers.
+pub(crate) fn next_in(x: Ranges, r: usize) -> usize
     requires { ⌜ length (x .items) ≡ 3 ⌝ }
-    ensures { λ r. ⌜ (r ≡ endOf (rangesIn x)) × (r ≤ mostRegisters) ⌝ }
+    ensures { λ s. ⌜ (s ≡ nextIn r (rangesIn x)) × (endOf (rangesIn x) ≤ mostRegisters) ⌝ }
 {
     let items = x.items;
     let count = x.count;
     if count == 0 {
-        return 0;
+        return MOST_REGISTERS;
     }
     if count == 1 {
-        return larger(end(items[0]), 0);
+        return smaller(next_of(items[0], r), MOST_REGISTERS);
     }
     if count == 2 {
-        return larger(end(items[0]), larger(end(items[1]), 0));
+        return smaller(
+            next_of(items[0], r),
+            smaller(next_of(items[1], r), MOST_REGISTERS),
+        );
     }
-    larger(
-        end(items[0]),
-        larger(end(items[1]), larger(end(items[2]), 0)),
+    smaller(
+        next_of(items[0], r),
+        smaller(
+            next_of(items[1], r),
+            smaller(next_of(items[2], r), MOST_REGISTERS),
+        ),
     )
 }
 

@@ -10,10 +10,13 @@ ghost use Rattle.common.specs.Lowest.{lowest};
 ghost use Rattle.touches.specs.Table.{accessTable};
 ghost use Rattle.assignment.specs.Uses.{registersOf};
 ghost use Rattle.assignment.specs.Answers.{unsetOf};
-ghost use Rattle.assignment.specs.Codes.{mostRegisters, readsIn, readsMarked, readsCut, Room};
-use crate::codes::codes_for;
-use crate::ranges::end_of;
-use crate::ranges::larger;
+ghost use Rattle.assignment.specs.Codes.{mostRegisters, nextRead, «BLOCK», readsIn, readsMarked, readsCut, readsAmong, Room};
+use crate::codes::BLOCK;
+use crate::codes::fill_codes;
+use crate::codes::shift_codes;
+use crate::ranges::MOST_REGISTERS;
+use crate::ranges::next_in;
+use crate::ranges::smaller;
 use runs::cutting::mark_cut;
 use touches::word::touches_in;
 
@@ -68,24 +71,46 @@ fn unset_in(words: &[u32], codes: &[u64], marks: &mut [u8], work: &mut [u32], li
     find_marked(codes, marks, limit)
 }
 
-// One past the highest register that a word reads.
-fn registers_read(rows: &[u64; 128], words: &[u32]) -> usize
+// The lowest word below a limit that reads one of the registers of these codes unset, or the limit. The codes are used up.
+fn unset_among(
+    words: &[u32],
+    codes: &mut [u64],
+    marks: &mut [u8],
+    work: &mut [u32],
+    limit: usize,
+) -> usize
+    requires { ⌜ Room (now words) (now marks) (now codes) (now work) × (limit ≤ length (now words)) ⌝ }
+    ensures { λ r. ⌜ r ≡ lowest (readsAmong (now (words .entry)) «BLOCK» (now (codes .entry))) limit ⌝ }
+{
+    let mut least = limit;
+    let mut i = 0;
+    while i < BLOCK {
+        least = unset_in(words, codes, marks, work, least);
+        shift_codes(codes, words.len());
+        i += 1;
+    }
+    least
+}
+
+// The lowest register from r on that a word reads, past all registers if there is none.
+fn next_read(rows: &[u64; 128], words: &[u32], r: usize) -> usize
     requires { ⌜ (now rows ≡ accessTable) × (length (now words) ≤ mostWords) ⌝ }
-    ensures { λ r. ⌜ (r ≡ registersOf (now (words .entry))) × (r ≤ mostRegisters) ⌝ }
+    ensures { λ s. ⌜ (s ≡ nextRead (now (words .entry)) r (length (now (words .entry)))) × (registersOf (now (words .entry)) ≤ mostRegisters) ⌝ }
 {
     let n = words.len();
-    let mut registers: usize = 0;
+    let mut next = MOST_REGISTERS;
     let mut i = 0;
     while i < n {
         let t = touches_in(rows, words, i);
         let reads = t.reads;
-        registers = larger(registers, end_of(reads));
+        next = smaller(next, next_in(reads, r));
         i += 1;
     }
-    registers
+    next
 }
 
-// The lowest word that reads a register unset, or the number of words. The marks are those of no search that matters.
+// The lowest word that reads a register unset, or the number of words: a block of registers after another, each from one on that is read. The
+// marks are those of no search that matters.
 pub(crate) fn find_unset(
     rows: &[u64; 128],
     words: &[u32],
@@ -97,13 +122,12 @@ pub(crate) fn find_unset(
     requires { ⌜ (now rows ≡ accessTable) × Room (now words) (now marks) (now codes) (now work) × (parameters ≤ 255) ⌝ }
     ensures { λ r. ⌜ r ≡ unsetOf (now (words .entry)) parameters ⌝ }
 {
-    let registers = registers_read(rows, words);
     let mut least = words.len();
-    let mut r = parameters;
-    while r < registers {
-        codes_for(rows, words, parameters, r, codes);
-        least = unset_in(words, codes, marks, work, least);
-        r += 1;
+    let mut r = next_read(rows, words, parameters);
+    while r < MOST_REGISTERS {
+        let next = fill_codes(rows, words, r, codes);
+        least = unset_among(words, codes, marks, work, least);
+        r = next;
     }
     least
 }

@@ -1,7 +1,6 @@
-use mathlib.Core.Path.{_≡_, refl, sym, ap, subst, _∙_}
+use mathlib.Core.Path.{_≡_, sym, ap, subst, _∙_}
 use Prim.Native.Nat.{ℕ, _+_, _-_, _≤_, _<_}
 use native.Mathlib.Omega.{arith}
-use borrow.Author.Needs.{needs}
 use Rattle.assignment.specs.Codes.{codeOf, packed}
 use Rattle.assignment.proofs.Digits.{packed-none, packed-small, packed-turn}
 use Rattle.assignment.proofs.Cuts.{code-small}

@@ -1,5 +1,4 @@
 use mathlib.Core.Path.{refl, sym}
-use Prim.Native.Nat.{_≤_}
 use native.Mathlib.Nat.{pos-of-ne-zero}
 use lib.ListN.{length}
 use lib.Seq.{length-take-le}

@@ -1,6 +1,5 @@
 use mathlib.Core.Path.{sym, _∙_}
 use borrow.Author.Tests.{eq-eqb, ne-eqb}
-use borrow.Author.Needs.{needs}
 use Rattle.assignment.proofs.ranges.sets.Statement.{statement}
 use Rattle.assignment.proofs.ranges.sets.Tie as tie
 
