@@ -42,6 +42,33 @@ static const uint32_t unknown[1] = {83};
 /* MOVE after MOVE. */
 static uint32_t many[MANY];
 
+/* ---- fields */
+
+/* Every field of these bits, by masks and shifts; the mode apart. */
+static int decoded(uint32_t word) {
+    struct lawendeb_fields f = lawendeb_decode(word);
+    return f.opcode == (word & 127) && f.a == (word >> 7 & 255) && f.k == (word >> 15 & 1) &&
+           f.b == (word >> 16 & 255) && f.c == word >> 24 && f.bx == word >> 15 &&
+           f.ax == word >> 7 && f.sb == (int32_t)f.b - 127 && f.sc == (int32_t)f.c - 127 &&
+           f.sbx == (int32_t)f.bx - 65535 && f.sj == (int32_t)f.ax - 16777215;
+}
+
+static void fields(void) {
+    const uint32_t modes[6][2] = {{83, LAWENDEB_MODE_NONE}, {0, LAWENDEB_MODE_ABC},
+                                  {LOADK, LAWENDEB_MODE_ABX}, {1, LAWENDEB_MODE_ASBX},
+                                  {82, LAWENDEB_MODE_AX}, {56, LAWENDEB_MODE_SJ}};
+    struct lawendeb_fields f = lawendeb_decode(sheet[0]);
+    uint32_t i;
+    CHECK(f.mode == LAWENDEB_MODE_ASBX && f.opcode == 1 && f.a == 0 && f.k == 0 && f.b == 0);
+    CHECK(f.c == 128 && f.bx == 65536 && f.ax == 16777216);
+    CHECK(f.sb == -127 && f.sc == 1 && f.sbx == 1 && f.sj == 1);
+    CHECK(decoded(0) && decoded(UINT32_MAX));
+    for (i = 0; i < 32; i++)
+        CHECK(decoded((uint32_t)1 << i) && decoded(~((uint32_t)1 << i)));
+    for (i = 0; i < 6; i++)
+        CHECK(lawendeb_decode(modes[i][0]).mode == modes[i][1]);
+}
+
 /* ---- steps */
 
 static int has(struct lawendeb_successors s, uint64_t kind, uint64_t first, uint64_t second) {
@@ -1146,8 +1173,386 @@ static void shown(void) {
 #undef NAME
 }
 
+/* ---- scripts of Lua 5.3: request C-24 */
+
+enum {
+    LOADKX_53 = 2,
+    LOADBOOL_53 = 3,
+    LOADNIL_53 = 4,
+    GETTABUP_53 = 6,
+    SETTABUP_53 = 8,
+    ADD_53 = 13,
+    JMP_53 = 30,
+    EQ_53 = 31,
+    TEST_53 = 34,
+    CALL_53 = 36,
+    TAILCALL_53 = 37,
+    RETURN_53 = 38,
+    FORLOOP_53 = 39,
+    FORPREP_53 = 40,
+    TFORCALL_53 = 41,
+    TFORLOOP_53 = 42,
+    SETLIST_53 = 43,
+    EXTRAARG_53 = 46
+};
+
+static uint32_t abc_53(uint32_t op, uint32_t a, uint32_t b, uint32_t c) {
+    return op + 64 * a + 16384 * c + 8388608 * b;
+}
+static uint32_t jump_53(uint32_t op, uint32_t a, int offset) {
+    return op + 64 * a + 16384 * (uint32_t)(131071 + offset);
+}
+
+/* FORPREP to a FORLOOP, which goes back to a MOVE or on to a RETURN. */
+static const uint32_t loop_53[4] = {2147483688u, 0, 2147434535u, RETURN_53};
+
+/* EQ with A 2, a bad JMP, a RETURN: nothing equals 2, so that the JMP is never taken along. */
+static const uint32_t above_53[3] = {16543, 30, 8388646};
+static const uint32_t unknown_53[1] = {47};
+
+/* Every field of these bits, by masks and shifts; the mode apart. */
+static int decoded_53(uint32_t word) {
+    struct lawendeb_fields_53 f = lawendeb_decode_53(word);
+    return f.opcode == (word & 63) && f.a == (word >> 6 & 255) && f.c == (word >> 14 & 511) &&
+           f.b == word >> 23 && f.bx == word >> 14 && f.ax == word >> 6 &&
+           f.sbx == (int32_t)f.bx - 131071;
+}
+
+static void fields_53(void) {
+    const uint32_t modes[6][2] = {{47, LAWENDEB_MODE_NONE}, {63, LAWENDEB_MODE_NONE},
+                                  {0, LAWENDEB_MODE_ABC}, {1, LAWENDEB_MODE_ABX},
+                                  {JMP_53, LAWENDEB_MODE_ASBX}, {EXTRAARG_53, LAWENDEB_MODE_AX}};
+    struct lawendeb_fields_53 f = lawendeb_decode_53(loop_53[2]);
+    uint32_t i;
+    CHECK(f.mode == LAWENDEB_MODE_ASBX && f.opcode == FORLOOP_53 && f.a == 0 && f.b == 255);
+    CHECK(f.c == 509 && f.bx == 131069 && f.ax == 33553664 && f.sbx == -2);
+    CHECK(decoded_53(0) && decoded_53(UINT32_MAX));
+    for (i = 0; i < 32; i++)
+        CHECK(decoded_53((uint32_t)1 << i) && decoded_53(~((uint32_t)1 << i)));
+    for (i = 0; i < 6; i++)
+        CHECK(lawendeb_decode_53(modes[i][0]).mode == modes[i][1]);
+}
+
+/* The steps of the second of four words, the others MOVE but for the one after it. */
+static struct lawendeb_successors second_53(uint32_t word, uint32_t after) {
+    const uint32_t words[4] = {0, word, after, 0};
+    return lawendeb_successors_53(words, 4, 1);
+}
+
+static void steps_53(void) {
+    const uint32_t tail[2] = {TAILCALL_53, TAILCALL_53};
+    const uint32_t skip[2] = {abc_53(LOADBOOL_53, 0, 0, 1), RETURN_53};
+    CHECK(has(lawendeb_successors_53(loop_53, 4, 0), LAWENDEB_KIND_ONE, 2, 0));
+    CHECK(has(lawendeb_successors_53(loop_53, 4, 1), LAWENDEB_KIND_ONE, 2, 0));
+    CHECK(has(lawendeb_successors_53(loop_53, 4, 2), LAWENDEB_KIND_TWO, 1, 3));
+    CHECK(has(lawendeb_successors_53(loop_53, 4, 3), LAWENDEB_KIND_STOP, 0, 0));
+    CHECK(has(lawendeb_successors_53(loop_53, 4, 4), LAWENDEB_KIND_INVALID, 0, 0));
+    CHECK(has(lawendeb_successors_53(loop_53, 4, SIZE_MAX), LAWENDEB_KIND_INVALID, 0, 0));
+    CHECK(has(lawendeb_successors_53(loop_53, 0, 0), LAWENDEB_KIND_INVALID, 0, 0));
+    /* the word after a FORLOOP is past the end */
+    CHECK(has(lawendeb_successors_53(loop_53, 3, 2), LAWENDEB_KIND_INVALID, 0, 0));
+    CHECK(has(second_53(jump_53(FORLOOP_53, 0, 1), 0), LAWENDEB_KIND_TWO, 2, 3));
+    CHECK(has(second_53(jump_53(FORLOOP_53, 0, 0), 0), LAWENDEB_KIND_ONE, 2, 0));
+    CHECK(has(second_53(jump_53(FORLOOP_53, 0, -1), 0), LAWENDEB_KIND_TWO, 1, 2));
+    CHECK(has(second_53(jump_53(FORLOOP_53, 0, -3), 0), LAWENDEB_KIND_INVALID, 0, 0));
+    CHECK(has(second_53(jump_53(FORLOOP_53, 0, 2), 0), LAWENDEB_KIND_INVALID, 0, 0));
+    CHECK(has(second_53(jump_53(FORPREP_53, 0, -1), 0), LAWENDEB_KIND_ONE, 1, 0));
+    CHECK(has(second_53(jump_53(FORPREP_53, 0, -2), 0), LAWENDEB_KIND_ONE, 0, 0));
+    CHECK(has(second_53(jump_53(JMP_53, 9, 1), 0), LAWENDEB_KIND_ONE, 3, 0));
+    CHECK(has(second_53(TEST_53, jump_53(JMP_53, 0, 0)), LAWENDEB_KIND_TWO, 2, 3));
+    CHECK(has(second_53(TEST_53, 0), LAWENDEB_KIND_INVALID, 0, 0));
+    CHECK(has(second_53(abc_53(EQ_53, 1, 0, 0), JMP_53), LAWENDEB_KIND_TWO, 2, 3));
+    CHECK(has(second_53(abc_53(EQ_53, 2, 0, 0), JMP_53), LAWENDEB_KIND_ONE, 3, 0));
+    CHECK(has(second_53(abc_53(EQ_53, 2, 0, 0), 0), LAWENDEB_KIND_INVALID, 0, 0));
+    CHECK(has(second_53(LOADKX_53, EXTRAARG_53), LAWENDEB_KIND_ONE, 3, 0));
+    CHECK(has(second_53(LOADKX_53, 0), LAWENDEB_KIND_INVALID, 0, 0));
+    CHECK(has(second_53(SETLIST_53, EXTRAARG_53), LAWENDEB_KIND_ONE, 3, 0));
+    CHECK(has(second_53(SETLIST_53, 0), LAWENDEB_KIND_INVALID, 0, 0));
+    CHECK(has(second_53(abc_53(SETLIST_53, 0, 0, 1), EXTRAARG_53), LAWENDEB_KIND_ONE, 2, 0));
+    CHECK(has(second_53(TFORCALL_53, TFORLOOP_53), LAWENDEB_KIND_ONE, 2, 0));
+    CHECK(has(second_53(TFORCALL_53, 0), LAWENDEB_KIND_INVALID, 0, 0));
+    CHECK(has(second_53(EXTRAARG_53, 0), LAWENDEB_KIND_INVALID, 0, 0));
+    CHECK(has(second_53(47, 0), LAWENDEB_KIND_INVALID, 0, 0));
+    CHECK(has(second_53(63, 0), LAWENDEB_KIND_INVALID, 0, 0));
+    /* where a C function returns; after the last word there is nothing */
+    CHECK(has(lawendeb_successors_53(tail, 2, 0), LAWENDEB_KIND_ONE, 1, 0));
+    CHECK(has(lawendeb_successors_53(tail, 2, 1), LAWENDEB_KIND_INVALID, 0, 0));
+    CHECK(has(lawendeb_successors_53(skip, 2, 0), LAWENDEB_KIND_INVALID, 0, 0));
+    CHECK(has(second_53(skip[0], 0), LAWENDEB_KIND_ONE, 3, 0));
+    CHECK(has(second_53(LOADBOOL_53, 0), LAWENDEB_KIND_ONE, 2, 0));
+    /* the other version's words: 38 is POW there, and the ADDI is a BOR here */
+    CHECK(has(lawendeb_successors(loop_53, 4, 3), LAWENDEB_KIND_INVALID, 0, 0));
+    CHECK(has(lawendeb_successors_53(sheet, 4, 1), LAWENDEB_KIND_ONE, 2, 0));
+}
+
+/* Weights for the loop: MOVE 20, RETURN 40, FORLOOP 30, FORPREP 10; 200 at all that no word of 5.3
+   weighs by. */
+static uint8_t weights_53[LAWENDEB_WEIGHTS];
+
+static struct lawendeb_run run_53(const uint8_t *weights, size_t weights_n, const uint32_t *words,
+                                  size_t n, size_t marks_n, size_t lengths_n) {
+    return lawendeb_longest_run_53(words, n, weights, weights_n, marks, marks_n, lengths,
+                                   lengths_n);
+}
+
+static void runs_53(void) {
+    enum { W = LAWENDEB_WEIGHTS };
+    const uint32_t sums[4] = {80, 90, 70, 40}, plain[4] = {3, 3, 2, 1};
+    uint8_t zero[W];
+    size_t i;
+    memset(weights_53, 1, sizeof weights_53);
+    memset(weights_53 + 64, 200, sizeof weights_53 - 64);
+    weights_53[0] = 20, weights_53[RETURN_53] = 40;
+    weights_53[FORLOOP_53] = 30, weights_53[FORPREP_53] = 10;
+    memset(zero, 1, sizeof zero);
+    zero[100] = 0;
+
+    lend();
+    CHECK(ran(run_53(ones, W, loop_53, 4, 6, 5), LAWENDEB_ACCEPTED, 0, 3, 0));
+    for (i = 0; i < 4; i++)
+        CHECK(marks[i] == 1 && lengths[i] == plain[i]);
+    CHECK(lent_from(4));
+    CHECK(ran(run_53(weights_53, W, loop_53, 4, 4, 4), LAWENDEB_ACCEPTED, 0, 90, 1));
+    for (i = 0; i < 4; i++)
+        CHECK(marks[i] == 1 && lengths[i] == sums[i]);
+    /* bit 6 is A's, and does not change what a word weighs */
+    {
+        uint32_t words[4];
+        for (i = 0; i < 4; i++)
+            words[i] = loop_53[i] | 64;
+        CHECK(ran(run_53(weights_53, W, words, 4, 4, 4), LAWENDEB_ACCEPTED, 0, 90, 1));
+    }
+    CHECK(ran(run_53(ones, W, above_53, 3, 4, 4), LAWENDEB_ACCEPTED, 0, 2, 0));
+    CHECK(marks[0] == 1 && marks[1] == 0 && marks[2] == 1);
+
+    lend();
+    many[LAWENDEB_MOST_WORDS - 1] = RETURN_53;
+    CHECK(ran(run_53(others, W, many, LAWENDEB_MOST_WORDS, MANY, MANY), LAWENDEB_ACCEPTED, 0,
+              255 * LAWENDEB_MOST_WORDS, 0));
+    CHECK(lent_from(LAWENDEB_MOST_WORDS));
+    many[LAWENDEB_MOST_WORDS - 1] = 0;
+
+    /* 1, 6, 18, 7 and 8, in this order; 18 looks at all the weights */
+    lend();
+    CHECK(ran(run_53(zero, W, many, MANY, 0, 0), LAWENDEB_TOO_MANY_WORDS, 0, 0, 0));
+    CHECK(ran(run_53(zero, W, loop_53, 4, 3, 4), LAWENDEB_SHORT_SLICE, 0, 0, 0));
+    CHECK(ran(run_53(zero, W, loop_53, 4, 4, 3), LAWENDEB_SHORT_SLICE, 0, 0, 0));
+    CHECK(ran(run_53(zero, W, loop_53, 4, 4, 4), LAWENDEB_WEIGHTS_REFUSED, 100, 0, 0));
+    CHECK(ran(run_53(zero, W, loop_53, 0, 4, 4), LAWENDEB_WEIGHTS_REFUSED, 100, 0, 0));
+    CHECK(ran(run_53(zero, W, unknown_53, 1, 4, 4), LAWENDEB_WEIGHTS_REFUSED, 100, 0, 0));
+    CHECK(ran(run_53(ones, 64, loop_53, 4, 4, 4), LAWENDEB_WEIGHTS_REFUSED, 0, 0, 0));
+    CHECK(ran(run_53(ones, W, loop_53, 0, 4, 4), LAWENDEB_NO_WORDS, 0, 0, 0));
+    CHECK(lent_from(0));
+    CHECK(ran(run_53(ones, W, unknown_53, 1, 4, 4), LAWENDEB_REACHES_INVALID, 0, 0, 0));
+    CHECK(marks[0] == 1 && lengths[0] == 0 && lent_from(1));
+    CHECK(ran(run_53(ones, W, loop_53, 3, 4, 4), LAWENDEB_REACHES_INVALID, 2, 0, 0));
+}
+
+static int feeds_53(struct lawendeb_meter *m, const uint32_t *words, size_t n, size_t q) {
+    return answered(lawendeb_feed_53(words, n, weights_53, LAWENDEB_WEIGHTS, m, q),
+                    LAWENDEB_ACCEPTED, 0);
+}
+
+static int refuses_53(const uint8_t *weights, size_t weights_n, struct lawendeb_meter m,
+                      const uint32_t *words, size_t n, size_t q, uint64_t number, uint64_t place) {
+    struct lawendeb_meter before = m;
+    return answered(lawendeb_feed_53(words, n, weights, weights_n, &m, q), number, place) &&
+           memcmp(&m, &before, sizeof m) == 0;
+}
+
+static void meters_53(void) {
+    enum { W = LAWENDEB_WEIGHTS };
+    const uint32_t odd[1] = {64};
+    const uint32_t back[2] = {0, jump_53(FORPREP_53, 0, -2)};
+    uint8_t zero[W];
+    struct lawendeb_meter m = meter_of(7, 7, 7, 40, 7777);
+    memset(zero, 1, sizeof zero);
+    zero[100] = 0;
+    lawendeb_begin(&m);
+    lawendeb_reset(&m);
+    CHECK(refuses_53(ones, W, m, loop_53, 4, 1, LAWENDEB_NO_STEP, 0));
+    CHECK(feeds_53(&m, loop_53, 4, 0) && shows(m, 1, 0, 10, 40));
+    CHECK(refuses_53(ones, W, m, loop_53, 4, 1, LAWENDEB_NO_STEP, 0));
+    CHECK(feeds_53(&m, loop_53, 4, 2) && shows(m, 1, 2, 40, 40) && m.highest == 40);
+    CHECK(feeds_53(&m, loop_53, 4, 1) && shows(m, 1, 1, 20, 41) && m.highest == 40);
+    CHECK(feeds_53(&m, loop_53, 4, 2) && shows(m, 1, 2, 50, 41));
+    CHECK(feeds_53(&m, loop_53, 4, 3) && shows(m, 1, 3, 90, 41) && m.highest == 90);
+    CHECK(refuses_53(ones, W, m, loop_53, 4, 0, LAWENDEB_NO_STEP, 0));
+    /* a MOVE with A 1 weighs what a MOVE weighs; FORPREP back serves */
+    m = meter(0, 0, 0, 0);
+    CHECK(feeds_53(&m, odd, 1, 0) && shows(m, 1, 0, 20, 0));
+    m = meter(1, 1, 30, 0);
+    CHECK(feeds_53(&m, back, 2, 0) && shows(m, 1, 0, 20, 1));
+    m = meter(0, 0, 0, 0);
+    CHECK(feeds_53(&m, above_53, 3, 0));
+    CHECK(refuses_53(ones, W, m, above_53, 3, 1, LAWENDEB_NO_STEP, 0));
+    CHECK(feeds_53(&m, above_53, 3, 2) && shows(m, 1, 2, 41, 0));
+    /* 1, 18, 11 and 10, in this order */
+    m = meter(1, 4, 1, 5);
+    CHECK(refuses_53(zero, W, m, many, MANY, 9, LAWENDEB_TOO_MANY_WORDS, 0));
+    CHECK(refuses_53(zero, W, m, loop_53, 4, 9, LAWENDEB_WEIGHTS_REFUSED, 100));
+    CHECK(refuses_53(ones, 64, m, loop_53, 4, 9, LAWENDEB_WEIGHTS_REFUSED, 0));
+    CHECK(refuses_53(ones, W, m, loop_53, 4, 9, LAWENDEB_FOREIGN_METER, 0));
+    CHECK(refuses_53(ones, W, meter_of(1, 3, 2, 5, 1), loop_53, 4, 9, LAWENDEB_FOREIGN_METER, 0));
+    CHECK(refuses_53(ones, W, meter(1, 3, 1, 5), loop_53, 4, 9, LAWENDEB_NO_STEP, 0));
+}
+
+static struct lawendeb_nearest nearest_53(const uint32_t *words, size_t n, size_t w) {
+    return lawendeb_distance_to_service_53(words, n, w, marks, n, lengths, n);
+}
+
+static struct lawendeb_crossed crossed_53(const uint32_t *words, size_t n, size_t w) {
+    return lawendeb_crossing_edges_53(words, n, w, marks, n, lengths, n);
+}
+
+static void services_53(void) {
+    const uint64_t fewest[4] = {2, 2, 1, 1}, over[4] = {0, 1, 0, 0};
+    const uint32_t left[4] = {3, 3, 2, 1};
+    size_t w;
+    for (w = 0; w < 4; w++) {
+        lend();
+        CHECK(nearest_is(nearest_53(loop_53, 4, w), LAWENDEB_ACCEPTED, 0, 1, fewest[w]));
+        CHECK(marks[w] == 1 && lengths[w] == left[w] && lent_from(4));
+        CHECK(crossed_is(crossed_53(loop_53, 4, w), LAWENDEB_ACCEPTED, 0, over[w]));
+    }
+    CHECK(nearest_is(nearest_53(loop_53, 4, 4), LAWENDEB_ACCEPTED, 0, 0, 0));
+    CHECK(crossed_is(crossed_53(loop_53, 4, SIZE_MAX), LAWENDEB_ACCEPTED, 0, 0));
+    CHECK(nearest_is(nearest_53(above_53, 3, 1), LAWENDEB_ACCEPTED, 0, 0, 0));
+    CHECK(crossed_is(crossed_53(above_53, 3, 1), LAWENDEB_ACCEPTED, 0, 1));
+    memset(list, 165, sizeof list);
+    CHECK(answered(lawendeb_list_within_53(loop_53, 4, 1, marks, 4, lengths, 4, list, 5),
+                   LAWENDEB_ACCEPTED, 0));
+    CHECK(list[0] == 0 && list[1] == 0 && list[2] == 1 && list[3] == 1 && list[4] == 165);
+
+    lend();
+    CHECK(nearest_is(nearest_53(many, MANY, 0), LAWENDEB_TOO_MANY_WORDS, 0, 0, 0));
+    CHECK(answered(lawendeb_list_within_53(loop_53, 4, 1, marks, 4, lengths, 4, list, 3),
+                   LAWENDEB_SHORT_SLICE, 0));
+    CHECK(crossed_is(crossed_53(loop_53, 0, 0), LAWENDEB_NO_WORDS, 0, 0));
+    CHECK(lent_from(0));
+    CHECK(crossed_is(crossed_53(unknown_53, 1, 0), LAWENDEB_REACHES_INVALID, 0, 0));
+    CHECK(nearest_is(nearest_53(loop_53, 3, 0), LAWENDEB_REACHES_INVALID, 2, 0, 0));
+}
+
+static void touches_53(void) {
+    const uint32_t k = 256;
+    const uint32_t words[14] = {
+        abc_53(0, 1, 300, 0),           abc_53(ADD_53, 3, k + 7, 5),
+        abc_53(GETTABUP_53, 9, 2, k),   abc_53(SETTABUP_53, 2, k + 6, k + 6),
+        abc_53(CALL_53, 7, 0, 0),       abc_53(LOADNIL_53, 255, 1, 0),
+        abc_53(LOADKX_53, 3, 0, 0),     EXTRAARG_53 + 64 * 67108863u,
+        jump_53(FORLOOP_53, 10, 2),     abc_53(SETLIST_53, 4, 0, 1),
+        abc_53(EQ_53, 1, 6, k + 255),   jump_53(JMP_53, 3, 0),
+        abc_53(EQ_53, 1, 6, k + 255),   abc_53(RETURN_53, 7, 3, 0)};
+    struct lawendeb_touches t;
+    t = lawendeb_touches_53(words, 14, 0);
+    CHECK(ranged(t.reads, 1, 300, 300) && ranged(t.writes, 1, 1, 1));
+    CHECK(nothing_else(t, 1, 0, 0, 1, 0));
+    /* RK: a constant above 255, else a register */
+    t = lawendeb_touches_53(words, 14, 1);
+    CHECK(ranged(t.reads, 1, 5, 5) && indexed(t.constants, 1, 7, 0) && ranged(t.writes, 1, 3, 3));
+    CHECK(indexed(t.upvalues, 0, 0, 0) && nothing_else(t, 1, 0, 1, 1, 0));
+    t = lawendeb_touches_53(words, 14, 2);
+    CHECK(indexed(t.constants, 1, 0, 0) && indexed(t.upvalues, 1, 2, 0));
+    CHECK(ranged(t.writes, 1, 9, 9) && nothing_else(t, 0, 0, 1, 1, 0));
+    t = lawendeb_touches_53(words, 14, 3);
+    CHECK(indexed(t.constants, 1, 6, 0) && indexed(t.upvalues, 1, 2, 0));
+    CHECK(indexed(t.upvalue_writes, 0, 0, 0) && nothing_else(t, 0, 0, 1, 0, 0));
+    t = lawendeb_touches_53(words, 14, 4);
+    CHECK(topped(t.reads_to_top, 1, 8) && topped(t.writes_to_top, 1, 7));
+    CHECK(ranged(t.reads, 1, 7, 7) && nothing_else(t, 1, 1, 0, 0, 0));
+    t = lawendeb_touches_53(words, 14, 5);
+    CHECK(ranged(t.writes, 1, 255, 256) && nothing_else(t, 0, 0, 0, 1, 0));
+    t = lawendeb_touches_53(words, 14, 6);
+    CHECK(indexed(t.constants, 1, 67108863, 0) && indexed(t.upvalues, 0, 0, 0));
+    CHECK(ranged(t.writes, 1, 3, 3) && nothing_else(t, 0, 0, 1, 1, 0));
+    /* the loop goes forward: what it writes is listed with that step */
+    t = lawendeb_touches_53(words, 14, 8);
+    CHECK(ranged(t.reads, 1, 10, 12) && t.edge == 11 && t.edge_writes.count == 2);
+    CHECK(t.edge_writes.items[0].first == 10 && t.edge_writes.items[0].last == 10);
+    CHECK(t.edge_writes.items[1].first == 13 && t.edge_writes.items[1].last == 13);
+    CHECK(nothing_else(t, 1, 0, 0, 0, 1));
+    t = lawendeb_touches_53(words, 14, 9);
+    CHECK(ranged(t.reads, 1, 4, 4) && topped(t.reads_to_top, 1, 5));
+    CHECK(topped(t.writes_to_top, 0, 0) && nothing_else(t, 1, 1, 0, 0, 0));
+    t = lawendeb_touches_53(words, 14, 10);
+    CHECK(ranged(t.reads, 1, 6, 6) && indexed(t.constants, 1, 255, 0));
+    CHECK(indexed(t.upvalues, 0, 0, 0) && nothing_else(t, 1, 0, 1, 0, 0));
+    t = lawendeb_touches_53(words, 14, 13);
+    CHECK(ranged(t.reads, 1, 7, 8) && nothing_else(t, 1, 0, 0, 0, 0));
+    /* closing is left out; bad: an EXTRAARG, a test without its JMP, none */
+    CHECK(nothing_else(lawendeb_touches_53(words, 14, 11), 0, 0, 0, 0, 0));
+    CHECK(nothing_else(lawendeb_touches_53(words, 14, 7), 0, 0, 0, 0, 0));
+    CHECK(nothing_else(lawendeb_touches_53(words, 14, 12), 0, 0, 0, 0, 0));
+    CHECK(nothing_else(lawendeb_touches_53(words, 14, 14), 0, 0, 0, 0, 0));
+    CHECK(nothing_else(lawendeb_touches_53(words, 0, 0), 0, 0, 0, 0, 0));
+}
+
+static struct lawendeb_run_range runs_by_53(const uint8_t *low, size_t low_n, const uint8_t *high,
+                                            size_t high_n, const uint32_t *words, size_t n) {
+    return lawendeb_longest_runs_53(words, n, low, low_n, high, high_n, marks, 4, lengths, 4);
+}
+
+/* Two tables, and four meters. */
+static void siblings_53(void) {
+    enum { W = LAWENDEB_WEIGHTS };
+    const struct lawendeb_meter fresh = meter(0, 0, 0, 0);
+    struct lawendeb_meters ms = four(fresh, fresh, fresh, fresh), before;
+    uint8_t zero[W];
+    memset(zero, 1, sizeof zero);
+    zero[100] = 0;
+    lend();
+    CHECK(ran_both(runs_by_53(ones, W, weights_53, W, loop_53, 4), 3, 0, 90, 1));
+    CHECK(lengths[0] == 80 && lengths[1] == 90 && lengths[2] == 70 && lengths[3] == 40);
+    CHECK(lent_from(4));
+    lend();
+    CHECK(refused_both(runs_by_53(ones, W, ones, W, many, MANY), LAWENDEB_TOO_MANY_WORDS, 0));
+    CHECK(refused_both(runs_by_53(zero, W, ones, W, many, 5), LAWENDEB_SHORT_SLICE, 0));
+    CHECK(refused_both(runs_by_53(zero, W, ones, 64, loop_53, 4), LAWENDEB_WEIGHTS_REFUSED, 100));
+    CHECK(refused_both(runs_by_53(others, W, zero, W, loop_53, 4), LAWENDEB_WEIGHTS_REFUSED, 100));
+    /* 19 looks at all of the tables, too */
+    zero[100] = 2;
+    CHECK(refused_both(runs_by_53(zero, W, ones, W, loop_53, 0), LAWENDEB_LOW_ABOVE_HIGH, 100));
+    CHECK(refused_both(runs_by_53(ones, W, ones, W, loop_53, 0), LAWENDEB_NO_WORDS, 0));
+    CHECK(lent_from(0));
+    CHECK(refused_both(runs_by_53(ones, W, ones, W, loop_53, 3), LAWENDEB_REACHES_INVALID, 2));
+
+    /* a script of each version, within one budget */
+    CHECK(answered(lawendeb_feed_four_53(loop_53, 4, weights_53, W, &ms, LAWENDEB_DOME, 10, 0),
+                   LAWENDEB_ACCEPTED, 0));
+    CHECK(shows(ms.dome, 1, 0, 10, 0) && shows(ms.axis, 0, 0, 0, 0));
+    before = ms;
+    CHECK(answered(lawendeb_feed_four(sheet, 4, ones, W, &ms, LAWENDEB_AXIS, 10, 0),
+                   LAWENDEB_OVER_BUDGET, 0));
+    CHECK(answered(lawendeb_feed_four_53(loop_53, 4, weights_53, W, &ms, LAWENDEB_DOME, 39, 2),
+                   LAWENDEB_OVER_BUDGET, 0));
+    CHECK(answered(lawendeb_feed_four_53(loop_53, 4, weights_53, W, &ms, LAWENDEB_DOME, 99, 1),
+                   LAWENDEB_NO_STEP, 0));
+    zero[100] = 0;
+    CHECK(answered(lawendeb_feed_four_53(loop_53, 4, zero, W, &ms, LAWENDEB_DOME, 99, 2),
+                   LAWENDEB_WEIGHTS_REFUSED, 100));
+    CHECK(answered(lawendeb_feed_four_53(many, MANY, zero, W, &ms, LAWENDEB_DOME, 99, 2),
+                   LAWENDEB_TOO_MANY_WORDS, 0));
+    CHECK(answered(lawendeb_feed_four_53(many, MANY, zero, W, &ms, LAWENDEB_DOME, 0, 2),
+                   LAWENDEB_BUDGET_RANGE, 0));
+    CHECK(answered(lawendeb_feed_four_53(many, MANY, zero, W, &ms, 4, 0, 2), LAWENDEB_NO_SCRIPT,
+                   0));
+    CHECK(same_four(ms, before));
+    CHECK(answered(lawendeb_feed_four(sheet, 4, ones, W, &ms, LAWENDEB_AXIS, 11, 0),
+                   LAWENDEB_ACCEPTED, 0));
+    CHECK(answered(lawendeb_feed_four_53(loop_53, 4, weights_53, W, &ms, LAWENDEB_DOME, 41, 2),
+                   LAWENDEB_ACCEPTED, 0));
+    CHECK(shows(ms.axis, 1, 0, 1, 0) && shows(ms.dome, 1, 2, 40, 0));
+    ms.dome.last = 4;
+    before = ms;
+    CHECK(answered(lawendeb_feed_four_53(loop_53, 4, ones, W, &ms, LAWENDEB_DOME, 1, 9),
+                   LAWENDEB_FOREIGN_METER, 0));
+    CHECK(same_four(ms, before));
+}
+
 int main(void) {
     weigh();
+    fields();
     steps();
     runs();
     weighed_runs();
@@ -1166,6 +1571,13 @@ int main(void) {
     chunks();
     deep();
     shown();
+    fields_53();
+    steps_53();
+    runs_53();
+    meters_53();
+    services_53();
+    touches_53();
+    siblings_53();
     printf("calls: %d checks, %d wrong\n", checks, wrong);
     return wrong != 0;
 }

@@ -1,10 +1,11 @@
 /* Lawendeb for C and C++, on x86-64 Linux (System V calls). What the functions do is proved; what
    is asked of the caller stands here.
 
-   Nine archives, to be linked alone or side by side; all are made in target/staticlib/:
+   Ten archives, to be linked alone or side by side; all are made in target/staticlib/:
      libmeter.a     begin, feed and reset, for controllers: `rt staticlib meter`. It needs no
                     symbol.
-     libexports.a   steps, the longest run, records: `rt staticlib exports`. It needs memset.
+     libexports.a   fields, steps, the longest run, records: `rt staticlib exports`. It needs
+                    memset.
      libranges.a    the longest run by two tables: `rt staticlib ranges`. It needs memset.
      libservice.a   nearest service, crossing steps: `rt staticlib service`. It needs memset.
      libtouches.a   what a word reads and writes: `rt staticlib touches`. It needs memset.
@@ -13,6 +14,9 @@
                     symbol.
      librehearsal.a scripts in rotation: `rt staticlib rehearsal`. It needs memset.
      libchunk.a     compiled scripts: `rt staticlib chunk`. It needs memset.
+     liblua53.a     scripts of Lua 5.3, for older controllers: `rt staticlib lua53`. It needs
+                    memset.
+   All but the last are for scripts of Lua 5.4; the last part of this header says which to use.
    They write nothing but what a call is lent: no heap, no static data, and as measured less than
    1 kB of stack, but less than 2 kB for what a word touches, for a question about services and for
    a rehearsal, less than 13 kB for a pass over a chunk, which goes down with its functions, 32
@@ -181,6 +185,24 @@ struct lawendeb_answer lawendeb_reset_four(struct lawendeb_meters *ms, uint32_t 
 struct lawendeb_answer lawendeb_feed_four(const uint32_t *words, size_t n, const uint8_t *weights,
                                           size_t weights_n, struct lawendeb_meters *ms,
                                           uint32_t script, uint32_t budget, size_t q);
+
+/* ---- the fields of a word: libexports.a */
+
+/* The mode of an opcode, as lopcodes.h has it: which of the fields it uses. */
+#define LAWENDEB_MODE_NONE 0 /* of an unknown opcode */
+#define LAWENDEB_MODE_ABC 1
+#define LAWENDEB_MODE_ABX 2
+#define LAWENDEB_MODE_ASBX 3
+#define LAWENDEB_MODE_AX 4
+#define LAWENDEB_MODE_SJ 5 /* Lua 5.4 alone */
+
+/* Every field of a word, whatever its mode; those with an s in front are the signed ones. */
+struct lawendeb_fields {
+    uint32_t mode, opcode, a, k, b, c, bx, ax;
+    int32_t sb, sc, sbx, sj;
+};
+
+struct lawendeb_fields lawendeb_decode(uint32_t word);
 
 /* ---- steps and the longest run: libexports.a */
 
@@ -423,6 +445,69 @@ struct lawendeb_name {
 struct lawendeb_name lawendeb_upvalue_name(const uint8_t *chunk, size_t n, const uint64_t *own,
                                            size_t own_n, const uint8_t *list, size_t list_n,
                                            const uint64_t *other, size_t other_n, size_t index);
+
+/* ---- scripts for older controllers: liblua53.a
+
+   A mount whose controller runs Lua 5.3 uses the functions that end in _53, every other mount those
+   above. The words are those of Lua 5.3.6: opcodes 0 to 46, its own fields and its own steps. What
+   is said above of a function holds of the one with _53 behind its name: answers, slices, refusals
+   and their order, stack and time. Three things differ:
+     - a word weighs what stands at its low six bits, weights[word & 63]. All LAWENDEB_WEIGHTS are
+       looked at all the same: 0 at any of them is refused by 18, at 100 too;
+     - a TAILCALL goes on at the next word, where a C function returns, so that it is bad as the
+       last one. A RETURN alone has no step;
+     - what a word touches is by lvm.c and lopcodes.h of 5.3.6. Registers go up to 511 where B or C
+       names one, and further where a count does.
+
+   Nothing in a word tells its version. Words of 5.4 given to a function of 5.3 are answered as
+   words of 5.3, and the other way round: no number refuses them, and the answer is not one about
+   that script. So the version is to be kept with the words.
+
+   Meters have no version: begin and reset are the same functions, and a meter is fed by the
+   functions of its script's version alone. Four scripts within one budget may be of both versions,
+   each fed by its own. Records, registers set before use, rehearsals and compiled scripts are there
+   for 5.4 alone; a chunk of 5.3 is refused by 14. */
+
+struct lawendeb_fields_53 {
+    uint32_t mode, opcode, a, b, c, bx, ax;
+    int32_t sbx;
+};
+
+struct lawendeb_fields_53 lawendeb_decode_53(uint32_t word);
+
+struct lawendeb_successors lawendeb_successors_53(const uint32_t *words, size_t n, size_t p);
+
+struct lawendeb_run lawendeb_longest_run_53(const uint32_t *words, size_t n, const uint8_t *weights,
+                                            size_t weights_n, uint8_t *marks, size_t marks_n,
+                                            uint32_t *lengths, size_t lengths_n);
+
+struct lawendeb_run_range lawendeb_longest_runs_53(const uint32_t *words, size_t n,
+                                                   const uint8_t *low, size_t low_n,
+                                                   const uint8_t *high, size_t high_n,
+                                                   uint8_t *marks, size_t marks_n,
+                                                   uint32_t *lengths, size_t lengths_n);
+
+struct lawendeb_answer lawendeb_feed_53(const uint32_t *words, size_t n, const uint8_t *weights,
+                                        size_t weights_n, struct lawendeb_meter *m, size_t q);
+
+struct lawendeb_answer lawendeb_feed_four_53(const uint32_t *words, size_t n,
+                                             const uint8_t *weights, size_t weights_n,
+                                             struct lawendeb_meters *ms, uint32_t script,
+                                             uint32_t budget, size_t q);
+
+struct lawendeb_nearest lawendeb_distance_to_service_53(const uint32_t *words, size_t n, size_t w,
+                                                        uint8_t *marks, size_t marks_n,
+                                                        uint32_t *lengths, size_t lengths_n);
+
+struct lawendeb_answer lawendeb_list_within_53(const uint32_t *words, size_t n, size_t d,
+                                               uint8_t *marks, size_t marks_n, uint32_t *lengths,
+                                               size_t lengths_n, uint8_t *list, size_t list_n);
+
+struct lawendeb_crossed lawendeb_crossing_edges_53(const uint32_t *words, size_t n, size_t w,
+                                                   uint8_t *marks, size_t marks_n,
+                                                   uint32_t *lengths, size_t lengths_n);
+
+struct lawendeb_touches lawendeb_touches_53(const uint32_t *words, size_t n, size_t p);
 
 #ifdef __cplusplus
 }

@@ -13,11 +13,14 @@ fn main() {
     let out = PathBuf::from(std::env::var("OUT_DIR").unwrap());
     let c = Path::new("../c");
     let mut objects = vec![];
+    let lua53 = std::env::var("CARGO_FEATURE_LUA53").is_ok();
+    let steps = if lua53 { "../lua53/steps.h" } else { "steps.h" };
     for name in ["twin", "lift"] {
         let object = out.join(format!("{name}.o"));
         must(
             Command::new("gcc")
                 .args(["-O3", "-Wall", "-Wextra", "-Werror", "-c"])
+                .arg(format!("-DTWIN_STEPS=\"{steps}\""))
                 .arg(c.join(format!("{name}.c")))
                 .arg("-o")
                 .arg(&object),
@@ -28,6 +31,7 @@ fn main() {
     let _ = std::fs::remove_file(&archive);
     must(Command::new("ar").arg("rcs").arg(&archive).args(&objects));
     println!("cargo:rerun-if-changed=../c");
+    println!("cargo:rerun-if-changed=../lua53/steps.h");
     println!("cargo:rustc-link-search=native={}", out.display());
     println!("cargo:rustc-link-lib=static=twin");
 
@@ -35,7 +39,8 @@ fn main() {
     let folder = std::env::var("RATTLE_LIBS").expect("RATTLE_LIBS, which compare/run and compare/benchmarks set");
     println!("cargo:rerun-if-changed={folder}");
     println!("cargo:rustc-link-search=native={folder}");
-    for name in ["exports", "meter", "budget", "ranges", "service"] {
+    let archives: &[&str] = if lua53 { &["lua53", "meter", "budget"] } else { &["exports", "meter", "budget", "ranges", "service"] };
+    for name in archives {
         println!("cargo:rustc-link-lib=static={name}");
     }
 }

@@ -1,7 +1,8 @@
 """The cases of crates/touches_cases by the second reading: prints what the program is to write,
 which is how its stored output was made.
 """
-from reading import CODE, Touched, of_kind, ranges
+from places import of_kind, ranges
+from reading import CODE, Touched
 
 OFFSET_SJ = 16777215
 

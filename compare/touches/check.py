@@ -129,7 +129,7 @@ def compare(side, label, functions, counts):
                     bad += t.bad
                     one_way += bool(t.edge_writes)
                     if not t.bad:
-                        met[words[p] & 127] += 1
+                        met[reading.opcode(words[p])] += 1
         batch.clear()
 
     for words in functions:
@@ -183,10 +183,10 @@ WRONG_WRITES = (own_a, by_the_comment, late_control, on_both_steps, saturating)
 WRONG_READS = (always_a_register, no_top)
 
 
-def caught(side, wrong, functions):
+def caught(side, wrong, of_reads, functions):
     """A word that tells the reading from the lists, if its writes, or reads, are those that `wrong` makes of them."""
     right, right_reads = reading.written, reading.reads
-    if wrong in WRONG_READS:
+    if of_reads:
         reading.reads = lambda words, p: wrong(words, p, right_reads(words, p))
     else:
         reading.written = lambda words, p, leading: wrong(words, p, right(words, p, leading))
@@ -200,7 +200,8 @@ def caught(side, wrong, functions):
     return None
 
 
-def main():
+def main(boundaries, pairs, random_function, wrong_writes, wrong_reads):
+    """The comparison with these functions and wrong readings; lua53/lists.py has others."""
     program, path = sys.argv[1:3]
     seed = int(sys.argv[3]) if len(sys.argv) > 3 else 1
     many = int(sys.argv[4]) if len(sys.argv) > 4 else 20000
@@ -212,15 +213,15 @@ def main():
     total += compare(side, "real functions, damaged", damaged(rng, functions, many), counts)
     total += compare(side, "random functions", (random_function(rng) for _ in range(many)), counts)
     never = [name for name in NAMES if not counts[CODE[name]]]
-    print(f"all: {total} words; opcodes met in good words: {83 - len(never)} of 83; never: {' '.join(never)}")
+    print(f"all: {total} words; opcodes met in good words: {len(NAMES) - len(never)} of {len(NAMES)}; never: {' '.join(never)}")
     # random words seldom have B 0, so one function that reads up to the top stands among them
     few = [random_function(rng) for _ in range(1000)] + [[CODE["CALL"], CODE["RETURN"]]]
-    for wrong in WRONG_WRITES + WRONG_READS:
-        found = caught(side, wrong, few)
+    for wrong in wrong_writes + wrong_reads:
+        found = caught(side, wrong, wrong in wrong_reads, few)
         print(f"wrong on purpose, {wrong.__name__}: {'caught at word %d of %s' % (found[1], found[0]) if found else 'NOT CAUGHT'}")
         if not found:
             sys.exit(1)
 
 
 if __name__ == "__main__":
-    main()
+    main(boundaries, pairs, random_function, WRONG_WRITES, WRONG_READS)

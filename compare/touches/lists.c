@@ -4,6 +4,9 @@
 #include "lawendeb.h"
 #include <stdio.h>
 #include <stdlib.h>
+#ifndef TOUCHES
+#define TOUCHES lawendeb_touches /* or another version's */
+#endif
 
 static uint32_t *put_ranges(uint32_t *out, const struct lawendeb_ranges *r) {
     for (int i = 0; i < 3; i++) {
@@ -48,7 +51,7 @@ int main(void) {
         if (fread(words, 4, n, stdin) != n)
             return 1;
         for (size_t p = 0; p <= n; p++) {
-            struct lawendeb_touches t = lawendeb_touches(words, n, p);
+            struct lawendeb_touches t = TOUCHES(words, n, p);
             put(&t);
         }
         free(words);

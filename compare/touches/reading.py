@@ -1,12 +1,11 @@
 """What a word touches: document 02, C-14, read a second time in plain Python, from its words,
 lopcodes.h and lvm.c of Lua 5.4.8.
 
-Nothing here is taken from the Rattle crates. A place is a pair: ("R", register), ("K", constant),
-("U", upvalue) or ("T", register), the last for all registers from there up to the stack top. A
-word's case gives the places read and, for each way on, where it leads and the places written on it;
-what is written on every way is listed plainly, else with the way's word. `touches` answers the
-numbers of include/lawendeb.h's struct in their order.
+Nothing here is taken from the Rattle crates. A word's case gives the places read and, for each way
+on, where it leads and the places written on it; what is written on every way is listed plainly, else
+with the way's word (places.py).
 """
+from places import NUMBERS, K, Places, R, U, between
 
 NAMES = """
 MOVE LOADI LOADF LOADK LOADKX LOADFALSE LFALSESKIP LOADTRUE LOADNIL GETUPVAL SETUPVAL GETTABUP
@@ -91,23 +90,6 @@ def ways(words, p):
     elif name == "TFORCALL":
         good = name_at(words, p + 1) == "TFORLOOP"
     return to if good and all(0 <= q < len(words) for q in to) else None
-
-
-def R(*registers):
-    return {("R", r) for r in registers}
-
-
-def K(index):
-    return {("K", index)}
-
-
-def U(index):
-    return {("U", index)}
-
-
-def between(first, last):
-    """Registers from the first to the last, none if the last is lower."""
-    return R(*range(first, last + 1))
 
 
 def reads(words, p):
@@ -201,74 +183,8 @@ def written(words, p, leading):
     return none
 
 
-def of_kind(places, kind):
-    return sorted(index for which, index in places if which == kind)
+def Touched(words, p):
+    return Places(words, p, ways, reads, written)
 
 
-def ranges(places):
-    """The registers among the places, in longest ranges."""
-    found = []
-    for r in of_kind(places, "R"):
-        if found and found[-1][1] + 1 == r:
-            found[-1][1] = r
-        else:
-            found.append([r, r])
-    return found
-
-
-ROOM = 3  # what each array holds
-
-
-def ranges_numbers(places):
-    found = ranges(places)
-    flat = [number for pair in found for number in pair]
-    return flat + [0] * (2 * ROOM - len(flat)) + [len(found)]
-
-
-def indices_numbers(places, kind):
-    found = of_kind(places, kind)
-    return found + [0] * (ROOM - len(found)) + [len(found)]
-
-
-def top_numbers(places):
-    found = of_kind(places, "T")
-    assert len(found) <= 1
-    return [found[0], 1] if found else [0, 0]
-
-
-class Touched:
-    """The places of a word: read, written on every way on, and written on the way to `edge` only."""
-
-    def __init__(self, words, p):
-        self.reads, self.writes, self.edge_writes, self.edge = set(), set(), set(), 0
-        leading = ways(words, p)
-        self.bad = leading is None
-        if self.bad:
-            return
-        self.reads = reads(words, p)
-        if not leading:
-            return
-        on = written(words, p, leading)
-        assert len(on) == len(leading)
-        self.writes = set.intersection(*on)
-        rest = [(to, places - self.writes) for to, places in zip(leading, on) if places - self.writes]
-        assert len(rest) <= 1
-        for to, places in rest:
-            self.edge, self.edge_writes = to, places
-
-    def numbers(self):
-        return (
-            ranges_numbers(self.reads)
-            + top_numbers(self.reads)
-            + indices_numbers(self.reads, "K")
-            + indices_numbers(self.reads, "U")
-            + ranges_numbers(self.writes)
-            + top_numbers(self.writes)
-            + indices_numbers(self.writes, "U")
-            + ranges_numbers(self.edge_writes)
-            + [self.edge]
-        )
-
-
-NUMBERS = 38
 assert len(Touched([], 0).numbers()) == NUMBERS

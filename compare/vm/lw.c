@@ -6,6 +6,16 @@
 #include <stdlib.h>
 #include <string.h>
 
+/* What a version's words are, and the names of its functions. */
+#ifdef LUA53
+enum { OPCODE = 63 };
+#define lawendeb_successors lawendeb_successors_53
+#define lawendeb_longest_run_3 lawendeb_longest_run_53
+#define lawendeb_feed_4 lawendeb_feed_53
+#else
+enum { OPCODE = 127 };
+#endif
+
 #ifdef RATTLE
 struct twin_successors lawendeb_successors(const uint32_t *words, size_t n, size_t p);
 struct twin_run lawendeb_longest_run_3(const uint32_t *words, size_t n, const uint8_t *weights, size_t weights_n,
@@ -42,7 +52,7 @@ static struct lw_function *functions[BUCKETS];
 static unsigned long activations, words_run, steps, metered, services, reached, large, resumed[3];
 static unsigned long by_opcode[128], interrupted[128]; /* words run, and words that a yield interrupted */
 
-static unsigned op(const struct lw_function *f, size_t p) { return f->words[p] & 127; }
+static unsigned op(const struct lw_function *f, size_t p) { return f->words[p] & OPCODE; }
 
 static void fail(const struct lw_function *f, size_t from, size_t to, const char *what) {
     fprintf(stderr, "lw: %s: word %zu (opcode %u) to %zu of %zu, L %lu\n",
@@ -100,7 +110,7 @@ static bool is_step(const struct lw_function *f, size_t p, size_t q) {
 /* What a resumed coroutine may do beside the table: CLOSE and RETURN are repeated to close further variables, and a
    TAILCALL whose C function yielded goes on to the RETURN after it. */
 static int resumes(const struct lw_activation *a, size_t q) {
-    if (!a->resumed) return -1;
+    if (!a->resumed || OPCODE == 63) return -1; /* in 5.3 nothing is */
     unsigned o = op(a->function, a->last);
     if (o == OP_CLOSE && q == a->last) return 0;
     if (o == OP_RETURN && q == a->last) return 1;

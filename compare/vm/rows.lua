@@ -5,26 +5,12 @@
 -- it is not tried there (false). `switch` is a build without the table of jumps.
 local here = arg[0]:match("^(.*)/") or "."
 local asm = dofile(here .. "/assemble.lua")
+local cases = assert(loadfile(here .. "/cases.lua"))(asm)
+local case, equal, run, fails, with, hooked = cases.case, cases.equal, cases.run, cases.fails, cases.with, cases.hooked
 local op, abc, abx, loadi = asm.op, asm.abc, asm.abx, asm.loadi
 local jump, extra, give, vgive = asm.jump, asm.extra, asm.give, asm.vgive
-local cases = {}
-local function case(rows, run, builds) cases[#cases + 1] = { rows = rows, run = run, builds = builds or {} } end
-local PAST = { release = false, asserts = false, sanitized = "AddressSanitizer" }
+local PAST = cases.PAST
 
-local function equal(got, ...)
-  local want = table.pack(...)
-  for i = 1, math.max(got.n, want.n) do
-    if got[i] ~= want[i] or math.type(got[i]) ~= math.type(want[i]) then
-      error(("value %d is %s, not %s"):format(i, tostring(got[i]), tostring(want[i])), 2)
-    end
-  end
-end
--- Runs the words with the arguments in R[0] on; f holds constants, upvalues and inner functions.
-local function run(words, args, f, env)
-  f = f or {}
-  f.words, f.params = words, f.vararg and 0 or args.n or #args
-  return table.pack(asm.make(f, env)(table.unpack(args, 1, args.n or #args)))
-end
 -- The same for a function of variable arguments, with room above R[255].
 local function vrun(words, args)
   select("#", table.unpack({}, 1, 4000))
@@ -32,16 +18,11 @@ local function vrun(words, args)
 end
 local VARARGS = op.VARARGPREP
 local function varargs(a, n) return abc(op.VARARG, a, 0, n and n + 1 or 0) end
-local function fails(text, ...)
-  local ok, message = pcall(...)
-  assert(not ok and tostring(message):find(text, 1, true), message)
-end
 -- Whether a test takes the JMP after it along (true), or skips it.
 local function jumps(word, args, f)
   local way = { word, jump(2), op.LOADFALSE | 30 << 7, abc(op.RETURN1, 30), op.LOADTRUE | 30 << 7, abc(op.RETURN1, 30) }
   return run(way, args, f)[1]
 end
-local function with(events) return setmetatable({}, events) end
 
 -- Operands and tables
 case({ "operands 3" }, function() run({ 3, give(0, 1) }, {}) end, PAST)
@@ -441,15 +422,6 @@ end, { asserts = "OP_ADD" })
 case({ "asserted 19, 210" }, function() assert(grown(19, 1) == grown(19, 0)) end, { asserts = "iAx" })
 case({ "asserted 32787, 82" }, function() assert(grown(32787, 0) == grown(19, 0)) end, { asserts = "iAx" })
 
--- Words taken along: how often a count hook sees the words, those of what they call left out.
-local function hooked(words, args)
-  local f = asm.make({ words = words, params = #args })
-  local count = 0
-  debug.sethook(function() if debug.getinfo(2, "f").func == f then count = count + 1 end end, "", 1)
-  f(table.unpack(args))
-  debug.sethook()
-  return count
-end
 case({ "along 32825, 2147483704, 71, 72" }, function()
   local words = { 32825, 2147483704, 71, 72 }
   assert(hooked(words, { 1 }) == 2 and hooked({ jump(0), 71 }, { 1 }) == 2)
@@ -481,43 +453,4 @@ local sections = {
   ["## Words taken along"] = "along", ["## Where lvm.c goes on although the word is bad"] = "bad",
   ["The other way round: words that document 01"] = "asserted", ["## After a yield"] = "yields",
 }
-local function rows_of(path)
-  local rows, order, section = {}, {}, nil
-  for line in io.lines(path) do
-    if line:find("^#") then section = nil end
-    for head, name in pairs(sections) do if line:sub(1, #head) == head then section = name end end
-    local first, second = line:match("^| (.-) | (.-) |")
-    local cell = section and first and (section:find("^[oet]") and second or first) or ""
-    local words = cell:match("^%d[%d, or]*") or section == "yields" and cell:match("^%u+$")
-    if words then
-      local key = section .. " " .. words:gsub("[, or]+$", "")
-      if not rows[key] then order[#order + 1] = key end
-      rows[key] = true
-    end
-  end
-  return rows, order
-end
-local chosen = tonumber(arg[2])
-if chosen then
-  cases[chosen].run()
-  print("passed")
-else
-  local rows, order = rows_of(arg[1])
-  local tried = {}
-  for _, c in ipairs(cases) do
-    for _, row in ipairs(c.rows) do
-      assert(rows[row], "no row of the document: " .. row)
-      tried[row] = true
-    end
-  end
-  local count, untried = 0, {}
-  for _, row in ipairs(order) do if tried[row] then count = count + 1 else untried[#untried + 1] = row end end
-  io.stderr:write(("%d rows, of which %d have cases; without: %s\n"):format(#order, count, table.concat(untried, "; ")))
-  for i, c in ipairs(cases) do
-    for _, build in ipairs { "release", "asserts", "sanitized", "switch" } do
-      local wanted = c.builds[build]
-      if wanted == nil then wanted = build ~= "switch" end
-      if wanted then print(i, build, wanted == true and "passed" or wanted, table.concat(c.rows, "; ")) end
-    end
-  end
-end
+cases.finish(sections, { "release", "asserts", "sanitized", "switch" })

@@ -29,6 +29,28 @@ pub fn jump(offset: i64) -> u32 {
     ax(56, (16_777_215 + offset) as u32)
 }
 
+/// Opcode values, known or not.
+pub const OPCODES: u32 = 128;
+/// A return: RETURN0.
+pub const END: u32 = 71 | 1 << 16;
+/// What a report tries to leave of a word: the opcode, all but one field, nothing.
+pub const PLAINER: [u32; 6] = [0x0000_007f, 0x00ff_ffff, 0xff00_ffff, 0xffff_7fff, 0xffff_807f, 0x0000_0000];
+
+/// Two words of these opcode values, with each of the fields that decide what is wanted of the second.
+pub fn pairs(first: u32, second: u32) -> [[u32; 2]; 2] {
+    [0, 1].map(|k| [abc(first, 3, k, 1, 2), abc(second, 1, k, 0, 0)])
+}
+
+/// A word that weighs by entry i.
+pub fn of_slot(i: u32) -> u32 {
+    abc(i, 3, 0, 1, 2)
+}
+
+/// FORPREP and, so many words on, its FORLOOP.
+pub fn loop_of(n: usize) -> [u32; 2] {
+    [abx(74, 0, n as u32 - 1), abx(73, 0, n as u32)]
+}
+
 /// Every opcode value with every boundary of its fields.
 pub fn boundaries() -> Vec<u32> {
     let mut all = vec![];

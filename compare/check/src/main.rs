@@ -81,6 +81,7 @@ fn main() {
 
     let start = Instant::now();
     let c = patches::all(&sides, seed, functions / 8);
+    assert!(c.between > 0 && c.before > 0, "words next to reachable ones are not free to change");
     println!(
         "patches: {} words of {} lists, dead words of {} functions, {} of them real: each side answers the same; next to a reachable word {} lists, answered otherwise {} with the patch between two and {} before one",
         c.words, c.lists, c.functions, c.real, c.near, c.between, c.before

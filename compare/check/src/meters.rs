@@ -269,7 +269,7 @@ fn hold_single(sides: &[Side], case: &Case, counts: &mut Counts) {
 
 /// Each weight alone a zero and every count around 128, with meters that 11 or 10 would refuse among them.
 fn each_weight(sides: &[Side], rng: &mut Rng, counts: &mut Counts) {
-    let words = [0, gen::abc(71, 0, 0, 1, 0)];
+    let words = [0, gen::END];
     let zeros = (0..128).map(|i| Weights((0..128).map(|j| u8::from(i != j)).collect()));
     let miscounted = (0..260).map(|n| Weights(vec![255; n]));
     for weights in zeros.chain(miscounted) {

@@ -196,7 +196,6 @@ pub fn all(sides: &[Side], seed: u64, wanted: u64) -> Counts {
         let words = with_table(&mut rng, &code, &other);
         hold(sides, &mut rng, &words, false, &mut counts);
     }
-    assert!(counts.between > 0 && counts.before > 0, "words next to reachable ones are not free to change");
     counts
 }
 

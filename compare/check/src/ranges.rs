@@ -134,7 +134,7 @@ pub fn range(rng: &mut Rng, words: Vec<u32>) -> Range {
         // one entry apart, often that of a word
         2..=4 => {
             high = low.clone();
-            let of_word = |rng: &mut Rng| words[rng.below(words.len())] as usize % 128;
+            let of_word = |rng: &mut Rng| model::word::slot(words[rng.below(words.len())]);
             let i = if words.is_empty() || rng.once_in(4) { rng.below(128) } else { of_word(rng) };
             high.0[i] = low.0[i] + rng.below(256 - usize::from(low.0[i])) as u8;
         }
@@ -161,9 +161,9 @@ pub fn range(rng: &mut Rng, words: Vec<u32>) -> Range {
 
 /// Each entry alone apart, by so much up or down; and each alone a zero of either table, before an entry that is out of order.
 fn each_entry(sides: &[Side], counts: &mut Counts) {
-    let end = gen::abc(71, 0, 0, 1, 0);
+    let end = gen::END;
     for i in 0..128 {
-        let words = [0, gen::abc(i as u32, 3, 0, 1, 2), end, end];
+        let words = [0, gen::of_slot(i as u32), end, end];
         for (l, h) in [(7, 8), (7, 255), (8, 7), (255, 7), (0, 7), (7, 0), (0, 0)] {
             for last in [7, 6] {
                 let (mut low, mut high) = (weights::all(7), weights::all(7));
@@ -192,7 +192,7 @@ pub fn all(sides: &[Side], seed: u64, wanted: u64) -> Counts {
     for n in [32_767usize, 32_768, 32_769] {
         for spare in [(0, 0), (-1, 0), (0, -1), (3, 5)] {
             let mut words = gen::whole(&mut rng, n);
-            words.resize(n, gen::abc(71, 0, 0, 1, 0));
+            words.resize(n, gen::END);
             hold(sides, &range(&mut rng, words), spare, &mut counts);
         }
     }

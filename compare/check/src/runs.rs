@@ -130,11 +130,10 @@ fn hold(sides: &[Side], f: &Function, spare: Spare, counts: &mut Counts) {
 
 /// All pairs of opcodes, and all triples of those that matter to companions, before a return.
 fn neighbours(sides: &[Side], weights: &Weights, counts: &mut Counts) {
-    let end = gen::abc(71, 0, 0, 1, 0);
-    for first in 0..128 {
-        for second in 0..128 {
-            for k in 0..2 {
-                let pair = [gen::abc(first, 3, k, 1, 2), gen::abc(second, 1, k, 0, 0)];
+    let end = gen::END;
+    for first in 0..gen::OPCODES {
+        for second in 0..gen::OPCODES {
+            for pair in gen::pairs(first, second) {
                 hold(sides, &function(&pair, weights), (0, 0), counts);
                 hold(sides, &function(&[pair[0], pair[1], end], weights), (0, 0), counts);
             }
@@ -154,7 +153,7 @@ fn neighbours(sides: &[Side], weights: &Weights, counts: &mut Counts) {
 /// Word 0 of every boundary, with a landing place for short jumps.
 fn boundaries(sides: &[Side], weights: &Weights, counts: &mut Counts) {
     for word in gen::boundaries() {
-        let end = gen::abc(71, 0, 0, 1, 0);
+        let end = gen::END;
         hold(sides, &function(&[end, word, end, end], weights), (0, 0), counts);
     }
 }
@@ -170,7 +169,7 @@ fn limits(sides: &[Side], rng: &mut Rng, counts: &mut Counts) {
             }
             let mixed = gen::whole(rng, n.max(1));
             let mut cut = gen::whole(rng, n.max(1));
-            cut.resize(n, gen::abc(71, 0, 0, 1, 0));
+            cut.resize(n, gen::END);
             for words in [straight, back, mixed, cut] {
                 for weights in [weights::all(255), weights::any(rng), weights::zeros(rng, 2), weights::miscounted(rng)] {
                     hold(sides, &function(&words, &weights), spare, counts);
@@ -181,9 +180,8 @@ fn limits(sides: &[Side], rng: &mut Rng, counts: &mut Counts) {
     // Jumps that cross all of the largest function.
     for n in [32_767usize, 32_768] {
         let mut words = vec![0; n];
-        words[0] = gen::abx(74, 0, n as u32 - 3);
-        words[n - 2] = gen::abx(73, 0, n as u32 - 2);
-        words[n - 1] = gen::abc(71, 0, 0, 1, 0);
+        [words[0], words[n - 2]] = gen::loop_of(n - 2);
+        words[n - 1] = gen::END;
         hold(sides, &function(&words, &weights::distinct()), (0, 0), counts);
         words[0] = gen::jump(n as i64 - 2);
         hold(sides, &function(&words, &weights::distinct()), (0, 0), counts);
@@ -192,9 +190,9 @@ fn limits(sides: &[Side], rng: &mut Rng, counts: &mut Counts) {
 
 /// Each weight alone a zero, and every count around 128; each weight alone another than the rest, for each opcode value.
 fn each_weight(sides: &[Side], counts: &mut Counts) {
-    let end = gen::abc(71, 0, 0, 1, 0);
+    let end = gen::END;
     for i in 0..128 {
-        let words = [0, gen::abc(i as u32, 3, 0, 1, 2), end, end];
+        let words = [0, gen::of_slot(i as u32), end, end];
         for weight in [0, 1, 2, 255] {
             let mut weights = weights::all(7);
             weights.0[i] = weight;

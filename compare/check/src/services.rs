@@ -169,7 +169,7 @@ pub fn all(sides: &[Side], seed: u64, wanted: u64) -> Counts {
     let mut counts = Counts::default();
     let mut rng = Rng::new(seed);
     let telling = gen::telling();
-    let end = gen::abc(71, 0, 0, 1, 0);
+    let end = gen::END;
     for &first in &telling {
         for &second in &telling {
             for &third in &telling {

@@ -1,5 +1,7 @@
 //! The smallest input that still fails, by greedy removal.
 
+use crate::gen;
+
 /// Takes the first smaller candidate that still fails, until none does.
 pub fn shrink<T: Clone>(start: T, smaller: impl Fn(&T) -> Vec<T>, fails: impl Fn(&T) -> bool) -> T {
     let mut best = start;
@@ -30,8 +32,7 @@ pub fn shorter<T: Clone>(list: &[T]) -> Vec<Vec<T>> {
 pub fn plainer(words: &[u32]) -> Vec<Vec<u32>> {
     let mut all = vec![];
     for (i, &w) in words.iter().enumerate().take(200) {
-        let masks = [0x0000_007f, 0x00ff_ffff, 0xff00_ffff, 0xffff_7fff, 0xffff_807f, 0x0000_0000];
-        for simple in masks.iter().map(|m| w & m).filter(|&s| s < w) {
+        for simple in gen::PLAINER.iter().map(|m| w & m).filter(|&s| s < w) {
             let mut copy = words.to_vec();
             copy[i] = simple;
             all.push(copy);

@@ -1,8 +1,17 @@
-//! Functions that luac made of real scripts (words/real.txt, by words/extract.lua from vm/scripts).
+//! Functions that luac made of real scripts (words/real.txt, by words/extract.lua from vm/scripts; lua53/real.txt).
 
 use crate::input::Input;
 
+#[cfg(not(feature = "lua53"))]
 const TEXT: &str = include_str!("../../words/real.txt");
+#[cfg(feature = "lua53")]
+const TEXT: &str = include_str!("../../lua53/real.txt");
+
+/// A return, and the words that begin a main function before its own: VARARGPREP in 5.4.
+#[cfg(not(feature = "lua53"))]
+const FRAME: (u32, usize) = (71 | 1 << 16, 1);
+#[cfg(feature = "lua53")]
+const FRAME: (u32, usize) = (38 | 1 << 23, 0);
 
 fn numbers<T: std::str::FromStr>(text: &str) -> Vec<T>
 where
@@ -45,9 +54,9 @@ pub fn functions() -> Vec<(&'static str, Input)> {
 /// Real code of exactly n words: whole bodies one after another, as luac leaves them for blocks in one function (jumps are
 /// relative), with plain words before them and a return at the end. Every word before a return of its own is reachable.
 pub fn of_length(n: usize) -> Vec<u32> {
-    const RETURN0: u32 = 71 | 1 << 16;
+    let (end, opening) = FRAME;
     let all = functions();
-    let mains: Vec<&[u32]> = all.iter().filter(|f| f.0.ends_with(".lua:0")).map(|f| &f.1.words[1..f.1.words.len() - 1]).collect();
+    let mains: Vec<&[u32]> = all.iter().filter(|f| f.0.ends_with(".lua:0")).map(|f| &f.1.words[opening..f.1.words.len() - 1]).collect();
     let mut body: Vec<u32> = vec![];
     while let Some(next) =
         mains.iter().cycle().skip(body.len() % mains.len()).take(mains.len()).find(|m| body.len() + m.len() < n)
@@ -60,6 +69,6 @@ pub fn of_length(n: usize) -> Vec<u32> {
     }
     let mut words = vec![0; n - 1 - body.len()];
     words.extend(body);
-    words.push(RETURN0);
+    words.push(end);
     words
 }

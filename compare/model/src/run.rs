@@ -2,6 +2,7 @@
 
 use crate::steps::{serves, steps};
 use crate::weights::{self, weight};
+use crate::word::slot;
 use crate::WORDS;
 
 /// Number and place of the refusal, L and its first word.
@@ -93,7 +94,7 @@ pub fn brute(words: &[u32], weights: &[u8]) -> (RunAnswer, Vec<u8>, Vec<u32>) {
 
 /// The most weight of any walk from p along steps that do not serve: "A stretch beginning at a word weighs that word too."
 fn walk(words: &[u32], weights: &[u8], p: usize) -> u32 {
-    let own = u32::from(weights[(words[p] & 127) as usize]);
+    let own = u32::from(weights[slot(words[p])]);
     let mut most = own;
     for &q in steps(words, p).list() {
         if !serves(p, q) {

@@ -44,6 +44,11 @@ pub fn opcode(word: u32) -> u32 {
     bits(word, 0, 6)
 }
 
+/// The entry of the weights that a word weighs by: "indexed by the low seven bits".
+pub fn slot(word: u32) -> usize {
+    word as usize % 128
+}
+
 /// The mode of each opcode value, as the opmodes of lopcodes.c of Lua 5.4.8 have it: 1 iABC, 2 iABx,
 /// 3 iAsBx, 4 iAx, 5 isJ; 0 for 83 to 127, which have none.
 pub fn mode(opcode: u32) -> u32 {

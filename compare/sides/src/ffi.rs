@@ -1,7 +1,7 @@
 //! The seam: what the C twin and the proved library export, declared once, and each as a [`Side`].
 //!
 //! A slice passes as pointer, length; a number as itself; an answer is a `#[repr(C)]` struct of numbers by value, as
-//! include/lawendeb.h has them. Nothing checks these declarations against the Rattle source: the differential tests do.
+//! include/lawendeb.h has them; with the feature lua53 the functions are those of 5.3. Nothing checks these declarations against the Rattle source: the differential tests do.
 
 use crate::{Side, Successors};
 use model::flat::Record;
@@ -260,7 +260,9 @@ pub mod rattle {
     use super::*;
 
     extern "C" {
+        #[cfg_attr(feature = "lua53", link_name = "lawendeb_successors_53")]
         fn lawendeb_successors(words: *const u32, n: usize, p: usize) -> FlatSuccessors;
+        #[cfg_attr(feature = "lua53", link_name = "lawendeb_longest_run_53")]
         fn lawendeb_longest_run_3(
             words: *const u32,
             n: usize,
@@ -271,6 +273,7 @@ pub mod rattle {
             lengths: *mut u32,
             lengths_n: usize,
         ) -> RunAnswer;
+        #[cfg_attr(feature = "lua53", link_name = "lawendeb_longest_runs_53")]
         fn lawendeb_longest_runs(
             words: *const u32,
             n: usize,
@@ -283,6 +286,7 @@ pub mod rattle {
             lengths: *mut u32,
             lengths_n: usize,
         ) -> RangeAnswer;
+        #[cfg_attr(feature = "lua53", link_name = "lawendeb_distance_to_service_53")]
         fn lawendeb_distance_to_service(
             words: *const u32,
             n: usize,
@@ -292,6 +296,7 @@ pub mod rattle {
             lengths: *mut u32,
             lengths_n: usize,
         ) -> Nearest;
+        #[cfg_attr(feature = "lua53", link_name = "lawendeb_list_within_53")]
         fn lawendeb_list_within(
             words: *const u32,
             n: usize,
@@ -303,6 +308,7 @@ pub mod rattle {
             list: *mut u8,
             list_n: usize,
         ) -> Answer;
+        #[cfg_attr(feature = "lua53", link_name = "lawendeb_crossing_edges_53")]
         fn lawendeb_crossing_edges(
             words: *const u32,
             n: usize,
@@ -314,9 +320,11 @@ pub mod rattle {
         ) -> Crossed;
         fn lawendeb_begin_4(m: *mut LentMeter);
         fn lawendeb_reset(m: *mut LentMeter);
+        #[cfg_attr(feature = "lua53", link_name = "lawendeb_feed_53")]
         fn lawendeb_feed_4(words: *const u32, n: usize, weights: *const u8, weights_n: usize, m: *mut LentMeter, q: usize) -> Answer;
         fn lawendeb_begin_four(ms: *mut [LentMeter; 4], script: u32) -> Answer;
         fn lawendeb_reset_four(ms: *mut [LentMeter; 4], script: u32) -> Answer;
+        #[cfg_attr(feature = "lua53", link_name = "lawendeb_feed_four_53")]
         fn lawendeb_feed_four(
             words: *const u32,
             n: usize,
@@ -376,10 +384,14 @@ pub mod rattle {
                     list.iter().map(refused).map(u64::from).sum()
                 })
             },
+            #[cfg(not(feature = "lua53"))]
             lift: Some(records::lift),
+            #[cfg(feature = "lua53")]
+            lift: None,
         }
     }
 
+    #[cfg(not(feature = "lua53"))]
     mod records {
         use super::*;
         use model::flat::NUMBERS;

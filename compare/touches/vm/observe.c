@@ -4,6 +4,7 @@
 #define LUA_CORE
 #include "lprefix.h"
 #include "lua.h"
+#include "lfunc.h"
 #include "lobject.h"
 #include "lopcodes.h"
 #include "lstate.h"
@@ -11,6 +12,22 @@
 #include <stdio.h>
 #include <stdlib.h>
 #include <string.h>
+
+/* What differs between the versions: where values lie, and what is not held against the lists. "CALL, TAILCALL, TFORCALL and
+   CONCAT go by their formulas", so copies and temporaries of theirs are not listed; VARARGPREP is left out. */
+#if LUA_VERSION_NUM == 503
+#define touches_of lawendeb_touches_53
+#define AT(place) (place)
+#define VALUE(place) (place)
+#define BASE(ci) ((ci)->u.l.base)
+enum { OPCODE = 63, OP_LAST_RETURN = OP_RETURN, OP_PREPARES = OP_EXTRAARG };
+#else
+#define touches_of lawendeb_touches
+#define AT(place) ((place).p)
+#define VALUE(place) s2v(place)
+#define BASE(ci) ((ci)->func.p + 1)
+enum { OPCODE = 127, OP_LAST_RETURN = OP_RETURN1, OP_PREPARES = OP_VARARGPREP };
+#endif
 
 /* What was seen of a word in all its executions: writes by step, the edge of the list apart. */
 struct seen {
@@ -31,12 +48,10 @@ static lua_State *thread;
 static CallInfo *results_for;
 static unsigned long words_run, accesses, extra_accesses;
 
-static unsigned opcode_of(const struct observed_function *f, size_t p) { return f->words[p] & 127; }
+static unsigned opcode_of(const struct observed_function *f, size_t p) { return f->words[p] & OPCODE; }
 
-/* "CALL, TAILCALL, TFORCALL and CONCAT go by their formulas", so copies and temporaries of theirs are not listed;
-   VARARGPREP is left out. */
 static bool by_formula(unsigned o) {
-    return o == OP_CALL || o == OP_TAILCALL || o == OP_TFORCALL || o == OP_CONCAT || o == OP_VARARGPREP;
+    return o == OP_CALL || o == OP_TAILCALL || o == OP_TFORCALL || o == OP_CONCAT || o == OP_PREPARES;
 }
 static void set(uint64_t *bits, size_t i) { bits[i / 64] |= 1ull << i % 64; }
 static bool get(const uint64_t *bits, size_t i) { return bits[i / 64] >> i % 64 & 1; }
@@ -70,7 +85,7 @@ static struct observed_function *function_of(const uint32_t *code, size_t n) {
     f->seen = calloc(n, sizeof *f->seen);
     const char *emptied = getenv("EMPTIED");
     for (size_t p = 0; p < n; p++)
-        if (!emptied || opcode_of(f, p) != (unsigned)atoi(emptied)) f->seen[p].listed = lawendeb_touches(f->words, n, p);
+        if (!emptied || opcode_of(f, p) != (unsigned)atoi(emptied)) f->seen[p].listed = touches_of(f->words, n, p);
     f->next = *bucket;
     return *bucket = f;
 }
@@ -127,7 +142,7 @@ static void close_word(struct observed *o, size_t step) {
 }
 
 static void report(void);
-static bool leaves(unsigned o) { return o == OP_TAILCALL || (OP_RETURN <= o && o <= OP_RETURN1); }
+static bool leaves(unsigned o) { return o == OP_TAILCALL || (OP_RETURN <= o && o <= OP_LAST_RETURN); }
 
 /* What an error or a return left open: a return is complete, another word was not. */
 void observe_call(CallInfo *ci) {
@@ -142,7 +157,7 @@ void observe_enter(CallInfo *ci) {
         atexit(report);
     }
     observe_call(ci); /* a tail call keeps its activation */
-    LClosure *cl = clLvalue(s2v(ci->func.p));
+    LClosure *cl = clLvalue(VALUE(AT(ci->func)));
     ci->observed.function = function_of(cl->p->code, (size_t)cl->p->sizecode);
 }
 void observe_word(lua_State *L, CallInfo *ci, size_t word) {
@@ -153,8 +168,8 @@ void observe_word(lua_State *L, CallInfo *ci, size_t word) {
     memset(o, 0, sizeof *o);
     o->function = f;
     o->word = word;
-    o->closure = clLvalue(s2v(ci->func.p));
-    o->func = (char *)ci->func.p - (char *)L->stack.p;
+    o->closure = clLvalue(VALUE(AT(ci->func)));
+    o->base = (char *)BASE(ci) - (char *)AT(L->stack);
     o->open = true;
 }
 void observe_thread(lua_State *L) { thread = L; }
@@ -174,12 +189,12 @@ static void add(uint32_t *list, unsigned *n, uint32_t index) {
 static void mark(CallInfo *ci, const TValue *value, bool write) {
     if (!ci || !isLua(ci) || !ci->observed.open || ci->observed.closing) return;
     struct observed *o = &ci->observed;
-    StkId func = (StkId)((char *)thread->stack.p + o->func), base = func + 1, at = (StkId)value;
+    StkId base = (StkId)((char *)AT(thread->stack) + o->base), at = (StkId)value;
     const LClosure *cl = o->closure;
     size_t most = cl->p->maxstacksize;
     const struct lawendeb_touches *t = &o->function->seen[o->word].listed;
     if (t->reads_to_top.count || t->writes_to_top.count) most = OBSERVED_REGISTERS;
-    if (base <= at && at < base + most && at < thread->stack_last.p + EXTRA_STACK) {
+    if (base <= at && at < base + most && at < AT(thread->stack_last) + EXTRA_STACK) {
         set(write ? o->writes : o->reads, (size_t)(at - base));
         return;
     }
@@ -191,7 +206,7 @@ static void mark(CallInfo *ci, const TValue *value, bool write) {
     const struct lawendeb_indices *meant = write ? &t->upvalue_writes : &t->upvalues;
     int found = -1;
     for (int j = 0; j < cl->nupvalues; j++)
-        if (cl->upvals[j] && cl->upvals[j]->v.p == value && (found < 0 || in_indices(meant, (uint32_t)j) >= 0)) found = j;
+        if (cl->upvals[j] && AT(cl->upvals[j]->v) == value && (found < 0 || in_indices(meant, (uint32_t)j) >= 0)) found = j;
     if (found >= 0) {
         if (write) add(o->upvalue_writes, &o->upvalue_writes_n, (uint32_t)found);
         else add(o->upvalues, &o->upvalues_n, (uint32_t)found);

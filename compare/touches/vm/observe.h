@@ -13,8 +13,8 @@ struct observed {
     bool closing; /* what closing touches is left out */
     size_t word;
     const void *closure;
-    /* where the function stands in the stack: RETURN of a vararg function moves ci->func before it is done */
-    ptrdiff_t func;
+    /* where the registers stand in the stack: RETURN of a vararg function and a tail call move them before they are done */
+    ptrdiff_t base;
     uint64_t reads[OBSERVED_REGISTERS / 64], writes[OBSERVED_REGISTERS / 64];
     unsigned constants_n, upvalues_n, upvalue_writes_n;
     uint32_t constants[OBSERVED_INDICES], upvalues[OBSERVED_INDICES], upvalue_writes[OBSERVED_INDICES];

@@ -1,12 +1,12 @@
-"""report.py FILE: adds up what observe.c wrote for each script."""
+"""report.py READINGS FILE: adds up what observe.c wrote for each script; the reading of that folder names the opcodes."""
 import sys
 from collections import Counter
 
-sys.path.insert(0, __file__.rsplit("/", 2)[0])
+sys.path += [sys.argv[1], __file__.rsplit("/", 2)[0]]
 from reading import NAMES
 
 total, rows = Counter(), {}
-for line in open(sys.argv[1], encoding="utf-8"):
+for line in open(sys.argv[2], encoding="utf-8"):
     what, *rest = line.split()
     if what == "words":
         fields = dict(zip([what] + rest[1::2], map(int, rest[::2])))
@@ -16,7 +16,7 @@ for line in open(sys.argv[1], encoding="utf-8"):
         rows.setdefault(opcode, Counter()).update(dict(zip(rest[1::2], map(int, rest[2::2]))))
 print(
     f"all scripts: {total['words']} words of functions, run {total['run']} times; {total['accesses']} accesses, all listed"
-    f" but {total['extra']} copies and temporaries of CALL, TAILCALL, TFORCALL, CONCAT and VARARGPREP;"
+    f" but {total['extra']} copies and temporaries of words that go by a formula or are left out;"
     f" of {total['places']} places listed for those words {total['seen']} were seen, all of them for {total['whole']} words"
 )
 for opcode in sorted(rows):

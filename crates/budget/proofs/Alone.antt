@@ -9,6 +9,8 @@ use lib.ListN.{length}
 use Rattle.common.specs.Limits.{mostWords}
 use Rattle.common.specs.Numbers.{«ACCEPTED», «TOO_MANY_WORDS», «NO_STEP», «FOREIGN_METER», «WEIGHTS_REFUSED», «BUDGET_RANGE», «OVER_BUDGET»}
 use Rattle.common.specs.Chain.{refuseIf}
+use Rattle.fields.specs.declared.version.Version.{Version}
+use Rattle.runs.specs.Script.{scriptOf}
 use Rattle.runs.specs.Weights.{refusesWeights, weightsPlace, Weighs}
 use Rattle.meter.specs.declared.step.Meter.{Meter}
 use Rattle.meter.specs.declared.step.FeedAnswer.{FeedAnswer}
@@ -17,7 +19,7 @@ use Rattle.meter.specs.Feed.{Scale, isBegun, isForeign, isStray, movedTo, begin
 use Rattle.meter.specs.Model.{Call, begin, feed, reset}
 use Rattle.meter.specs.Calls.{meterAfter, meterAnswers, FollowsModel}
 use Rattle.meter.specs.Demand3.{Demand3}
-use Rattle.meter.proofs.Demand3.{demand3}
+use Rattle.meter.proofs.Laws.{laws}
 use Rattle.budget.specs.declared.step.Meters.{Meters}
 use Rattle.budget.specs.Four.{meterOf, othersOf, isOutOfRange}
 use Rattle.budget.specs.Calls.{FourCall, Scripts, scriptsOf, JustBegun, made, fourAfter, aloneAnswers, numbersOf, turnsBack, answered, ownCalls, ownAnswers}
@@ -130,17 +132,17 @@ numbers-alone s m (begin ∷ cs) = numbers-alone s (beginOf m) cs
 numbers-alone s m (feed q ∷ cs) = ap (λ (l : List ℕ). feedOf s m q .answer .number ∷ l) (numbers-alone s (feedOf s m q .meter) cs)
 numbers-alone s m (reset ∷ cs) = numbers-alone s (resetOf m) cs
 
-module _ (words weights : ℕ → List ℕ) (ms : Meters) (calls : List FourCall) (i : ℕ) (i-script : i ≤ 3) (few : length (words i) ≤ mostWords) (weighs : Weighs (weights i)) (b : JustBegun (meterOf ms i)) where
+module _ (versions : ℕ → Version) (words weights : ℕ → List ℕ) (ms : Meters) (calls : List FourCall) (i : ℕ) (i-script : i ≤ 3) (few : length (words i) ≤ mostWords) (weighs : Weighs (weights i)) (b : JustBegun (meterOf ms i)) where
   abbrev g : Scripts
-  g = scriptsOf words weights
+  g = scriptsOf versions words weights
 
   abbrev own : List Call
   own = ownCalls g i ms calls
 
-  own-model : FollowsOwnModel words weights ms calls i
+  own-model : FollowsOwnModel versions words weights ms calls i
   own-model =
       let a : RunsAlone g ms calls i = runs-alone g i i-script ms calls in
-      let d : Demand3 (words i) (weights i) = demand3 (words i) (weights i) weighs few in
+      let d : Demand3 (scriptOf (versions i) (words i)) (weights i) = laws .demand3-of (versions i) (words i) (weights i) weighs few in
       let f : FollowsModel (g i) (meterOf ms i) own = d .meter (meterOf ms i) (b .fits) own in
       let same : meterOf (fourAfter g ms calls) i ≡ meterAfter (g i) (beginOf (meterOf ms i)) own =
       a .meter ∙ ap (λ (m : Meter). meterAfter (g i) m own) (sym (b .begun)) in

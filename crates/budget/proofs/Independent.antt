@@ -5,14 +5,15 @@ use mathlib.Core.Bool.{Bool, true, false, cond}
 use mathlib.Core.Path.{_≡_, refl, sym, ap, _∙_}
 use mathlib.Core.List.{List, [], _∷_}
 use lib.Dec.{eqb}
+use Rattle.runs.specs.Script.{scriptOf}
 use Rattle.meter.specs.declared.step.Meter.{Meter}
 use Rattle.meter.specs.declared.step.FeedAnswer.{FeedAnswer}
 use Rattle.meter.specs.Feed.{Scale, scaleOf, beginOf, resetOf}
 use Rattle.meter.specs.Model.{Call, begin, feed, reset}
 use Rattle.budget.specs.declared.step.Meters.{Meters}
 use Rattle.budget.specs.Four.{meterOf, othersOf}
-use Rattle.budget.specs.Calls.{FourCall, Scripts, scriptsOf, made, fourAfter, answered, Seen, begins, feeds, resets, shownTo, allAnswers, seenBy}
-use Rattle.budget.specs.Independent.{History, SameToScript, Independent}
+use Rattle.budget.specs.Calls.{FourCall, Scripts, made, fourAfter, answered, Seen, begins, feeds, resets, shownTo, allAnswers, seenBy}
+use Rattle.budget.specs.Independent.{History, scriptsIn, SameToScript, Independent}
 use Rattle.budget.proofs.View.{viewed, other-as, own-as}
 
 -- a list of calls, from what the script sees alone
@@ -60,13 +61,13 @@ module _ (g : Scripts) (i : ℕ) (i-script : i ≤ 3) where
 
 module _ (i : ℕ) (h h′ : History) where
   abbrev g : Scripts
-  g = scriptsOf (h .words) (h .weights)
+  g = scriptsIn h
 
   abbrev g′ : Scripts
-  g′ = scriptsOf (h′ .words) (h′ .weights)
+  g′ = scriptsIn h′
 
   same-scale : SameToScript i h h′ → g i ≡ g′ i
-  same-scale s = ap (λ (l : List ℕ). scaleOf l (h .weights i)) (s .words) ∙ ap (λ (l : List ℕ). scaleOf (h′ .words i) l) (s .weights)
+  same-scale s = λ j. scaleOf (scriptOf (s .version j) (s .words j)) (s .weights j)
 
   same-answers : SameToScript i h h′ → allAnswers g i (h .start) (h .calls) ≡ allAnswers g′ i (h′ .start) (h′ .calls)
   same-answers s =

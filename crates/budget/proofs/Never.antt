@@ -12,6 +12,8 @@ use borrow.Author.Tests.{ltb-false, le-ltb, eq-eqb}
 use Rattle.common.specs.Numbers.{«ACCEPTED», «NO_SCRIPT», «BUDGET_RANGE», «OVER_BUDGET»}
 use Rattle.common.specs.Chain.{refuseIf}
 use Rattle.graph.specs.Graph.{In}
+use Rattle.fields.specs.declared.version.Version.{Version}
+use Rattle.runs.specs.Script.{scriptOf}
 use Rattle.runs.specs.Weights.{Weighs}
 use Rattle.runs.specs.Run.{runOf, longestOf}
 use Rattle.runs.specs.Laws.{Enough}
@@ -23,7 +25,7 @@ use Rattle.meter.specs.Feed.{Scale, ceiling, beginOf, resetOf, feedOf, refusal}
 use Rattle.meter.specs.Model.{Call, begin, feed, reset}
 use Rattle.meter.specs.Calls.{meterCalled, meterAfter}
 use Rattle.meter.specs.Bound.{Bound}
-use Rattle.meter.proofs.Demand3.{demand3}
+use Rattle.meter.proofs.Laws as meter
 use Rattle.budget.specs.declared.step.Meters.{Meters}
 use Rattle.budget.specs.Four.{lastScript, refusedFour, meterOf, othersOf, isOutOfRange, beginFourOf, resetFourOf, feedFourOf}
 use Rattle.budget.specs.Calls.{FourCall, Scripts, scriptsOf, EachWith, JustBegun, EachBegun, madeBy, made, fourAfter, numbersOf, turnsBack, answered, ownCalls, allAnswers}
@@ -74,19 +76,19 @@ either-never : (t : Bool) (ms ns : Meters) → refuseIf t (refusedFour «NO_SCRI
 either-never true ms ns h = omega arith
 either-never false ms ns h = omega arith
 
-module _ (words weights : ℕ → List ℕ) (s : ℕ) (accepted : EachWithin words weights s) (ms : Meters) (begun : EachBegun ms) where
+module _ (versions : ℕ → Version) (words weights : ℕ → List ℕ) (s : ℕ) (accepted : EachWithin versions words weights s) (ms : Meters) (begun : EachBegun ms) where
   abbrev g : Scripts
-  g = scriptsOf words weights
+  g = scriptsOf versions words weights
 
   bounded : (i : ℕ) → i ≤ 3 → (calls : List Call) → meterAfter (g i) (meterOf ms i) calls .count ≤ s / 4
   bounded i l calls =
-      let a : AcceptedWithin (words i) (weights i) s = accepted i l in
+      let a : AcceptedWithin (versions i) (words i) (weights i) s = accepted i l in
       let b : JustBegun (meterOf ms i) = begun i l in
-      let enough : Enough (length (words i)) (weights i) (a .marks) (a .lengths) = laws .enough (words i) (weights i) (a .marks) (a .lengths) (a .accepted) in
+      let enough : Enough (length (words i)) (weights i) (a .marks) (a .lengths) = laws .enough (scriptOf (versions i) (words i)) (weights i) (a .marks) (a .lengths) (a .accepted) in
       let weighs : Weighs (weights i) = record { accepted = enough .weighed; bytes = a .bytes } in
-      let longest : ℕ = longestOf (runOf (words i) (weights i) (a .marks) (a .lengths)) in
+      let longest : ℕ = longestOf (runOf (scriptOf (versions i) (words i)) (weights i) (a .marks) (a .lengths)) in
       let most : Bound (g i) (meterOf ms i) longest =
-      demand3 (words i) (weights i) weighs (enough .few) .bound (a .marks) (a .lengths) (a .accepted) (meterOf ms i) (b .fits) in
+      meter.laws .demand3-of (versions i) (words i) (weights i) weighs (enough .few) .bound (a .marks) (a .lengths) (a .accepted) (meterOf ms i) (b .fits) in
       let shown : meterAfter (g i) (meterOf ms i) calls .count ≤ longest =
       subst (λ (m : Meter). meterAfter (g i) m calls .count ≤ longest) (b .begun) (most .never calls) in
       omega (arith, a .within)
@@ -136,7 +138,7 @@ module _ (words weights : ℕ → List ℕ) (s : ℕ) (accepted : EachWithin wor
       not-answered (eqb (c .script) i) (c .call) (made g (now before) c .answer) _ (made-never before c (e .0))
       (rw (← now-more g ms before c) (none-from i (before ++ (c ∷ [])) cs (e .1)))
 
-  pub none : (calls : List FourCall) → EachWith s calls → (i : ℕ) → TurnsBack words weights i ms calls → ⊥
+  pub none : (calls : List FourCall) → EachWith s calls → (i : ℕ) → TurnsBack versions words weights i ms calls → ⊥
   none calls e i = none-from i [] calls e
 
 -- Begins and resets before the first feed.
@@ -215,17 +217,17 @@ module _ (g : Scripts) (i : ℕ) where
       silent (eqb (c .script) i) (c .call) (n .0) (made g ms c .answer) (allAnswers g i (made g ms c .meters) (cs ++ calls))
       ∙ opening-silent cs calls (n .1) (made g ms c .meters)
 
-opened : (words weights : ℕ → List ℕ) (s : ℕ) → EachWithin words weights s → (ms : Meters) → ((i : ℕ) → i ≤ lastScript → meterOf ms i .services ≤ ceiling)
-    → (opening : List FourCall) → Opening opening → (calls : List FourCall) → EachWith s calls → (i : ℕ) → TurnsBack words weights i ms (opening ++ calls) → ⊥
-opened words weights s accepted ms fits opening o calls e i =
-    let g : Scripts = scriptsOf words weights in
-    rw (opening-silent g i opening calls (o .no-feeds) ms) (none words weights s accepted (fourAfter g ms opening) (four-begun g ms fits opening o) calls e i)
+opened : (versions : ℕ → Version) (words weights : ℕ → List ℕ) (s : ℕ) → EachWithin versions words weights s → (ms : Meters) → ((i : ℕ) → i ≤ lastScript → meterOf ms i .services ≤ ceiling)
+    → (opening : List FourCall) → Opening opening → (calls : List FourCall) → EachWith s calls → (i : ℕ) → TurnsBack versions words weights i ms (opening ++ calls) → ⊥
+opened versions words weights s accepted ms fits opening o calls e i =
+    let g : Scripts = scriptsOf versions words weights in
+    rw (opening-silent g i opening calls (o .no-feeds) ms) (none versions words weights s accepted (fourAfter g ms opening) (four-begun g ms fits opening o) calls e i)
 
 pub never : Claim.Never
 never =
     record {
       none = none;
-      begun = λ ms fits words weights opening o. four-begun (scriptsOf words weights) ms fits opening o;
+      begun = λ ms fits versions words weights opening o. four-begun (scriptsOf versions words weights) ms fits opening o;
       opened = opened;
       next = next-never;
     }

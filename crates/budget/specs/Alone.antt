@@ -6,6 +6,8 @@ use mathlib.Core.List.{List}
 use Prim.Native.Nat.{ℕ, _+_, _≤_, min}
 use lib.ListN.{length}
 use Rattle.common.specs.Limits.{mostWords}
+use Rattle.fields.specs.declared.version.Version.{Version}
+use Rattle.runs.specs.Script.{scriptOf}
 use Rattle.runs.specs.Weights.{Weighs}
 use Rattle.meter.specs.declared.step.Meter.{Meter}
 use Rattle.meter.specs.Feed.{Scale, scaleOf, ceiling, isBegun}
@@ -24,22 +26,22 @@ pub record RunsAlone (g : Scripts) (ms : Meters) (calls : List FourCall) (i : �
   pub meter : meterOf (fourAfter g ms calls) i ≡ meterAfter (g i) (meterOf ms i) (ownCalls g i ms calls)
 
 -- "demand 3 holds of each script's own list of calls, with a feeding book for each": what `FollowsModel` says of one meter, said of one of four
-module _ (words weights : ℕ → List ℕ) (ms : Meters) (calls : List FourCall) (i : ℕ) where
+module _ (versions : ℕ → Version) (words weights : ℕ → List ℕ) (ms : Meters) (calls : List FourCall) (i : ℕ) where
   abbrev pub scale : Scale
-  scale = scaleOf (words i) (weights i)
+  scale = scaleOf (scriptOf (versions i) (words i)) (weights i)
 
   abbrev pub own : List Call
-  own = ownCalls (scriptsOf words weights) i ms calls
+  own = ownCalls (scriptsOf versions words weights) i ms calls
 
   abbrev pub shown : Meter
-  shown = meterOf (fourAfter (scriptsOf words weights) ms calls) i
+  shown = meterOf (fourAfter (scriptsOf versions words weights) ms calls) i
 
   abbrev pub model : Model
   model = modelAfter (scale .graph) emptyModel own
 
   pub record FollowsOwnModel : Type 0 where
     -- "Any other feed writes nothing; its answer is 10, and that of a written one 0."
-    pub answers : numbersOf (ownAnswers (scriptsOf words weights) i ms calls) ≡ modelAnswers (scale .graph) emptyModel own
+    pub answers : numbersOf (ownAnswers (scriptsOf versions words weights) i ms calls) ≡ modelAnswers (scale .graph) emptyModel own
     -- "After the list the meter is begun exactly if the course has a word"
     pub begun : isBegun shown ≡ hasWord (model .path)
     -- "last is the course's last word, or 0"
@@ -56,5 +58,5 @@ pub record Alone : Type 0 where
   pub runs : (g : Scripts) (ms : Meters) (calls : List FourCall) (i : ℕ) → i ≤ lastScript → RunsAlone g ms calls i
   -- "For one function of at most 32,768 words", "weights that 18 accepts", and "a meter just begun", as demand 3 has it; of the other three
   -- scripts nothing is supposed
-  pub models : (words weights : ℕ → List ℕ) (ms : Meters) (calls : List FourCall) (i : ℕ) → i ≤ lastScript
-      → length (words i) ≤ mostWords → Weighs (weights i) → JustBegun (meterOf ms i) → FollowsOwnModel words weights ms calls i
+  pub models : (versions : ℕ → Version) (words weights : ℕ → List ℕ) (ms : Meters) (calls : List FourCall) (i : ℕ) → i ≤ lastScript
+      → length (words i) ≤ mostWords → Weighs (weights i) → JustBegun (meterOf ms i) → FollowsOwnModel versions words weights ms calls i

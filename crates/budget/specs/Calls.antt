@@ -6,6 +6,8 @@ use mathlib.Core.List.{List, [], _∷_}
 use Prim.Native.Nat.{ℕ, _≤_}
 use lib.Dec.{eqb}
 use Rattle.common.specs.Numbers.{«NO_SCRIPT», «BUDGET_RANGE», «OVER_BUDGET»}
+use Rattle.fields.specs.declared.version.Version.{Version}
+use Rattle.runs.specs.Script.{scriptOf}
 use Rattle.meter.specs.declared.step.Meter.{Meter}
 use Rattle.meter.specs.declared.step.FeedAnswer.{FeedAnswer}
 use Rattle.meter.specs.Feed.{Scale, scaleOf, ceiling, beginOf, resetOf, feedOf}
@@ -24,9 +26,10 @@ pub record FourCall : Type 0 where
 abbrev pub Scripts : Type 0
 Scripts = ℕ → Scale
 
--- by each script's words, and the weights lent at its feeds
-abbrev pub scriptsOf : (ℕ → List ℕ) → (ℕ → List ℕ) → Scripts
-scriptsOf words weights i = scaleOf (words i) (weights i)
+-- by each script's words, and the weights lent at its feeds. Request C-24: "in earlier claims a script's words
+-- include its version", and so each of the four has its own
+abbrev pub scriptsOf : (ℕ → Version) → (ℕ → List ℕ) → (ℕ → List ℕ) → Scripts
+scriptsOf versions words weights i = scaleOf (scriptOf (versions i) (words i)) (weights i)
 
 -- one call, by the definitions that the contracts cite
 abbrev pub madeBy : Scripts → Meters → ℕ → ℕ → Call → FedFour

@@ -9,6 +9,8 @@ use Prim.Native.Nat.{ℕ, _/_, _≤_}
 use lib.ListN.{getD}
 use Rattle.common.specs.Numbers.{«ACCEPTED», «OVER_BUDGET»}
 use Rattle.graph.specs.Graph.{In}
+use Rattle.fields.specs.declared.version.Version.{Version}
+use Rattle.runs.specs.Script.{scriptOf}
 use Rattle.runs.specs.Weights.{heaviestWeight}
 use Rattle.runs.specs.Run.{runOf, numberOf, longestOf}
 use Rattle.meter.specs.Feed.{scaleOf, ceiling}
@@ -18,18 +20,19 @@ use Rattle.budget.specs.Four.{lastScript, meterOf, feedFourOf}
 use Rattle.budget.specs.Calls.{FourCall, scriptsOf, EachWith, EachBegun, fourAfter, numbersOf, allAnswers}
 
 -- one script is accepted with these weights, and its "L is at most S divided by 4, rounded down"
-pub record AcceptedWithin (ws weights : List ℕ) (s : ℕ) : Type 0 where
+pub record AcceptedWithin (version : Version) (ws weights : List ℕ) (s : ℕ) : Type 0 where
   -- the lengths of the slices that its run was lent
   pub marks : ℕ
   pub lengths : ℕ
-  pub accepted : numberOf (runOf ws weights marks lengths) ≡ «ACCEPTED»
-  pub within : longestOf (runOf ws weights marks lengths) ≤ s / 4
+  pub accepted : numberOf (runOf (scriptOf version ws) weights marks lengths) ≡ «ACCEPTED»
+  pub within : longestOf (runOf (scriptOf version ws) weights marks lengths) ≤ s / 4
   -- the weights are bytes, as those of every lent table are
   pub bytes : (i : ℕ) → getD weights i 0 ≤ heaviestWeight
 
 -- "all four scripts are accepted .."
-abbrev pub EachWithin : (ℕ → List ℕ) → (ℕ → List ℕ) → ℕ → Type 0
-EachWithin words weights s = (i : ℕ) → i ≤ lastScript → AcceptedWithin (words i) (weights i) s
+abbrev pub EachWithin : (ℕ → Version) → (ℕ → List ℕ) → (ℕ → List ℕ) → ℕ → Type 0
+EachWithin versions words weights s =
+    (i : ℕ) → i ≤ lastScript → AcceptedWithin (versions i) (words i) (weights i) s
 
 -- the four are begun before the first feed: begins and resets, in any order and as many as there are, among them a begin of each script
 abbrev pub isBegin : Call → Bool
@@ -55,23 +58,25 @@ pub record Opening (calls : List FourCall) : Type 0 where
   pub begins : (i : ℕ) → i ≤ lastScript → Begins i calls
 
 -- some feed of script i is turned back by the budget
-abbrev pub TurnsBack : (ℕ → List ℕ) → (ℕ → List ℕ) → ℕ → Meters → List FourCall → Type 0
-TurnsBack words weights i ms calls = In «OVER_BUDGET» (numbersOf (allAnswers (scriptsOf words weights) i ms calls))
+abbrev pub TurnsBack : (ℕ → Version) → (ℕ → List ℕ) → (ℕ → List ℕ) → ℕ → Meters → List FourCall → Type 0
+TurnsBack versions words weights i ms calls = In «OVER_BUDGET» (numbersOf (allAnswers (scriptsOf versions words weights) i ms calls))
 
 -- "words and weights stay those of the accepted runs": every feed of a script is lent them
 pub record Never : Type 0 where
   -- "every meter was just begun, S stays the same": no feed of any script is answered 22
-  pub none : (words weights : ℕ → List ℕ) (s : ℕ) → EachWithin words weights s → (ms : Meters) → EachBegun ms
-      → (calls : List FourCall) → EachWith s calls → (i : ℕ) → TurnsBack words weights i ms calls → ⊥
+  pub none : (versions : ℕ → Version) (words weights : ℕ → List ℕ) (s : ℕ) → EachWithin versions words weights s
+      → (ms : Meters) → EachBegun ms → (calls : List FourCall) → EachWith s calls → (i : ℕ) → TurnsBack versions words weights i ms calls → ⊥
   -- such are four meters of any contents once all four scripts have been begun
   pub begun : (ms : Meters) → ((i : ℕ) → i ≤ lastScript → meterOf ms i .services ≤ ceiling)
-      → (words weights : ℕ → List ℕ) (opening : List FourCall) → Opening opening → EachBegun (fourAfter (scriptsOf words weights) ms opening)
+      → (versions : ℕ → Version) (words weights : ℕ → List ℕ) (opening : List FourCall) → Opening opening
+      → EachBegun (fourAfter (scriptsOf versions words weights) ms opening)
   -- so that, from any four meters, a list that begins so meets no 22, whatever S its begins and resets name
-  pub opened : (words weights : ℕ → List ℕ) (s : ℕ) → EachWithin words weights s
+  pub opened : (versions : ℕ → Version) (words weights : ℕ → List ℕ) (s : ℕ) → EachWithin versions words weights s
       → (ms : Meters) → ((i : ℕ) → i ≤ lastScript → meterOf ms i .services ≤ ceiling)
       → (opening : List FourCall) → Opening opening
-      → (calls : List FourCall) → EachWith s calls → (i : ℕ) → TurnsBack words weights i ms (opening ++ calls) → ⊥
+      → (calls : List FourCall) → EachWith s calls → (i : ℕ) → TurnsBack versions words weights i ms (opening ++ calls) → ⊥
   -- and more: whatever S the calls before named, the next feed with this S is not answered 22
-  pub next : (words weights : ℕ → List ℕ) (s : ℕ) → EachWithin words weights s → (ms : Meters) → EachBegun ms
-      → (calls : List FourCall) (i q : ℕ)
-      → feedFourOf (scaleOf (words i) (weights i)) (fourAfter (scriptsOf words weights) ms calls) i s q .answer .number ≡ «OVER_BUDGET» → ⊥
+  pub next : (versions : ℕ → Version) (words weights : ℕ → List ℕ) (s : ℕ) → EachWithin versions words weights s
+      → (ms : Meters) → EachBegun ms → (calls : List FourCall) (i q : ℕ)
+      → feedFourOf (scaleOf (scriptOf (versions i) (words i)) (weights i))
+      (fourAfter (scriptsOf versions words weights) ms calls) i s q .answer .number ≡ «OVER_BUDGET» → ⊥

@@ -9,4 +9,6 @@ pub use step::FedFour;
 pub use step::Meters;
 pub use step::begin_four;
 pub use step::feed_four;
+pub use step::feed_four_script;
+pub use step::feed_own_script;
 pub use step::reset_four;

@@ -2,13 +2,15 @@
 ghost use mathlib.Core.Path.{_≡_};
 ghost use mathlib.Core.Bool.{cond};
 ghost use Prim.Native.Nat.{_≤_};
+ghost use Rattle.runs.specs.Script.{scriptOf, lua54};
 ghost use Rattle.meter.specs.Feed.{scaleOf, refusal};
 ghost use Rattle.budget.specs.Four.{lastScript, meterOf, withMeter, sumOf, isOutOfRange, refusedFour, ownOf, beginFourOf, resetFourOf, settleFour, feedFourOf};
+use fields::version::Version;
 use meter::Fed;
 use meter::FeedAnswer;
 use meter::Meter;
 use meter::begin_step;
-use meter::feed_step;
+use meter::feed_script;
 use meter::reset_step;
 
 // A call's number has 64 bits, as C gets it.
@@ -205,8 +207,10 @@ fn settle(ms: Meters, script: u32, budget: u32, m: Meter, f: Fed) -> Fed
     f
 }
 
-// A feed of word q of the script, whose words and weights are lent, within the budget: the script's own meter after it. The others stay.
-pub fn feed_own(
+// A feed of word q of the script, of either version, whose words and weights are lent, within the budget: the
+// script's own meter after it. The others stay.
+pub fn feed_own_script(
+    version: Version,
     words: &[u32],
     weights: &[u8],
     ms: Meters,
@@ -214,7 +218,7 @@ pub fn feed_own(
     budget: u32,
     q: usize,
 ) -> Fed
-    ensures { λ r. ⌜ r ≡ ownOf script (feedFourOf (scaleOf (now (words .entry)) (now (weights .entry))) ms script budget q) ⌝ }
+    ensures { λ r. ⌜ r ≡ ownOf script (feedFourOf (scaleOf (scriptOf version (now (words .entry))) (now (weights .entry))) ms script budget q) ⌝ }
 {
     let m = meter_of(ms, script);
     let no_script = LAST_SCRIPT < script;
@@ -225,11 +229,47 @@ pub fn feed_own(
     if out_of_range {
         return turned_back(m, BUDGET_RANGE);
     }
-    let f = feed_step(words, weights, m, q);
+    let f = feed_script(version, words, weights, m, q);
     settle(ms, script, budget, m, f)
 }
 
 // The same, with the four.
+pub fn feed_four_script(
+    version: Version,
+    words: &[u32],
+    weights: &[u8],
+    ms: Meters,
+    script: u32,
+    budget: u32,
+    q: usize,
+) -> FedFour
+    ensures { λ r. ⌜ r ≡ feedFourOf (scaleOf (scriptOf version (now (words .entry))) (now (weights .entry))) ms script budget q ⌝ }
+{
+    let f = feed_own_script(version, words, weights, ms, script, budget, q);
+    let m = f.meter;
+    let answer = f.answer;
+    let next = with_meter(ms, script, m);
+    FedFour {
+        meters: next,
+        answer: answer,
+    }
+}
+
+// Both of words of 5.4.
+
+pub fn feed_own(
+    words: &[u32],
+    weights: &[u8],
+    ms: Meters,
+    script: u32,
+    budget: u32,
+    q: usize,
+) -> Fed
+    ensures { λ r. ⌜ r ≡ ownOf script (feedFourOf (scaleOf (lua54 (now (words .entry))) (now (weights .entry))) ms script budget q) ⌝ }
+{
+    feed_own_script(Version::Lua54, words, weights, ms, script, budget, q)
+}
+
 pub fn feed_four(
     words: &[u32],
     weights: &[u8],
@@ -238,14 +278,7 @@ pub fn feed_four(
     budget: u32,
     q: usize,
 ) -> FedFour
-    ensures { λ r. ⌜ r ≡ feedFourOf (scaleOf (now (words .entry)) (now (weights .entry))) ms script budget q ⌝ }
+    ensures { λ r. ⌜ r ≡ feedFourOf (scaleOf (lua54 (now (words .entry))) (now (weights .entry))) ms script budget q ⌝ }
 {
-    let f = feed_own(words, weights, ms, script, budget, q);
-    let m = f.meter;
-    let answer = f.answer;
-    let next = with_meter(ms, script, m);
-    FedFour {
-        meters: next,
-        answer: answer,
-    }
+    feed_four_script(Version::Lua54, words, weights, ms, script, budget, q)
 }

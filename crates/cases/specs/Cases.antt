@@ -1,19 +1,23 @@
--- Document 01, "Bench cases": those marked P, in its order, shown for the definitions by one theorem over their list.
+-- Document 01, "Bench cases": those marked P, in its order, shown for the definitions by one theorem over their list; and cases of request C-24, of words of
+-- Lua 5.3.6 as numbers.
 -- Assumes nothing.
 use Prim.Native.Nat.{ℕ}
 use mathlib.Core.Path.{_≡_}
 use mathlib.Core.Bool.{Bool, true}
-use mathlib.Core.List.{List, [], _∷_}
+use mathlib.Core.List.{List, [], _∷_, _++_}
 use lib.IntN.{ℤ, pos}
 use lib.ListN.{length, replicate}
 use Rattle.fields.specs.Opcodes.{«OP_MOVE», «OP_LOADI», «OP_FORLOOP»}
 use Rattle.fields.specs.Events.{«TM_ADD»}
 use Rattle.fields.specs.Word.{opcodeOf, aOf, sbxOf}
+use Rattle.fields.specs.declared.version.Version.the-variants.{Lua53}
 use Rattle.runs.specs.declared.edges.Successors.{Successors}
-use Rattle.runs.specs.declared.edges.Successors.the-variants.{Invalid, One, Two}
-use Rattle.runs.specs.declared.longest.Run.the-variants.{Accepted}
+use Rattle.runs.specs.declared.edges.Successors.the-variants.{Invalid, Stop, One, Two}
+use Rattle.runs.specs.declared.longest.Run.the-variants.{Accepted, Refused}
+use Rattle.runs.specs.Script.{lua54, scriptOf}
 use Rattle.runs.specs.Steps.{servesOf}
 use Rattle.runs.specs.Successors.{successorsOf}
+use Rattle.runs.specs.Successors53.{successorsOf as successorsOf53}
 use Rattle.runs.specs.Run.{runOf}
 use Rattle.runs.specs.Weights.{weightCount, heaviestWeight}
 use Rattle.runs.specs.Counted.{ones}
@@ -46,6 +50,11 @@ pub data Case : Type 0 where
   run : List ℕ → ℕ → ℕ → Case
   -- .. with these weights
   weighed : List ℕ → List ℕ → ℕ → ℕ → Case
+  -- the same of words of 5.3, and a table of weights that is refused with this number and this place
+  steps53 : List ℕ → ℕ → Successors → Case
+  run53 : List ℕ → ℕ → ℕ → Case
+  weighed53 : List ℕ → List ℕ → ℕ → ℕ → Case
+  refused53 : List ℕ → List ℕ → ℕ → ℕ → Case
   -- of these words, the record of this number has this jump target
   jumps : List ℕ → ℕ → OptionalPc → Case
   -- .. these reads and these writes
@@ -67,8 +76,12 @@ abbrev pub HoldsOf : Case → Type 0
 HoldsOf (fields word opcode a sbx) = (opcodeOf word ≡ opcode) × (aOf word ≡ a) × (sbxOf word ≡ sbx)
 HoldsOf (steps words p s) = successorsOf words p ≡ s
 HoldsOf (serving p q t) = servesOf p q ≡ t
-HoldsOf (run words longest first) = runOf words ones (length words) (length words) ≡ Accepted longest first
-HoldsOf (weighed words weights longest first) = runOf words weights (length words) (length words) ≡ Accepted longest first
+HoldsOf (run words longest first) = runOf (lua54 words) ones (length words) (length words) ≡ Accepted longest first
+HoldsOf (weighed words weights longest first) = runOf (lua54 words) weights (length words) (length words) ≡ Accepted longest first
+HoldsOf (steps53 words p s) = successorsOf53 words p ≡ s
+HoldsOf (run53 words longest first) = runOf (scriptOf Lua53 words) ones (length words) (length words) ≡ Accepted longest first
+HoldsOf (weighed53 words weights longest first) = runOf (scriptOf Lua53 words) weights (length words) (length words) ≡ Accepted longest first
+HoldsOf (refused53 words weights number place) = runOf (scriptOf Lua53 words) weights (length words) (length words) ≡ Refused number place
 HoldsOf (jumps words pc target) = recordAt words pc .«jump_target» ≡ target
 HoldsOf (touches words pc reads writes) =
     (recordAt words pc .reads ≡ readsOf reads) × (recordAt words pc .writes ≡ writesOf writes)
@@ -124,4 +137,37 @@ cases =
     ∷ steps sheet 0 (One 1)
     ∷ steps sheet 1 (Two 2 3)
     ∷ steps sheet 2 (One 3)
+    ∷ []
+
+-- request C-24: lopcodes.h of Lua 5.3.6 numbers LOADBOOL 3, JMP 30, EQ 31, TAILCALL 37, RETURN 38, FORLOOP 39, FORPREP 40, TFORCALL 41, TFORLOOP 42, SETLIST 43
+-- and EXTRAARG 46
+abbrev pub cases53 : List Case
+cases53 =
+    -- FORLOOP with sBx -1 steps to itself and on; with sBx 0 the two are one; with sBx 1 looping is the higher of the two
+    steps53 (0 ∷ 2147450919 ∷ 38 ∷ []) 1 (Two 1 2)
+    ∷ steps53 (0 ∷ 2147467303 ∷ 38 ∷ []) 1 (One 2)
+    ∷ steps53 (2147483687 ∷ 38 ∷ 38 ∷ []) 0 (Two 1 2)
+    -- FORPREP with sBx -1 steps to itself alone
+    ∷ steps53 (0 ∷ 2147450920 ∷ 38 ∷ []) 1 (One 1)
+    -- "TAILCALL steps to p+1": as the last word it is bad; RETURN has no next word
+    ∷ steps53 (37 ∷ 38 ∷ []) 0 (One 1)
+    ∷ steps53 (37 ∷ []) 0 Invalid
+    ∷ steps53 (38 ∷ []) 0 Stop
+    -- LOADBOOL with C 1 goes over the next word, which is not asked what it is; as the last but one it is bad
+    ∷ steps53 (16387 ∷ 46 ∷ 38 ∷ []) 0 (One 2)
+    ∷ steps53 (16387 ∷ 38 ∷ []) 0 Invalid
+    -- "SETLIST with C 0 without EXTRAARG after it"; with C 1 nothing is asked
+    ∷ steps53 (43 ∷ 46 ∷ 38 ∷ []) 0 (One 2)
+    ∷ steps53 (43 ∷ 38 ∷ 38 ∷ []) 0 Invalid
+    ∷ steps53 (16427 ∷ 38 ∷ 38 ∷ []) 0 (One 1)
+    -- "TFORCALL without TFORLOOP after it"
+    ∷ steps53 (41 ∷ 42 ∷ 38 ∷ []) 0 (One 1)
+    ∷ steps53 (41 ∷ 39 ∷ 38 ∷ []) 0 Invalid
+    -- EQ with A 0 goes on either way; with A 2 over its JMP alone, which here is bad and not reached
+    ∷ steps53 (31 ∷ 30 ∷ 38 ∷ []) 0 (Two 1 2)
+    ∷ run53 (16543 ∷ 30 ∷ 8388646 ∷ []) 2 0
+    -- "A 5.3 word takes its weight by its low six bits": 64 weighs what 0 does
+    ∷ weighed53 (64 ∷ 38 ∷ []) (5 ∷ replicate 63 1 ++ (7 ∷ replicate 63 1)) 6 0
+    -- request C-17's 18 looks at all 128 weights all the same
+    ∷ refused53 (64 ∷ 38 ∷ []) (replicate 100 1 ++ (0 ∷ replicate 27 1)) 18 100
     ∷ []

@@ -7,6 +7,9 @@ use Rattle.fields.proofs.Lopcodes as lopcodes
 use Rattle.fields.proofs.Opmodes as opmodes
 use Rattle.fields.proofs.Entries.{entry}
 use Rattle.fields.proofs.Bytes.{low-half, high-half}
+use Rattle.fields.proofs.Lopcodes53 as lopcodes53
+use Rattle.fields.proofs.Opmodes53 as opmodes53
+use Rattle.fields.proofs.Bytes53 as bytes53
 use Rattle.fields.proofs.Below.{all-at}
 use Rattle.fields.proofs.Difference.{difference-fits, difference}
 
@@ -26,4 +29,12 @@ laws =
       each-below = all-at;
       difference-fits = difference-fits;
       difference = difference;
+      lua53 =
+          record {
+            opcodes = refl;
+            lopcodes = lopcodes53.agreement;
+            opmodes = opmodes53.agreement;
+            class-half = λ o e. bytes53.low-half o e;
+            companion-half = λ o e. bytes53.high-half o e;
+          };
     }

@@ -11,6 +11,7 @@ use crate::paper::BUFFER;
 use crate::paper::PAGE;
 use crate::paper::put_text;
 use crate::rows::put_listing;
+use fields::version::Version;
 use runs::Run;
 use sheet::Sheet;
 
@@ -35,7 +36,13 @@ fn put_run(words: &[u32], page: &mut [u8]) -> usize
     let mut marks = [0u8; 4096];
     let mut lengths = [0u32; 4096];
     let weights = [1u8; 128];
-    let run = runs::longest_run(words, &weights, &mut marks[..n], &mut lengths[..n]);
+    let run = runs::longest_run(
+        Version::Lua54,
+        words,
+        &weights,
+        &mut marks[..n],
+        &mut lengths[..n],
+    );
     match run {
         Run::Accepted { longest, first } => {
             return put_listing(words, &lengths[..n], longest, first, page);

@@ -3,12 +3,12 @@
 use Prim.Native.Nat.{ℕ, _≤_}
 use mathlib.Core.Path.{_≡_, refl}
 use mathlib.Core.List.{List, _∷_}
-use lib.ListN.{length, getD}
 use Rattle.common.specs.Limits.{mostWords}
 use Rattle.graph.specs.Graph.{weigh}
-use Rattle.fields.specs.Word.{opcodeOf}
 use Rattle.runs.specs.declared.longest.Run.{Run}
-use Rattle.runs.specs.Weights.{weightOf, Weighs}
+use Rattle.runs.specs.Script.{Script, weightOf}
+use Rattle.runs.specs.Script as script
+use Rattle.runs.specs.Weights.{Weighs}
 use Rattle.runs.specs.Demand.{Demand, Passes}
 use Rattle.runs.specs.Run.{runOf, numberOf, longestOf, firstOf}
 use Rattle.runs.specs.Laws.{Enough}
@@ -21,26 +21,26 @@ use Rattle.meter.proofs.Calls.{Sound, follows-model}
 use Rattle.meter.proofs.Highest.{highest-after}
 use Rattle.meter.proofs.Bound.{AtMost, bound, worst}
 
-module _ (ws weights : List ℕ) (weighs : Weighs weights) where
-  pub sound : length ws ≤ mostWords → Sound (scaleOf ws weights)
+module _ (ws : Script) (steps : script.Sound ws) (weights : List ℕ) (weighs : Weighs weights) where
+  pub sound : ws .size ≤ mostWords → Sound (scaleOf ws weights)
   sound few =
       record {
-        law = laws .lawful ws;
+        law = laws .lawful ws steps;
         few = few;
         weighed = weighs .accepted;
-        some = laws .weights weights (weighs .accepted) .some ws;
-        light = λ q. weighs .bytes (opcodeOf (getD ws q 0));
+        some = laws .weights weights (weighs .accepted) .some ws steps;
+        light = λ q. weighs .bytes (ws .slot q);
       }
 
   module _ (marks lengths : ℕ) (accepted : numberOf (runOf ws weights marks lengths) ≡ 0) where
     abbrev r : Run
     r = runOf ws weights marks lengths
 
-    enough : Enough (length ws) weights marks lengths
+    enough : Enough (ws .size) weights marks lengths
     enough = laws .enough ws weights marks lengths accepted
 
     demand : Demand ws weights r
-    demand = laws .demand ws weights marks lengths enough (weighs .bytes)
+    demand = laws .demand ws steps weights marks lengths enough (weighs .bytes)
 
     most : AtMost (scaleOf ws weights) (sound (enough .few)) (longestOf r)
     most p ps t = demand .bounded accepted p (weigh (weightOf ws weights) (p ∷ ps)) (record { rest = ps; segment = t; weight = refl })
@@ -53,10 +53,10 @@ module _ (ws weights : List ℕ) (weighs : Weighs weights) where
     pub worst-by-run : (m : Meter) → m .services ≤ ceiling → Worst (scaleOf ws weights) m (longestOf r)
     worst-by-run m fits = worst (scaleOf ws weights) (sound (enough .few)) m fits (longestOf r) most
 
-  pub demand3 : length ws ≤ mostWords → Demand3 ws weights
+  pub demand3 : ws .size ≤ mostWords → Demand3 ws weights
   demand3 few =
       record {
-        run = λ marks lengths a b. laws .demand ws weights marks lengths (record { few = few; marks-long = a; lengths-long = b; weighed = weighs .accepted }) (weighs .bytes);
+        run = λ marks lengths a b. laws .demand ws steps weights marks lengths (record { few = few; marks-long = a; lengths-long = b; weighed = weighs .accepted }) (weighs .bytes);
         meter = λ m fits calls. follows-model (scaleOf ws weights) (sound few) m calls fits;
         bound = λ marks lengths accepted m fits. bounded-by-run marks lengths accepted m fits;
         worst = λ marks lengths accepted m fits. worst-by-run marks lengths accepted m fits;

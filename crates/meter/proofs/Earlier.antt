@@ -1,15 +1,13 @@
 -- With all weights 1 a feed is that of counted words. Assumes nothing.
 use mathlib.Core.Path.{_≡_, refl, sym, ap, _∙_}
 use mathlib.Core.Bool.{Bool, true, false, cond, not, _||_, true≢false}
-use mathlib.Core.List.{List}
 use Prim.Native.Nat.{ℕ, _+_, _*_, _≤_, _<_}
 use native.Mathlib.Omega.{arith}
 use lib.Dec.{ltb, leb, eqb}
-use lib.ListN.{length}
 use borrow.Author.Tests.{leb-false, ltb-true, ltb-false, lt-ltb, le-ltb}
 use Rattle.common.specs.Limits.{mostWords}
 use Rattle.runs.specs.Steps.{unitWeight}
-use Rattle.runs.specs.Instance.{graphOf}
+use Rattle.runs.specs.Script.{Script, graphOf, Sound}
 use Rattle.runs.specs.Weights.{heaviestWeight}
 use Rattle.runs.specs.Counted.{ones}
 use Rattle.runs.proofs.Laws.{laws}
@@ -46,7 +44,7 @@ let-anew : (n : ℕ) (m : Meter) → isForeign n m ≡ false → countedForeign 
 unfolding countedForeign isForeign
 let-anew n m h g = between n (m .last) (m .count) (isBegun m) (neither (ltb (m .highest) (m .count)) _ h .1) g
 
-module _ (ws : List ℕ) (m : Meter) (q : ℕ) where
+module _ (ws : Script) (steps : Sound ws) (m : Meter) (q : ℕ) where
   -- by any weights
   abbrev scaled : (ℕ → ℕ) → Scale
   scaled w = record { graph = graphOf ws; table = ones; weight = w }
@@ -61,32 +59,32 @@ module _ (ws : List ℕ) (m : Meter) (q : ℕ) where
       go false u e d = rw e
 
   moves : earlierMeter (movedTo (scaleOf ws ones) m q) ≡ countedMove (graphOf ws) (earlierMeter m) q
-  moves = ap (λ (w : ℕ → ℕ). earlierMeter (movedTo (scaled w) m q)) (laws .ones-weigh ws) ∙ counted
+  moves = ap (λ (w : ℕ → ℕ). earlierMeter (movedTo (scaled w) m q)) (laws .ones-weigh ws steps) ∙ counted
 
   strays : isStray (graphOf ws) m q ≡ countedStray (graphOf ws) (earlierMeter m) q
   unfolding isStray countedStray
   strays = refl
 
-  same-by : (t u : Bool) → ltb mostWords (length ws) ≡ t → countedStray (graphOf ws) (earlierMeter m) q ≡ u → countedForeign (length ws) (earlierMeter m) ≡ false
+  same-by : (t u : Bool) → ltb mostWords (ws .size) ≡ t → countedStray (graphOf ws) (earlierMeter m) q ≡ u → countedForeign (ws .size) (earlierMeter m) ≡ false
       → m .count ≤ m .highest → earlierFed (feedOf (scaleOf ws ones) m q) ≡ countedFeed (graphOf ws) (earlierMeter m) q
   unfolding feedOf countedFeed
   same-by true u e d h l = rw e
-  same-by false true e d h l = rw (e, laws .ones-accepted, let-through (length ws) m h l, h, strays, d)
-  same-by false false e d h l = rw (e, laws .ones-accepted, let-through (length ws) m h l, h, strays, d) (rw moves)
+  same-by false true e d h l = rw (e, laws .ones-accepted, let-through (ws .size) m h l, h, strays, d)
+  same-by false false e d h l = rw (e, laws .ones-accepted, let-through (ws .size) m h l, h, strays, d) (rw moves)
 
-  many : mostWords < length ws → earlierFed (feedOf (scaleOf ws ones) m q) ≡ countedFeed (graphOf ws) (earlierMeter m) q
+  many : mostWords < ws .size → earlierFed (feedOf (scaleOf ws ones) m q) ≡ countedFeed (graphOf ws) (earlierMeter m) q
   unfolding feedOf countedFeed
-  many l = rw (lt-ltb mostWords (length ws) l)
+  many l = rw (lt-ltb mostWords (ws .size) l)
 
-  aside : (t : Bool) → countedForeign (length ws) (earlierMeter m) ≡ t → isForeign (length ws) m ≡ true → m .count ≤ m .highest → t ≡ true
+  aside : (t : Bool) → countedForeign (ws .size) (earlierMeter m) ≡ t → isForeign (ws .size) m ≡ true → m .count ≤ m .highest → t ≡ true
   aside true e f l = refl
-  aside false e f l = absurd (true≢false (sym f ∙ let-through (length ws) m e l))
+  aside false e f l = absurd (true≢false (sym f ∙ let-through (ws .size) m e l))
 
   pub earlier-feed : EarlierFeed ws m q
   earlier-feed =
       record {
         many = many;
-        same = same-by (ltb mostWords (length ws)) (countedStray (graphOf ws) (earlierMeter m) q) refl refl;
-        aside = aside (countedForeign (length ws) (earlierMeter m)) refl;
-        kept = let-anew (length ws) m;
+        same = same-by (ltb mostWords (ws .size)) (countedStray (graphOf ws) (earlierMeter m) q) refl refl;
+        aside = aside (countedForeign (ws .size) (earlierMeter m)) refl;
+        kept = let-anew (ws .size) m;
       }

@@ -5,3 +5,5 @@ pub mod Highest
 pub mod Bound
 pub mod Demand3
 pub mod Earlier
+pub mod Laws
+pub mod FeedWalk

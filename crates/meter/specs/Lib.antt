@@ -6,3 +6,4 @@ pub mod Highest
 pub mod Bound
 pub mod Demand3
 pub mod Earlier
+pub mod Laws

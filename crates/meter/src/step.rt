@@ -2,10 +2,11 @@
 ghost use mathlib.Core.Path.{_≡_};
 ghost use Prim.Native.Nat.{_*_, _<_, _≤_, max};
 ghost use Rattle.common.specs.Limits.{mostWords};
-ghost use Rattle.runs.specs.Instance.{graphOf};
+ghost use Rattle.runs.specs.Script.{scriptOf, lua54, graphOf};
 ghost use Rattle.runs.specs.Weights.{heaviestWeight};
 ghost use Rattle.meter.specs.Feed.{scaleOf, beginOf, resetOf, oneService, showing, movedTo, isForeign, isStray, refusal, feedOf};
 use common::limits::MOST_WORDS;
+use fields::version::Version;
 
 // A feed's number has 64 bits, as C gets it.
 
@@ -118,8 +119,8 @@ fn is_foreign(n: usize, m: Meter) -> bool
 }
 
 // Number 10: no word that can follow.
-fn is_stray(words: &[u32], m: Meter, q: usize) -> bool
-    ensures { λ r. ⌜ r ≡ isStray (graphOf (now (words .entry))) m q ⌝ }
+fn is_stray(version: Version, words: &[u32], m: Meter, q: usize) -> bool
+    ensures { λ r. ⌜ r ≡ isStray (graphOf (scriptOf version (now (words .entry)))) m q ⌝ }
 {
     if words.len() <= q {
         return true;
@@ -127,7 +128,7 @@ fn is_stray(words: &[u32], m: Meter, q: usize) -> bool
     if m.begun == 0 {
         return q != 0;
     }
-    !runs::successors::is_successor(words, wide(m.last), q)
+    !runs::script::is_successor(version, words, wide(m.last), q)
 }
 
 fn larger(x: u32, y: u32) -> u32
@@ -153,12 +154,12 @@ fn show_count(last: u32, count: u32, services: u32, before: u32) -> Meter
 }
 
 // The meter at q. What the checks leave is small enough to add to and to keep in 32 bits.
-fn moved(words: &[u32], weights: &[u8], m: Meter, q: usize) -> Meter
+fn moved(version: Version, words: &[u32], weights: &[u8], m: Meter, q: usize) -> Meter
     requires { ⌜ (q < mostWords) × (m .count ≤ heaviestWeight * mostWords) ⌝ }
-    ensures { λ r. ⌜ r ≡ movedTo (scaleOf (now (words .entry)) (now (weights .entry))) m q ⌝ }
+    ensures { λ r. ⌜ r ≡ movedTo (scaleOf (scriptOf version (now (words .entry))) (now (weights .entry))) m q ⌝ }
 {
     let to = q as u32;
-    let weight = runs::weighing::weight_at(words, weights, q);
+    let weight = runs::script::weight_at(version, words, weights, q);
     if m.begun == 0 {
         return show_count(to, weight, m.services, m.highest);
     }
@@ -181,9 +182,9 @@ fn refused(m: Meter, number: u64, place: usize) -> Fed
     }
 }
 
-// A feed of word q, in bounded time: of the words only those are read that decide the edge and the weight.
-pub fn feed_step(words: &[u32], weights: &[u8], m: Meter, q: usize) -> Fed
-    ensures { λ r. ⌜ r ≡ feedOf (scaleOf (now (words .entry)) (now (weights .entry))) m q ⌝ }
+// A feed of word q of a script of either version, in bounded time: of the words only those are read that decide the edge and the weight.
+pub fn feed_script(version: Version, words: &[u32], weights: &[u8], m: Meter, q: usize) -> Fed
+    ensures { λ r. ⌜ r ≡ feedOf (scaleOf (scriptOf version (now (words .entry))) (now (weights .entry))) m q ⌝ }
 {
     if MOST_WORDS < words.len() {
         return refused(m, TOO_MANY_WORDS, 0);
@@ -194,10 +195,10 @@ pub fn feed_step(words: &[u32], weights: &[u8], m: Meter, q: usize) -> Fed
     if is_foreign(words.len(), m) {
         return refused(m, FOREIGN_METER, 0);
     }
-    if is_stray(words, m, q) {
+    if is_stray(version, words, m, q) {
         return refused(m, NO_STEP, 0);
     }
-    let next = moved(words, weights, m, q);
+    let next = moved(version, words, weights, m, q);
     Fed {
         meter: next,
         answer: FeedAnswer {
@@ -205,4 +206,11 @@ pub fn feed_step(words: &[u32], weights: &[u8], m: Meter, q: usize) -> Fed
             place: 0,
         },
     }
+}
+
+// The same of words of 5.4.
+pub fn feed_step(words: &[u32], weights: &[u8], m: Meter, q: usize) -> Fed
+    ensures { λ r. ⌜ r ≡ feedOf (scaleOf (lua54 (now (words .entry))) (now (weights .entry))) m q ⌝ }
+{
+    feed_script(Version::Lua54, words, weights, m, q)
 }

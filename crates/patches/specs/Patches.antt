@@ -6,8 +6,9 @@ use mathlib.Core.List.{List}
 use Prim.Native.Nat.{ℕ, _+_, _<_}
 use lib.ListN.{length, getD}
 use Rattle.common.specs.Numbers.{«ACCEPTED»}
+use Rattle.fields.specs.declared.version.Version.{Version}
 use Rattle.graph.specs.Graph.{Graph, Reachable, Segment}
-use Rattle.runs.specs.Instance.{graphOf}
+use Rattle.runs.specs.Script.{scriptOf, graphOf}
 use Rattle.runs.specs.Run.{runOf, numberIs, marksAfter, lengthsAfter}
 use Rattle.runs.specs.Slices.{Kept}
 use Rattle.patches.specs.Reading.{SameAt}
@@ -21,8 +22,9 @@ pub record Dead (g : Graph) (q : ℕ) : Type 0 where
   pub unreachable : Reachable g q → ⊥
   pub apart : (p : ℕ) → Reachable g p → NextTo p q → ⊥
 
--- ws, vs: "two equally long word lists, given the same weights"; the slices that each of the two runs is lent, whatever they hold
-module _ (ws vs weights marks lengths marks′ lengths′ : List ℕ) where
+-- ws, vs: "two equally long word lists, given the same weights", of one version (request C-24: "in earlier claims a
+-- script's words include its version"); the slices that each of the two runs is lent, whatever they hold
+module _ (version : Version) (ws vs weights marks lengths marks′ lengths′ : List ℕ) where
   pub record Patched : Type 0 where
     -- "two equally long word lists"
     pub count : length ws ≡ length vs
@@ -30,25 +32,25 @@ module _ (ws vs weights marks lengths marks′ lengths′ : List ℕ) where
     pub marks-count : length marks ≡ length marks′
     pub lengths-count : length lengths ≡ length lengths′
     -- "the first accepted"
-    pub accepted : numberIs ws weights marks lengths ≡ «ACCEPTED»
+    pub accepted : numberIs (scriptOf version ws) weights marks lengths ≡ «ACCEPTED»
     -- "they differ only in words that are neither reachable in the first nor next to a reachable word"
-    pub differ : (p : ℕ) → p < length ws → (SameAt ws vs p → ⊥) → Dead (graphOf ws) p
+    pub differ : (p : ℕ) → p < length ws → (SameAt ws vs p → ⊥) → Dead (graphOf (scriptOf version ws)) p
 
   pub record SameRun : Type 0 where
     -- "the second is accepted too"
-    pub accepted : numberIs vs weights marks′ lengths′ ≡ «ACCEPTED»
+    pub accepted : numberIs (scriptOf version vs) weights marks′ lengths′ ≡ «ACCEPTED»
     -- "with the same marks"
-    pub same-marks : (p : ℕ) → p < length ws → getD (marksAfter ws weights marks lengths) p 0 ≡ getD (marksAfter vs weights marks′ lengths′) p 0
+    pub same-marks : (p : ℕ) → p < length ws → getD (marksAfter (scriptOf version ws) weights marks lengths) p 0 ≡ getD (marksAfter (scriptOf version vs) weights marks′ lengths′) p 0
     -- "stretches": their lengths, and they themselves
-    pub same-lengths : (p : ℕ) → p < length ws → getD (lengthsAfter ws weights marks lengths) p 0 ≡ getD (lengthsAfter vs weights marks′ lengths′) p 0
-    pub same-segments : (p : ℕ) (ps : List ℕ) → Segment (graphOf ws) p ps ↔ Segment (graphOf vs) p ps
+    pub same-lengths : (p : ℕ) → p < length ws → getD (lengthsAfter (scriptOf version ws) weights marks lengths) p 0 ≡ getD (lengthsAfter (scriptOf version vs) weights marks′ lengths′) p 0
+    pub same-segments : (p : ℕ) (ps : List ℕ) → Segment (graphOf (scriptOf version ws)) p ps ↔ Segment (graphOf (scriptOf version vs)) p ps
     -- "L and first word", which with the acceptance are the whole answer
-    pub same-answer : runOf ws weights (length marks) (length lengths) ≡ runOf vs weights (length marks′) (length lengths′)
+    pub same-answer : runOf (scriptOf version ws) weights (length marks) (length lengths) ≡ runOf (scriptOf version vs) weights (length marks′) (length lengths′)
     -- document 01's "Elements past n are untouched": there each slice of the second run keeps its own
-    pub marks-kept : Kept (length vs) marks′ (marksAfter vs weights marks′ lengths′)
-    pub lengths-kept : Kept (length vs) lengths′ (lengthsAfter vs weights marks′ lengths′)
+    pub marks-kept : Kept (length vs) marks′ (marksAfter (scriptOf version vs) weights marks′ lengths′)
+    pub lengths-kept : Kept (length vs) lengths′ (lengthsAfter (scriptOf version vs) weights marks′ lengths′)
 
 abbrev pub DeadWordsMayChange : Type 0
 DeadWordsMayChange =
-    (ws vs weights marks lengths marks′ lengths′ : List ℕ) → Patched ws vs weights marks lengths marks′ lengths′
-    → SameRun ws vs weights marks lengths marks′ lengths′
+    (version : Version) (ws vs weights marks lengths marks′ lengths′ : List ℕ) → Patched version ws vs weights marks lengths marks′ lengths′
+    → SameRun version ws vs weights marks lengths marks′ lengths′

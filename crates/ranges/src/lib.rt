@@ -2,10 +2,13 @@
 // not put that pass into `lawendeb_longest_run` any more, which then takes about a fifth more time.
 ghost use mathlib.Core.Path.{_≡_};
 ghost use lib.ListN.{length};
+ghost use Rattle.runs.specs.Script.{lua54};
 ghost use Rattle.runs.specs.Range.{runsOf, marksAfterBoth, lengthsAfterBoth};
 ghost use Rattle.ranges.specs.Flat.{flatRange};
+use fields::version::Version;
 use runs::RunRange;
 
+// As C gets both reports; crate `lua53` answers it too.
 #[repr(C)]
 pub struct FlatRange {
     pub number: u64,
@@ -16,7 +19,7 @@ pub struct FlatRange {
     pub high_first: u64,
 }
 
-fn flat_range(runs: RunRange) -> FlatRange
+pub fn flat_range(runs: RunRange) -> FlatRange
     ensures { λ r. ⌜ r ≡ flatRange runs ⌝ }
 {
     match runs {
@@ -52,9 +55,9 @@ pub extern "C" fn lawendeb_longest_runs(
     marks: &mut [u8],
     lengths: &mut [u32],
 ) -> FlatRange
-    ensures { λ r. ⌜ r ≡ flatRange (runsOf (now (words .entry)) (now (low .entry)) (now (high .entry)) (length (now (marks .entry))) (length (now (lengths .entry)))) ⌝ }
-    ensures { λ _. ⌜ now (marks .exit) ≡ marksAfterBoth (now (words .entry)) (now (low .entry)) (now (high .entry)) (now (marks .entry)) (now (lengths .entry)) ⌝ }
-    ensures { λ _. ⌜ now (lengths .exit) ≡ lengthsAfterBoth (now (words .entry)) (now (low .entry)) (now (high .entry)) (now (marks .entry)) (now (lengths .entry)) ⌝ }
+    ensures { λ r. ⌜ r ≡ flatRange (runsOf (lua54 (now (words .entry))) (now (low .entry)) (now (high .entry)) (length (now (marks .entry))) (length (now (lengths .entry)))) ⌝ }
+    ensures { λ _. ⌜ now (marks .exit) ≡ marksAfterBoth (lua54 (now (words .entry))) (now (low .entry)) (now (high .entry)) (now (marks .entry)) (now (lengths .entry)) ⌝ }
+    ensures { λ _. ⌜ now (lengths .exit) ≡ lengthsAfterBoth (lua54 (now (words .entry))) (now (low .entry)) (now (high .entry)) (now (marks .entry)) (now (lengths .entry)) ⌝ }
 {
-    flat_range(runs::longest_runs(words, low, high, marks, lengths))
+    flat_range(runs::longest_runs(Version::Lua54, words, low, high, marks, lengths))
 }

@@ -7,7 +7,6 @@ use Prim.Native.Nat.{ℕ, _≤_, _<_}
 use native.Mathlib.Nat.{pos-of-ne-zero}
 use native.Mathlib.Omega.{arith}
 use borrow.Author.Tests.{eqb-true, eq-eqb, lt-ltb, le-ltb}
-use lib.ListN.{length, getD}
 use Rattle.common.specs.Limits.{mostWords}
 use Rattle.common.specs.Numbers.{«NO_WORDS», «REACHES_INVALID»}
 use Rattle.common.specs.Lowest.{lowest}
@@ -22,10 +21,9 @@ use Rattle.graph.proofs.Meaning.{meaning}
 use Rattle.graph.proofs.Ceiling.{ceiling}
 use Rattle.runs.specs.declared.longest.Run.{Run}
 use Rattle.runs.specs.declared.longest.Run.the-variants.{Accepted, Refused}
-use Rattle.fields.specs.Word.{opcodeOf}
-use Rattle.runs.specs.Instance.{graphOf}
+use Rattle.runs.specs.Script.{Script, Sound, graphOf, weightOf}
 use Rattle.runs.specs.Run.{reachesInvalid, lowestInvalid, runOf}
-use Rattle.runs.specs.Weights.{heaviestWeight, weightOf, Weighs}
+use Rattle.runs.specs.Weights.{heaviestWeight, Weighs}
 use Rattle.runs.specs.Demand.{MeetsInvalidAt, MeetsInvalid, Passes, Demand}
 use Rattle.runs.proofs.Weights.{weight-laws}
 use Rattle.runs.proofs.Outcome.{run-none, run-words}
@@ -36,7 +34,7 @@ both : (t u : Bool) → t && u ≡ true → (t ≡ true) × (u ≡ true)
 both true u e = (refl, e)
 both false u e = absurd (false≢true e)
 
-module _ (ws weights : List ℕ) (weighs : Weighs weights) where
+module _ (ws : Script) (sound : Sound ws) (weights : List ℕ) (weighs : Weighs weights) where
   abbrev graph : Graph
   graph = graphOf ws
 
@@ -44,42 +42,42 @@ module _ (ws weights : List ℕ) (weighs : Weighs weights) where
   w = weightOf ws weights
 
   pub means : Meaning graph w
-  means = meaning graph (lawful ws) w (weight-laws weights (weighs .accepted) .some ws)
+  means = meaning graph (lawful ws sound) w (weight-laws weights (weighs .accepted) .some ws sound)
 
-  pub inside : {p : ℕ} → Reachable graph p → p < length ws
-  inside {p} r = laws .reaching graph (lawful ws) .below p r
+  pub inside : {p : ℕ} → Reachable graph p → p < ws .size
+  inside {p} r = laws .reaching graph (lawful ws sound) .below p r
 
   -- the lowest reachable invalid word is met by a path, and none below it is
-  met : lowestInvalid ws < length ws → MeetsInvalidAt ws (lowestInvalid ws)
+  met : lowestInvalid ws < ws .size → MeetsInvalidAt ws (lowestInvalid ws)
   unfolding lowestInvalid
   met h =
-      let e = both _ _ (lowest-laws .first (reachesInvalid ws) 0 (length ws) .holds (omega arith)) in
-      record { reachable = means .mark-one (lowest (reachesInvalid ws) (length ws)) h .0 (eqb-true _ _ (e .0)); invalid = e .1 }
+      let e = both _ _ (lowest-laws .first (reachesInvalid ws) 0 (ws .size) .holds (omega arith)) in
+      record { reachable = means .mark-one (lowest (reachesInvalid ws) (ws .size)) h .0 (eqb-true _ _ (e .0)); invalid = e .1 }
 
   least-met : (p : ℕ) → MeetsInvalidAt ws p → lowestInvalid ws ≤ p
   unfolding lowestInvalid
   least-met p m =
       let y : reachesInvalid ws p ≡ true = simp (eq-eqb (markOf graph p) 1 (means .mark-one p (inside (m .reachable)) .1 (m .reachable)), m .invalid) in
       ⊎-elim (λ d. d)
-      (λ d. absurd (true≢false (sym y ∙ lowest-laws .first (reachesInvalid ws) 0 (length ws) .not-before p (omega arith) d)))
-      (split (lowest (reachesInvalid ws) (length ws)) p)
+      (λ d. absurd (true≢false (sym y ∙ lowest-laws .first (reachesInvalid ws) 0 (ws .size) .not-before p (omega arith) d)))
+      (split (lowest (reachesInvalid ws) (ws .size)) p)
 
-  unmet : length ws ≤ lowestInvalid ws → MeetsInvalid ws → ⊥
+  unmet : ws .size ≤ lowestInvalid ws → MeetsInvalid ws → ⊥
   unmet h m = omega (arith, least-met (m .word) (m .met), inside (m .met .reachable))
 
   passes-most : {p k : ℕ} → Passes ws weights p k → k ≤ longest graph w
   passes-most {p} s = omega (arith, s .weight, means .longest-most p (s .rest) (s .segment))
 
-  passes-first : 0 < length ws → Passes ws weights (first graph w) (longest graph w)
+  passes-first : 0 < ws .size → Passes ws weights (first graph w) (longest graph w)
   passes-first z = let a = means .first-some z in record { rest = a .0; segment = a .1; weight = a .2 }
 
   -- a segment starts at a word
-  pub starts : {p k : ℕ} → Passes ws weights p k → p < length ws
-  starts {p} s = inside (laws .reaching graph (lawful ws) .segment p (s .rest) (s .segment))
+  pub starts : {p k : ℕ} → Passes ws weights p k → p < ws .size
+  starts {p} s = inside (laws .reaching graph (lawful ws sound) .segment p (s .rest) (s .segment))
 
   -- Each number in turn.
 
-  none : length ws ≡ 0 → Demand ws weights (Refused «NO_WORDS» 0)
+  none : ws .size ≡ 0 → Demand ws weights (Refused «NO_WORDS» 0)
   none z =
       let unmet-here : MeetsInvalid ws → ⊥ = λ m. omega (arith, inside (m .met .reachable)) in
       record {
@@ -95,7 +93,7 @@ module _ (ws weights : List ℕ) (weighs : Weighs weights) where
         ceiling = omega arith;
       }
 
-  invalid : lowestInvalid ws < length ws → Demand ws weights (Refused «REACHES_INVALID» (lowestInvalid ws))
+  invalid : lowestInvalid ws < ws .size → Demand ws weights (Refused «REACHES_INVALID» (lowestInvalid ws))
   invalid h =
       let m : MeetsInvalid ws = record { word = lowestInvalid ws; met = met h } in
       record {
@@ -111,7 +109,7 @@ module _ (ws weights : List ℕ) (weighs : Weighs weights) where
         ceiling = omega arith;
       }
 
-  accepted : 0 < length ws → length ws ≤ lowestInvalid ws → Demand ws weights (Accepted (longest graph w) (first graph w))
+  accepted : 0 < ws .size → ws .size ≤ lowestInvalid ws → Demand ws weights (Accepted (longest graph w) (first graph w))
   accepted some valid =
       record {
         refused = (λ k. absurd (omega arith), ⊎-elim (λ z. omega arith) (λ m. absurd (unmet valid m)));
@@ -123,10 +121,10 @@ module _ (ws weights : List ℕ) (weighs : Weighs weights) where
         bounded = λ z p k s. passes-most s;
         reached = λ z. passes-first some;
         first-lowest = λ z p s. means .first-lowest p (s .rest) (s .segment) (s .weight);
-        ceiling = ceiling .longest-run graph (lawful ws) w heaviestWeight (λ p. weighs .bytes (opcodeOf (getD ws p 0)));
+        ceiling = ceiling .longest-run graph (lawful ws sound) w heaviestWeight (λ p. weighs .bytes (ws .slot p));
       }
 
-  module _ (a b : ℕ) (few : length ws ≤ mostWords) (h : length ws ≤ a) (k : length ws ≤ b) where
+  module _ (a b : ℕ) (few : ws .size ≤ mostWords) (h : ws .size ≤ a) (k : ws .size ≤ b) where
     of-run : {r : Run} → Demand ws weights r → runOf ws weights a b ≡ r → Demand ws weights (runOf ws weights a b)
     of-run d e = subst (λ (r : Run). Demand ws weights r) (sym e) d
 
@@ -136,7 +134,7 @@ module _ (ws weights : List ℕ) (weighs : Weighs weights) where
         (λ z. of-run (none z) (run-none ws weights a b few h k (weighs .accepted) z))
         (λ n. let some = pos-of-ne-zero n in let r = run-words ws weights a b few h k (weighs .accepted) some in
         ⊎-elim
-        (λ valid. of-run (accepted some valid) (r ∙ simp (le-ltb (lowestInvalid ws) (length ws) valid)))
-        (λ l. of-run (invalid l) (r ∙ simp (lt-ltb (lowestInvalid ws) (length ws) l)))
-        (split (length ws) (lowestInvalid ws)))
-        (same-or-not (length ws) 0)
+        (λ valid. of-run (accepted some valid) (r ∙ simp (le-ltb (lowestInvalid ws) (ws .size) valid)))
+        (λ l. of-run (invalid l) (r ∙ simp (lt-ltb (lowestInvalid ws) (ws .size) l)))
+        (split (ws .size) (lowestInvalid ws)))
+        (same-or-not (ws .size) 0)

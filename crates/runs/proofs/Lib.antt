@@ -1,16 +1,22 @@
+pub mod Bad53
 pub mod Between
 pub mod BothTables
 pub mod Columns
+pub mod Columns53
 pub mod Counted
 pub mod Cut
 pub mod Demand
 pub mod Entries
+pub mod EntryLaws
 pub mod Held
 pub mod Lawful
 pub mod Laws
 pub mod Lvm
+pub mod Lvm53
+pub mod Masks
 pub mod Measures
 pub mod Moves
+pub mod NextWords
 pub mod Outcome
 pub mod Searched
 pub mod Slices
@@ -18,3 +24,4 @@ pub mod Steps
 pub mod Turn
 pub mod Weights
 pub mod Words
+pub mod Words53

@@ -1,4 +1,4 @@
--- Words that are searched, and their lengths by a table of weights. Assumes nothing.
+-- A script that is searched, and its lengths by a table of weights. Assumes nothing.
 use mathlib.Core.Path.{_≡_, refl, sym, ap, subst, _∙_}
 use mathlib.Core.List.{List, _++_, append-nil}
 use Prim.Native.Nat.{ℕ, _≤_, _<_}
@@ -9,15 +9,14 @@ use Rattle.common.specs.Numbers.{«REACHES_INVALID»}
 use Rattle.common.specs.Lists.{tabulate}
 use Rattle.common.specs.Lowest.{lowestFrom}
 use Rattle.common.proofs.Over.{over-laws}
-use Rattle.graph.specs.Graph.{Graph}
+use Rattle.graph.specs.Graph.{Graph, Lawful}
 use Rattle.graph.specs.Marks.{markOf}
 use Rattle.graph.specs.Longest.{lengthOf, most}
 use Rattle.graph.specs.Laws.{Passing}
 use Rattle.graph.proofs.Laws.{laws}
+use Rattle.fields.specs.declared.version.Version.{Version}
 use Rattle.runs.specs.declared.longest.Run.the-variants.{Accepted, Refused}
-use Rattle.runs.specs.Successors.{successorsOf}
-use Rattle.runs.specs.Instance.{graphOf}
-use Rattle.runs.specs.Weights.{weightOf}
+use Rattle.runs.specs.Script.{Script, scriptOf, graphOf, weightOf}
 use Rattle.runs.specs.Run.{lowestInvalid}
 use Rattle.runs.specs.Entries.{entries, graphIn, Settled}
 use Rattle.runs.specs.SearchInvariants.{Lent, Held, Marked, Marks}
@@ -25,78 +24,86 @@ use Rattle.runs.specs.PassInvariants.{Lengths, FillAsks, Fills, at}
 use Rattle.runs.specs.Outcome.{Searched, Decided}
 use Rattle.runs.proofs.Entries.{carries}
 use Rattle.runs.proofs.Held.{held-of}
-use Rattle.runs.proofs.Lawful.{lawful}
+use Rattle.runs.proofs.Lawful.{lawful, sound}
 use Rattle.runs.proofs.Outcome.{decided-invalid, decided-accepted}
 
-module _ (ws l : List ℕ) (s : Settled (length ws) (successorsOf ws) (entries l)) where
-  graph-is : graphIn (entries l) ≡ graphOf ws
-  graph-is = carries .graph (length ws) (successorsOf ws) (entries l) s
-
-  module _ {m l₀ : List ℕ} (k : Lent (length ws) m l₀) (same : length l ≡ length l₀) where
-    -- what the search asks
-    pub held-settled : Held m l
-    held-settled = held-of (length ws) (successorsOf ws) m l₀ l (lawful ws) k s same
-
-    -- what it leaves
-    pub searched : {m′ l′ : List ℕ} → Marks l m′ l′ → length m′ ≡ length m → length l′ ≡ length l → Searched ws m′ l′
-    searched {m′} {l′} e n n′ =
-        record {
-          lent = record { some = k .some; few = k .few; m-same = n ∙ k .m-same; l-same = n′ ∙ same ∙ k .l-same };
-          settled = subst (λ (es : List ℕ). Settled (length ws) (successorsOf ws) es) (sym (e .kept)) s;
-          marked = subst (λ (g : Graph). Marked g m′) graph-is (e .marked);
-        }
-
 -- the marks stay where the entries are settled anew
-pub searched-again : (ws : List ℕ) {m l l′ : List ℕ} → Searched ws m l
-    → Settled (length ws) (successorsOf ws) (entries l′) → length l′ ≡ length l → Searched ws m l′
+pub searched-again : (ws : Script) {m l l′ : List ℕ} → Searched ws m l
+    → Settled (ws .size) (ws .steps) (entries l′) → length l′ ≡ length l → Searched ws m l′
 searched-again ws s e n =
     let k = s .lent in
     record { lent = record { some = k .some; few = k .few; m-same = k .m-same; l-same = n ∙ k .l-same }; settled = e; marked = s .marked }
 
-module _ (ws : List ℕ) {m l : List ℕ} (s : Searched ws m l) where
-  -- what the pass over the lengths asks
-  pub fill-asks : FillAsks m l
-  fill-asks =
-      record {
-        held = held-settled ws l (s .settled) (s .lent) refl;
-        marked = subst (λ (g : Graph). Marked g m) (sym (graph-is ws l (s .settled))) (s .marked);
-      }
+-- a script of either version: its steps serve by the rule that the search of entries goes by
+module _ (version : Version) (words : List ℕ) where
+  abbrev ws : Script
+  ws = scriptOf version words
 
-  marks-are : m ≡ tabulate (markOf (graphOf ws)) 0 (length ws)
-  marks-are = over-laws .whole (markOf (graphOf ws)) (length ws) m (s .lent .m-same) (s .marked)
+  law : Lawful (graphOf ws)
+  law = lawful ws (sound version words)
 
-  -- and what it leaves, by a table of weights
-  module _ (weights : List ℕ) {l′ : List ℕ} {i : ℕ} (f : Fills (weightOf ws weights) l l′ i) (same : length l′ ≡ length l) where
-    abbrev w : ℕ → ℕ
-    w = weightOf ws weights
+  module _ (l : List ℕ) (s : Settled (ws .size) (ws .steps) (entries l)) where
+    graph-is : graphIn (entries l) ≡ graphOf ws
+    graph-is = carries .graph (ws .size) (ws .steps) (entries l) s
 
-    pub filled-length : length l′ ≡ length ws
-    filled-length = same ∙ s .lent .l-same
+    module _ {m l₀ : List ℕ} (k : Lent (ws .size) m l₀) (same : length l ≡ length l₀) where
+      -- what the search asks
+      pub held-settled : Held m l
+      held-settled = held-of (ws .size) (ws .steps) m l₀ l law k s same
 
-    each : Lengths (graphOf ws) w l′
-    each = subst (λ (g : Graph). Lengths g w l′) (graph-is ws l (s .settled)) (f .lengths)
+      -- what it leaves
+      pub searched : {m′ l′ : List ℕ} → Marks l m′ l′ → length m′ ≡ length m → length l′ ≡ length l → Searched ws m′ l′
+      searched {m′} {l′} e n n′ =
+          record {
+            lent = record { some = k .some; few = k .few; m-same = n ∙ k .m-same; l-same = n′ ∙ same ∙ k .l-same };
+            settled = subst (λ (es : List ℕ). Settled (ws .size) (ws .steps) es) (sym (e .kept)) s;
+            marked = subst (λ (g : Graph). Marked g m′) graph-is (e .marked);
+          }
 
-    lowest : i ≡ lowestInvalid ws
-    unfolding lowestInvalid
-    lowest = f .lowest-invalid ∙ carries .lowest-invalid (length ws) (successorsOf ws) (entries l) (s .settled)
+  module _ {m l : List ℕ} (s : Searched ws m l) where
+    -- what the pass over the lengths asks
+    pub fill-asks : FillAsks m l
+    fill-asks =
+        record {
+          held = held-settled l (s .settled) (s .lent) refl;
+          marked = subst (λ (g : Graph). Marked g m) (sym (graph-is l (s .settled))) (s .marked);
+        }
 
-    passing : Passing (graphOf ws) w
-    passing = laws .passing (graphOf ws) (lawful ws) w
+    marks-are : m ≡ tabulate (markOf (graphOf ws)) 0 (ws .size)
+    marks-are = over-laws .whole (markOf (graphOf ws)) (ws .size) m (s .lent .m-same) (s .marked)
 
-    -- lengths that are cleared
-    cleared : {c : List ℕ} → c ≡ replicate (length ws) 0 ++ drop (length ws) l′ → c ≡ tabulate (λ p. 0) 0 (length ws)
-    cleared {c} e =
-        let d : drop (length ws) l′ ≡ drop (length l′) l′ = ap (λ (n : ℕ). drop n l′) (sym filled-length) in
-        e ∙ ap (λ (x : List ℕ). replicate (length ws) 0 ++ x) (d ∙ drop-length l′) ∙ append-nil (replicate (length ws) 0) ∙ over-laws .zeros 0 (length ws)
+    -- and what it leaves, by a table of weights
+    module _ (weights : List ℕ) {l′ : List ℕ} {i : ℕ} (f : Fills (weightOf ws weights) l l′ i) (same : length l′ ≡ length l) where
+      abbrev w : ℕ → ℕ
+      w = weightOf ws weights
 
-    pub measured-invalid : {c : List ℕ} → i < length ws → c ≡ replicate (length ws) 0 ++ drop (length ws) l′
-        → Decided ws weights (Refused «REACHES_INVALID» i) m c
-    measured-invalid h e = decided-invalid ws weights marks-are lowest h (cleared e)
+      pub filled-length : length l′ ≡ ws .size
+      filled-length = same ∙ s .lent .l-same
 
-    pub measured-accepted : {v a : ℕ} → length ws ≤ i → v ≡ most (at l′) (length ws) → a ≡ lowestFrom (λ p. eqb (at l′ p) v) 0 (length ws)
-        → Decided ws weights (Accepted v a) m l′
-    measured-accepted {v} h e d =
-        let found = e ∙ passing .longest-found (at l′) each in
-        decided-accepted ws weights marks-are (subst (λ (x : ℕ). length ws ≤ x) lowest h) found
-        (d ∙ ap (λ (x : ℕ). lowestFrom (λ p. eqb (at l′ p) x) 0 (length ws)) found ∙ passing .first-found (at l′) each)
-        (over-laws .whole (lengthOf (graphOf ws) w) (length ws) l′ filled-length each)
+      each : Lengths (graphOf ws) w l′
+      each = subst (λ (g : Graph). Lengths g w l′) (graph-is l (s .settled)) (f .lengths)
+
+      lowest : i ≡ lowestInvalid ws
+      unfolding lowestInvalid
+      lowest = f .lowest-invalid ∙ carries .lowest-invalid (ws .size) (ws .steps) (entries l) (s .settled)
+
+      passing : Passing (graphOf ws) w
+      passing = laws .passing (graphOf ws) law w
+
+      -- lengths that are cleared
+      cleared : {c : List ℕ} → c ≡ replicate (ws .size) 0 ++ drop (ws .size) l′ → c ≡ tabulate (λ p. 0) 0 (ws .size)
+      cleared {c} e =
+          let d : drop (ws .size) l′ ≡ drop (length l′) l′ = ap (λ (n : ℕ). drop n l′) (sym filled-length) in
+          e ∙ ap (λ (x : List ℕ). replicate (ws .size) 0 ++ x) (d ∙ drop-length l′) ∙ append-nil (replicate (ws .size) 0) ∙ over-laws .zeros 0 (ws .size)
+
+      pub measured-invalid : {c : List ℕ} → i < ws .size → c ≡ replicate (ws .size) 0 ++ drop (ws .size) l′
+          → Decided ws weights (Refused «REACHES_INVALID» i) m c
+      measured-invalid h e = decided-invalid ws weights marks-are lowest h (cleared e)
+
+      pub measured-accepted : {v a : ℕ} → ws .size ≤ i → v ≡ most (at l′) (ws .size) → a ≡ lowestFrom (λ p. eqb (at l′ p) v) 0 (ws .size)
+          → Decided ws weights (Accepted v a) m l′
+      measured-accepted {v} h e d =
+          let found = e ∙ passing .longest-found (at l′) each in
+          decided-accepted ws weights marks-are (subst (λ (x : ℕ). ws .size ≤ x) lowest h) found
+          (d ∙ ap (λ (x : ℕ). lowestFrom (λ p. eqb (at l′ p) x) 0 (ws .size)) found ∙ passing .first-found (at l′) each)
+          (over-laws .whole (lengthOf (graphOf ws) w) (ws .size) l′ filled-length each)

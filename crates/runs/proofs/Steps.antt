@@ -2,13 +2,13 @@
 -- definitions. No word is read here. Assumes nothing.
 use Prim.Native.Nat.{ℕ, zero, suc, _+_, _-_, _<_, _≤_}
 use mathlib.Core.Path.{_≡_, refl, ap, sym, _∙_}
-use mathlib.Core.Logic.{_⊎_, inl, inr, ⊎-elim}
+use mathlib.Core.Logic.{_↔_, _⊎_, inl, inr, ⊎-elim}
 use mathlib.Core.Bool.{Bool, true, false, cond, false≢true}
 use native.Mathlib.Nat.{not-suc-le-zero}
 use native.Mathlib.Omega.{arith}
 use lib.Dec.{ltb}
 use lib.IntN.{ℤ, pos, negsuc, negℤ, _+ℤ_, _-ℤ_, +ℤ-assoc}
-use borrow.Author.Tests.{lt-ltb, le-ltb, ltb-true, leb-false}
+use borrow.Author.Tests.{lt-ltb, le-ltb, ltb-true, leb-true, leb-false, le-leb}
 use Rattle.runs.specs.declared.edges.Successors.{Successors}
 use Rattle.runs.specs.declared.edges.Successors.the-variants.{Invalid, Stop, One, Two}
 use Rattle.runs.specs.Steps.{unless, one, ordered, two, servesOf, Below}
@@ -58,15 +58,35 @@ module _ (n m a b : ℕ) where
   unfolding one
   away-below h = ap (one n) (sym (difference-below (m + a) b h) ∙ +ℤ-assoc (pos m) (pos a) (negℤ (pos b)))
 
+-- and of two words, the other any
+module _ (n m a b : ℕ) (y : ℤ) where
+  pub both-in : b ≤ m + a → two n (pos (m + a - b)) y ≡ two n (pos m +ℤ (pos a -ℤ pos b)) y
+  both-in h = ap (λ (z : ℤ). two n z y) (sym (difference-in (m + a) b h) ∙ +ℤ-assoc (pos m) (pos a) (negℤ (pos b)))
+
+  pub both-below : m + a < b → Invalid ≡ two n (pos m +ℤ (pos a -ℤ pos b)) y
+  unfolding two
+  both-below h = ap (λ (z : ℤ). two n z y) (sym (difference-below (m + a) b h) ∙ +ℤ-assoc (pos m) (pos a) (negℤ (pos b)))
+
 -- two equal next words are one
 twice : (t : Bool) (s : Successors) → unless t s ≡ unless t (unless t s)
 unfolding unless
 twice true s = refl
 twice false s = refl
 
-two-equal : (n x : ℕ) → one n (pos x) ≡ two n (pos x) (pos x)
+pub two-equal : (n x : ℕ) → one n (pos x) ≡ two n (pos x) (pos x)
 unfolding one two ordered
 two-equal n x = rw (le-ltb x x (omega arith)) (twice (ltb x n) (One x))
+
+-- the order in which two next words are named does not matter
+unless-swap : (t u : Bool) (s : Successors) → unless t (unless u s) ≡ unless u (unless t s)
+unfolding unless
+unless-swap true u s = refl
+unless-swap false true s = refl
+unless-swap false false s = refl
+
+pub two-swap : (n q r : ℕ) → q < r → two n (pos q) (pos r) ≡ two n (pos r) (pos q)
+unfolding two ordered
+two-swap n q r h = rw (lt-ltb q r h, le-ltb r q (omega arith)) (unless-swap (ltb q n) (ltb r n) (Two q r))
 
 -- a word and a distance back
 module _ (n x b : ℕ) where
@@ -117,6 +137,11 @@ two-below n (negsuc q) y = tt
 pub forward : (p q : ℕ) → servesOf p q ≡ false → p < q
 unfolding servesOf
 forward p q e = omega (arith, leb-false q _ e)
+
+-- and one that does not go forward serves
+pub serving : (p q : ℕ) → (servesOf p q ≡ true) ↔ (q ≤ p)
+unfolding servesOf
+serving p q = (leb-true q p, le-leb q p)
 
 -- of two successors one is the next word
 abbrev pub Nexts : ℕ → Successors → Type 0

@@ -11,8 +11,8 @@ use lib.ListN.{length, getD}
 use Rattle.common.specs.Lowest.{lowestFrom}
 use Rattle.common.proofs.Lowest.{lowest-laws}
 use Rattle.common.proofs.Order.{split, same-or-not}
-use Rattle.fields.specs.Word.{opcodeOf}
-use Rattle.runs.specs.Weights.{weightCount, isZeroAt, lowestZero, refusesWeights, weightsPlace, WeightLaws}
+use Rattle.runs.specs.Weights.{weightCount, isZeroAt, lowestZero, refusesWeights, weightsPlace}
+use Rattle.runs.specs.Laws.{Weighing}
 
 -- two tests that both fail
 neither : (t u : Bool) → t || u ≡ false → (t ≡ false) × (u ≡ false)
@@ -75,10 +75,7 @@ module _ (weights : List ℕ) where
   unfolding weightsPlace lowestZero
   place-zero e d = d ∙ simp (eq-eqb (length weights) weightCount e)
 
-pub opcode-small : (w : ℕ) → opcodeOf w < weightCount
-opcode-small w = omega arith
-
-pub weight-laws : WeightLaws
+pub weight-laws : (weights : List ℕ) → refusesWeights weights ≡ false → Weighing weights
 unfolding refusesWeights lowestZero
 weight-laws weights e =
     let n = neither (not (eqb (length weights) weightCount)) (ltb (lowestFrom (isZeroAt weights) 0 weightCount) weightCount) e in
@@ -88,7 +85,7 @@ weight-laws weights e =
     record {
       count = eqb-true _ _ (not-false (eqb (length weights) weightCount) (n .0));
       each = each;
-      some = λ ws p. each (opcodeOf (getD ws p 0)) (opcode-small (getD ws p 0));
+      some = λ ws sound p. each (ws .slot p) (sound .slots p);
     }
   where
     positive : {x : ℕ} → (x ≡ 0 → ⊥) → 0 < x

@@ -1,19 +1,25 @@
 -- Layer 2: the successors of a word, and the longest run.
 pub mod Columns
+pub mod Columns53
 pub mod Steps
 pub mod Successors
 pub mod Lvm
-pub mod Instance
+pub mod Successors53
+pub mod Lvm53
+pub mod Bad53
 pub mod Weights
+pub mod Script
 pub mod Run
 pub mod Range
 pub mod Between
 pub mod Counted
 pub mod Demand
 pub mod Slices
-pub mod Laws
 pub mod Entries
 pub mod SearchInvariants
 pub mod PassInvariants
 pub mod Cut
 pub mod Outcome
+pub mod Flat
+pub mod EntryLaws
+pub mod Laws

@@ -1,13 +1,12 @@
--- Request C-17, "A weight for every opcode": the table that the caller lends, and what a word weighs by it.
+-- Request C-17, "A weight for every opcode": the table that the caller lends. No word is read here.
 -- Assumes nothing.
 use mathlib.Core.Path.{_≡_}
 use mathlib.Core.Bool.{Bool, false, cond, not, _||_}
 use mathlib.Core.List.{List}
-use Prim.Native.Nat.{ℕ, _≤_, _<_}
+use Prim.Native.Nat.{ℕ, _≤_}
 use lib.Dec.{ltb, eqb}
 use lib.ListN.{length, getD}
 use Rattle.common.specs.Lowest.{lowestFrom}
-use Rattle.fields.specs.Word.{opcodeOf}
 
 -- "128 weights of 1 to 255"
 abbrev pub weightCount : ℕ
@@ -15,10 +14,6 @@ weightCount = 128
 
 abbrev pub heaviestWeight : ℕ
 heaviestWeight = 255
-
--- "indexed by the low seven bits": what word p weighs
-abbrev pub weightOf : List ℕ → List ℕ → ℕ → ℕ
-weightOf ws weights p = getD weights (opcodeOf (getD ws p 0)) 0
 
 -- "a weight of 0"
 abbrev pub isZeroAt : List ℕ → ℕ → Bool
@@ -40,12 +35,3 @@ weightsPlace weights = cond (eqb (length weights) weightCount) (lowestZero weigh
 pub record Weighs (weights : List ℕ) : Type 0 where
   pub accepted : refusesWeights weights ≡ false
   pub bytes : (i : ℕ) → getD weights i 0 ≤ heaviestWeight
-
--- what that says: "128 weights of 1 to 255", whatever word is weighed
-pub record Weighing (weights : List ℕ) : Type 0 where
-  pub count : length weights ≡ weightCount
-  pub each : (i : ℕ) → i < weightCount → 0 < getD weights i 0
-  pub some : (ws : List ℕ) (p : ℕ) → 0 < weightOf ws weights p
-
-abbrev pub WeightLaws : Type 0
-WeightLaws = (weights : List ℕ) → refusesWeights weights ≡ false → Weighing weights

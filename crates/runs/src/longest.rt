@@ -3,19 +3,21 @@ ghost use mathlib.Core.Path.{_≡_};
 ghost use lib.ListN.{length};
 ghost use Rattle.runs.specs.Run.{runOf, marksAfter, lengthsAfter};
 ghost use Rattle.runs.specs.SearchInvariants.{Lent};
-ghost use Rattle.fields.specs.Table.{opcodeTable};
+ghost use Rattle.runs.specs.Script.{scriptOf};
 ghost use Rattle.runs.specs.Outcome.{Searched, Decided};
 ghost use Rattle.runs.specs.Weights.{weightCount};
 use crate::lengths::clear_lengths;
 use crate::lengths::fill_lengths;
 use crate::lengths::find_first;
 use crate::lengths::find_longest;
+use crate::script::settle_script;
+use crate::script::slot_mask;
 use crate::search::mark_reachable;
-use crate::settling::settle_edges;
 use crate::weighing::refuses_weights;
 use crate::weighing::weights_place;
 use common::limits::MOST_WORDS;
 use common::numbers::*;
+use fields::version::Version;
 
 pub enum Run {
     Accepted { longest: u32, first: usize },
@@ -23,21 +25,27 @@ pub enum Run {
 }
 
 // The entries of the words, in the lengths, and the marks.
-pub(crate) fn search_words(table: &[u8; 512], words: &[u32], marks: &mut [u8], lengths: &mut [u32])
-    requires { ⌜ (now table ≡ opcodeTable) × Lent (length (now words)) (now marks) (now lengths) ⌝ }
-    ensures { λ _. ⌜ Searched (now (words .entry)) (now (marks .exit)) (now (lengths .exit)) ⌝ }
+pub fn search_words(version: Version, words: &[u32], marks: &mut [u8], lengths: &mut [u32])
+    requires { ⌜ Lent (length (now words)) (now marks) (now lengths) ⌝ }
+    ensures { λ _. ⌜ Searched (scriptOf version (now (words .entry))) (now (marks .exit)) (now (lengths .exit)) ⌝ }
 {
-    settle_edges(table, words, lengths);
+    settle_script(version, words, lengths);
     mark_reachable(marks, lengths);
 }
 
 // The run by a table of weights, of words that are searched: their lengths take the place of their entries.
-pub(crate) fn measure_run(words: &[u32], weights: &[u8], marks: &[u8], lengths: &mut [u32]) -> Run
-    requires { ⌜ Searched (now words) (now marks) (now lengths) × (length (now weights) ≡ weightCount) ⌝ }
-    ensures { λ r. ⌜ Decided (now (words .entry)) (now (weights .entry)) r (now (marks .entry)) (now (lengths .exit)) ⌝ }
+pub fn measure_run(
+    version: Version,
+    words: &[u32],
+    weights: &[u8],
+    marks: &[u8],
+    lengths: &mut [u32],
+) -> Run
+    requires { ⌜ Searched (scriptOf version (now words)) (now marks) (now lengths) × (length (now weights) ≡ weightCount) ⌝ }
+    ensures { λ r. ⌜ Decided (scriptOf version (now (words .entry))) (now (weights .entry)) r (now (marks .entry)) (now (lengths .exit)) ⌝ }
 {
     let n = words.len();
-    let invalid = fill_lengths(words, weights, marks, lengths);
+    let invalid = fill_lengths(slot_mask(version), words, weights, marks, lengths);
     if invalid < n {
         clear_lengths(lengths, n);
         return Run::Refused {
@@ -51,21 +59,32 @@ pub(crate) fn measure_run(words: &[u32], weights: &[u8], marks: &[u8], lengths: 
 }
 
 // The run of words that pass the checks of their number and of the slices.
-fn run_of_words(words: &[u32], weights: &[u8], marks: &mut [u8], lengths: &mut [u32]) -> Run
+fn run_of_words(
+    version: Version,
+    words: &[u32],
+    weights: &[u8],
+    marks: &mut [u8],
+    lengths: &mut [u32],
+) -> Run
     requires { ⌜ Lent (length (now words)) (now marks) (now lengths) × (length (now weights) ≡ weightCount) ⌝ }
-    ensures { λ r. ⌜ Decided (now (words .entry)) (now (weights .entry)) r (now (marks .exit)) (now (lengths .exit)) ⌝ }
+    ensures { λ r. ⌜ Decided (scriptOf version (now (words .entry))) (now (weights .entry)) r (now (marks .exit)) (now (lengths .exit)) ⌝ }
 {
-    let table = fields::lookup::table();
-    search_words(&table, words, marks, lengths);
-    measure_run(words, weights, marks, lengths)
+    search_words(version, words, marks, lengths);
+    measure_run(version, words, weights, marks, lengths)
 }
 
 // The longest run and the lowest word at which it begins, or the first refusal that applies. The slices get, for each word, whether
 // it is reachable, and the most that a segment which starts there weighs.
-pub fn longest_run(words: &[u32], weights: &[u8], marks: &mut [u8], lengths: &mut [u32]) -> Run
-    ensures { λ r. ⌜ r ≡ runOf (now (words .entry)) (now (weights .entry)) (length (now (marks .entry))) (length (now (lengths .entry))) ⌝ }
-    ensures { λ _. ⌜ now (marks .exit) ≡ marksAfter (now (words .entry)) (now (weights .entry)) (now (marks .entry)) (now (lengths .entry)) ⌝ }
-    ensures { λ _. ⌜ now (lengths .exit) ≡ lengthsAfter (now (words .entry)) (now (weights .entry)) (now (marks .entry)) (now (lengths .entry)) ⌝ }
+pub fn longest_run(
+    version: Version,
+    words: &[u32],
+    weights: &[u8],
+    marks: &mut [u8],
+    lengths: &mut [u32],
+) -> Run
+    ensures { λ r. ⌜ r ≡ runOf (scriptOf version (now (words .entry))) (now (weights .entry)) (length (now (marks .entry))) (length (now (lengths .entry))) ⌝ }
+    ensures { λ _. ⌜ now (marks .exit) ≡ marksAfter (scriptOf version (now (words .entry))) (now (weights .entry)) (now (marks .entry)) (now (lengths .entry)) ⌝ }
+    ensures { λ _. ⌜ now (lengths .exit) ≡ lengthsAfter (scriptOf version (now (words .entry))) (now (weights .entry)) (now (marks .entry)) (now (lengths .entry)) ⌝ }
 {
     let n = words.len();
     if MOST_WORDS < n {
@@ -98,5 +117,5 @@ pub fn longest_run(words: &[u32], weights: &[u8], marks: &mut [u8], lengths: &mu
             place: 0,
         };
     }
-    run_of_words(words, weights, &mut marks[..n], &mut lengths[..n])
+    run_of_words(version, words, weights, &mut marks[..n], &mut lengths[..n])
 }

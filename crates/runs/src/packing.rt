@@ -6,22 +6,22 @@ ghost use Rattle.runs.specs.Entries.{Packs, Says};
 use crate::edges::Successors;
 
 // An entry is a kind times this, and a target.
-pub(crate) const TARGETS: u32 = 32768;
+pub const TARGETS: u32 = 32768;
 
 // What an element of the lengths holds from here up is the queue's.
-pub(crate) const ENTRIES: u32 = 131072;
+pub const ENTRIES: u32 = 131072;
 
 // The kinds. That a word goes on to the next has a kind of its own, so that a search need not wait for the target to be read.
-pub(crate) const KIND_NONE: u32 = 0;
+pub const KIND_NONE: u32 = 0;
 
-pub(crate) const KIND_NEXT: u32 = 1;
+pub const KIND_NEXT: u32 = 1;
 
-pub(crate) const KIND_TARGET: u32 = 2;
+pub const KIND_TARGET: u32 = 2;
 
-pub(crate) const KIND_BOTH: u32 = 3;
+pub const KIND_BOTH: u32 = 3;
 
 // The entry of a return: no step, and a target that tells it from an invalid word, whose entry is 0.
-pub(crate) const RETURNS: u32 = 1;
+pub const RETURNS: u32 = 1;
 
 // The entry of word p, whose steps are s.
 pub(crate) fn entry_of(s: Successors, p: usize) -> u32

@@ -2,19 +2,21 @@
 ghost use mathlib.Core.Path.{_≡_};
 ghost use lib.ListN.{length};
 ghost use Rattle.runs.specs.Weights.{weightCount};
+ghost use Rattle.runs.specs.Script.{scriptOf};
 ghost use Rattle.runs.specs.SearchInvariants.{Lent};
 ghost use Rattle.runs.specs.Range.{lowestAbove, rangeRefusal, bothOf, runsOf, marksAfterBoth, lengthsAfterBoth};
 ghost use Rattle.runs.specs.Outcome.{DecidedBoth};
 use crate::longest::Run;
 use crate::longest::measure_run;
 use crate::longest::search_words;
-use crate::settling::settle_edges;
+use crate::script::settle_script;
 use crate::weighing::WEIGHTS;
 use crate::weighing::refuses_weights;
 use crate::weighing::weights_place;
 use common::Answer;
 use common::limits::MOST_WORDS;
 use common::numbers::*;
+use fields::version::Version;
 
 // Both reports, or what refuses them.
 pub enum RunRange {
@@ -101,6 +103,7 @@ fn both(low: Run, high: Run) -> RunRange
 // The runs of words that pass the checks of their number, of the slices and of the tables. What is reachable does not depend on weights, so that
 // one search is enough. The lengths by the low table took the entries' place: they are settled again for the high one.
 fn runs_of_words(
+    version: Version,
     words: &[u32],
     low: &[u8],
     high: &[u8],
@@ -108,28 +111,28 @@ fn runs_of_words(
     lengths: &mut [u32],
 ) -> RunRange
     requires { ⌜ Lent (length (now words)) (now marks) (now lengths) × ((length (now low) ≡ weightCount) × (length (now high) ≡ weightCount)) ⌝ }
-    ensures { λ r. ⌜ DecidedBoth (now (words .entry)) (now (low .entry)) (now (high .entry)) r (now (marks .exit)) (now (lengths .exit)) ⌝ }
+    ensures { λ r. ⌜ DecidedBoth (scriptOf version (now (words .entry))) (now (low .entry)) (now (high .entry)) r (now (marks .exit)) (now (lengths .exit)) ⌝ }
 {
-    let table = fields::lookup::table();
-    search_words(&table, words, marks, lengths);
-    let by_low = measure_run(words, low, marks, lengths);
-    settle_edges(&table, words, lengths);
-    let by_high = measure_run(words, high, marks, lengths);
+    search_words(version, words, marks, lengths);
+    let by_low = measure_run(version, words, low, marks, lengths);
+    settle_script(version, words, lengths);
+    let by_high = measure_run(version, words, high, marks, lengths);
     both(by_low, by_high)
 }
 
 // The longest run by the low table and by the high one, each with the lowest word at which it begins, or the first refusal that applies. The slices
 // end as the high table's run leaves them.
 pub fn longest_runs(
+    version: Version,
     words: &[u32],
     low: &[u8],
     high: &[u8],
     marks: &mut [u8],
     lengths: &mut [u32],
 ) -> RunRange
-    ensures { λ r. ⌜ r ≡ runsOf (now (words .entry)) (now (low .entry)) (now (high .entry)) (length (now (marks .entry))) (length (now (lengths .entry))) ⌝ }
-    ensures { λ _. ⌜ now (marks .exit) ≡ marksAfterBoth (now (words .entry)) (now (low .entry)) (now (high .entry)) (now (marks .entry)) (now (lengths .entry)) ⌝ }
-    ensures { λ _. ⌜ now (lengths .exit) ≡ lengthsAfterBoth (now (words .entry)) (now (low .entry)) (now (high .entry)) (now (marks .entry)) (now (lengths .entry)) ⌝ }
+    ensures { λ r. ⌜ r ≡ runsOf (scriptOf version (now (words .entry))) (now (low .entry)) (now (high .entry)) (length (now (marks .entry))) (length (now (lengths .entry))) ⌝ }
+    ensures { λ _. ⌜ now (marks .exit) ≡ marksAfterBoth (scriptOf version (now (words .entry))) (now (low .entry)) (now (high .entry)) (now (marks .entry)) (now (lengths .entry)) ⌝ }
+    ensures { λ _. ⌜ now (lengths .exit) ≡ lengthsAfterBoth (scriptOf version (now (words .entry))) (now (low .entry)) (now (high .entry)) (now (marks .entry)) (now (lengths .entry)) ⌝ }
 {
     let n = words.len();
     if MOST_WORDS < n {
@@ -163,5 +166,12 @@ pub fn longest_runs(
             place: 0,
         };
     }
-    runs_of_words(words, low, high, &mut marks[..n], &mut lengths[..n])
+    runs_of_words(
+        version,
+        words,
+        low,
+        high,
+        &mut marks[..n],
+        &mut lengths[..n],
+    )
 }

@@ -2,6 +2,7 @@
 use crate::print;
 use crate::words::plain;
 use fields::opcodes::*;
+use fields::version::Version;
 use runs::longest_run;
 
 // The first n elements, or all of them if there are fewer.
@@ -16,7 +17,7 @@ fn from(s: &[u32], i: usize) -> &[u32] {
 
 // The longest run of the first n words, the first length, and the lengths from 32,767 on: that of the last word, and one past it.
 fn run_of_first(n: usize, words: &[u32], weights: &[u8], marks: &mut [u8], lengths: &mut [u32]) {
-    print::answer(longest_run(first_of(words, n), weights, marks, lengths));
+    print::answer(longest_run(Version::Lua54, first_of(words, n), weights, marks, lengths));
     print::text(b" lengths");
     print::numbers(first_of(lengths, 1));
     print::numbers(from(lengths, 32767));

@@ -4,6 +4,7 @@ use crate::short::but_one;
 use crate::short::slices;
 use crate::words::*;
 use fields::opcodes::*;
+use fields::version::Version;
 use fields::word::OFFSET_SJ;
 use runs::RunRange;
 use runs::longest_runs;
@@ -40,7 +41,7 @@ fn show_lent(
     lengths: &mut [u32],
 ) {
     print::text(label);
-    answer(longest_runs(words, low, high, marks, lengths));
+    answer(longest_runs(Version::Lua54, words, low, high, marks, lengths));
     slices(marks, lengths);
 }
 

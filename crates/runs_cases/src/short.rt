@@ -2,6 +2,7 @@
 use crate::print;
 use crate::words::*;
 use fields::opcodes::*;
+use fields::version::Version;
 use fields::word::OFFSET_SJ;
 use runs::longest_run;
 
@@ -18,7 +19,7 @@ fn show_weighed(label: &[u8], words: &[u32], weights: &[u8]) {
     let mut marks = [9u8; 6];
     let mut lengths = [9u32; 6];
     print::text(label);
-    print::answer(longest_run(words, weights, &mut marks, &mut lengths));
+    print::answer(longest_run(Version::Lua54, words, weights, &mut marks, &mut lengths));
     slices(&marks, &lengths);
 }
 
@@ -29,7 +30,7 @@ fn show(label: &[u8], words: &[u32]) {
 
 fn show_lent(label: &[u8], words: &[u32], weights: &[u8], marks: &mut [u8], lengths: &mut [u32]) {
     print::text(label);
-    print::answer(longest_run(words, weights, marks, lengths));
+    print::answer(longest_run(Version::Lua54, words, weights, marks, lengths));
     slices(marks, lengths);
 }
 

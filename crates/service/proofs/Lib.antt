@@ -1,7 +1,9 @@
+pub mod Sizes
 pub mod Near
 pub mod Cross
-pub mod Slices
+pub mod Bad
 pub mod Outcome
 pub mod Nearest
 pub mod ListedWords
 pub mod Crossings
+pub mod Versions

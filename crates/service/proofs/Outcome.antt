@@ -1,167 +1,253 @@
 -- The whole outcome of each question from that of the run. Assumes nothing.
 use mathlib.Core.Path.{_≡_, refl, sym, ap, subst, _∙_}
-use mathlib.Core.Bool.{Bool, true, false}
-use mathlib.Core.List.{List}
+use mathlib.Core.Bool.{Bool, true, false, cond}
+use mathlib.Core.List.{List, _++_}
 use Prim.Native.Nat.{ℕ, _≤_, _<_}
 use native.Mathlib.Omega.{arith}
 use lib.Dec.{ltb}
 use lib.ListN.{length, getD, drop}
 use borrow.Author.Tests.{lt-ltb, le-ltb, eq-eqb, ne-eqb}
 use Rattle.common.specs.Limits.{mostWords}
-use Rattle.common.specs.Numbers.{«ACCEPTED», «TOO_MANY_WORDS», «SHORT_SLICE»}
+use Rattle.common.specs.Numbers.{«ACCEPTED», «TOO_MANY_WORDS», «SHORT_SLICE», «REACHES_INVALID»}
 use Rattle.common.specs.Chain.{refuseIf, answer}
 use Rattle.common.specs.Lists.{over}
 use Rattle.common.specs.declared.answer.Answer.{Answer}
 use Rattle.common.proofs.Over.{over-laws}
+use Rattle.graph.specs.Graph.{Graph}
 use Rattle.graph.specs.Marks.{markOf}
+use Rattle.graph.specs.Longest.{longest, first}
 use Rattle.graph.specs.Distance.{distanceOf}
 use Rattle.graph.specs.Crossing.{crossingOf}
+use Rattle.graph.proofs.Distance.{distances}
+use Rattle.fields.specs.declared.version.Version.{Version}
+use Rattle.runs.specs.Script.{Script, scriptOf, graphOf, weightOf}
 use Rattle.runs.specs.declared.longest.Run.{Run}
 use Rattle.runs.specs.declared.longest.Run.the-variants as Run
-use Rattle.runs.specs.Instance.{graphOf}
-use Rattle.runs.specs.Run.{runOf, numberOf, numberIs, marksAfter, lengthsAfter}
+use Rattle.runs.specs.Entries.{entries, stepsOf, graphIn, lowestBy}
+use Rattle.runs.specs.PassInvariants.{FillAsks}
+use Rattle.runs.specs.Outcome.{Searched, decided, Decided}
+use Rattle.runs.specs.Run.{runOf, lowestInvalid, marksAfter, lengthsAfter}
 use Rattle.runs.specs.Counted.{ones}
 use Rattle.runs.proofs.Laws.{laws}
 use Rattle.service.specs.declared.distance.Nearest.{Nearest}
 use Rattle.service.specs.declared.distance.Nearest.the-variants as Nearest
 use Rattle.service.specs.declared.crossing.Crossed.{Crossed}
 use Rattle.service.specs.declared.crossing.Crossed.the-variants as Crossed
-use Rattle.service.specs.Questions.{fewestOf, nearestBy, nearestOf, crossedBy, crossedOf, listedAt, withinOf, marksWithin, lengthsWithin, listWithin}
-use Rattle.service.specs.Pass.{Tried, listedBy, Marked}
-use Rattle.service.proofs.Slices.{run-many, many-marks, many-lengths, touched, lengths-same, marks-same}
+use Rattle.service.specs.Questions.{fewestOf, nearestBy, nearestOf, crossedBy, crossedOf, listedAt, withinOf, marksWithin, lengthsWithin, listBy, listWithin}
+use Rattle.service.specs.Pass.{Fits, Sizes, noted, Holds, Notes, fewestIn, listedBy, listIn, answerBy}
+use Rattle.service.proofs.Sizes.{run-many}
+use Rattle.service.proofs.Near.{entering, same-length}
 
--- the answer of a run that is accepted, or refused
-accepted-by : {r s : Run} {a b : ℕ} → r ≡ s → r ≡ Run.Accepted a b → numberOf s ≡ «ACCEPTED»
-accepted-by e h = ap numberOf (sym e ∙ h)
+-- the fewest words from a word
+module _ (ws : Script) (w : ℕ) where
+  pub fewest-past : ws .size ≤ w → Nearest.Nowhere ≡ fewestOf ws w
+  unfolding fewestOf
+  fewest-past h = rw (le-ltb w (ws .size) h)
 
-pub run-accepted : (ws m l : List ℕ) {r : Run} {a b : ℕ} → r ≡ runOf ws ones (length m) (length l) → r ≡ Run.Accepted a b → numberIs ws ones m l ≡ «ACCEPTED»
-run-accepted ws m l e h = accepted-by e h
+  pub fewest-not : w < ws .size → (markOf (graphOf ws) w ≡ 1 → ⊥) → Nearest.Nowhere ≡ fewestOf ws w
+  unfolding fewestOf
+  fewest-not h n = rw (lt-ltb w (ws .size) h, ne-eqb (markOf (graphOf ws) w) 1 n)
 
--- trying the distance of a word
-module _ (ws : List ℕ) (w marks : ℕ) (l : List ℕ) where
-  -- the run will not accept, and nothing was done
-  pub tried-none : (numberOf (runOf ws ones marks (length l)) ≡ «ACCEPTED» → ⊥) → Tried ws w marks l l 0
-  tried-none n = record { same = refl; after = λ m e. refl; fewest = λ a h. absurd (n a) }
+  pub fewest-found : w < ws .size → markOf (graphOf ws) w ≡ 1 → {d : ℕ} → d ≡ distanceOf (graphOf ws) w → Nearest.Fewest d ≡ fewestOf ws w
+  unfolding fewestOf
+  fewest-found h m {d} e = rw (lt-ltb w (ws .size) h, eq-eqb (markOf (graphOf ws) w) 1 m) (ap Nearest.Fewest e)
 
-  pub tried-many : mostWords < length ws → Tried ws w marks l l 0
-  tried-many h = tried-none (λ e. let k = laws .enough ws ones marks (length l) e in omega (arith, k .few))
+-- what the passes between the search and the lengths leave
+module _ (m l : List ℕ) (a : FillAsks m l) where
+  pub holds-of : Holds l
+  holds-of = record { law = a .held .law; few = let s = entering .as-long l in omega (arith, a .held .lent .few) }
 
-  pub tried-marks : marks < length ws → Tried ws w marks l l 0
-  tried-marks h = tried-none (λ e. let k = laws .enough ws ones marks (length l) e in omega (arith, k .marks-long))
+  abbrev graph : Graph
+  graph = graphIn (entries l)
 
-  pub tried-lengths : length l < length ws → Tried ws w marks l l 0
-  tried-lengths h = tried-none (λ e. let k = laws .enough ws ones marks (length l) e in omega (arith, k .lengths-long))
+  marks-are : (w : ℕ) → w < length m → getD m w 0 ≡ markOf graph w
+  marks-are w h = a .marked w (omega (arith, a .held .lent .m-same))
 
-  pub tried-all :
-      length ws ≤ mostWords → length ws ≤ marks → length ws ≤ length l → {l′ : List ℕ} {r : ℕ}
-      → l′ ≡ over (distanceOf (graphOf ws)) (length ws) l → (w < length ws → r ≡ getD l′ w 0) → Tried ws w marks l l′ r
-  tried-all few a b {l′} {r} e h =
+  module _ (w : ℕ) where
+    pub found-past : length m ≤ w → Nearest.Nowhere ≡ fewestIn graph w
+    found-past h = let k : length (entries l) ≤ w = omega (arith, a .held .lent .m-same) in rw (le-ltb w (length (entries l)) k)
+
+    module _ (h : w < length m) where
+      inside : w < length (entries l)
+      inside = omega (arith, a .held .lent .m-same)
+
+      pub found-not : (getD m w 0 ≡ 1 → ⊥) → Nearest.Nowhere ≡ fewestIn graph w
+      found-not n = rw (lt-ltb w (length (entries l)) inside, ne-eqb (markOf graph w) 1 (λ e. n (marks-are w h ∙ e)))
+
+      pub found-at : {l′ : List ℕ} → getD m w 0 ≡ 1 → Notes w l l′ → Nearest.Fewest (noted l′ w) ≡ fewestIn graph w
+      found-at {l′} e k =
+          rw (lt-ltb w (length (entries l)) inside, eq-eqb (markOf graph w) 1 (sym (marks-are w h) ∙ e))
+          (ap Nearest.Fewest (k .each w (omega arith) (let s = entering .as-long l in omega (arith, inside))))
+
+      -- the distance is noted at an element, and is no more than there are words
+      module _ {l′ : List ℕ} (k : Notes w l l′) where
+        pub noted-in : w < length l′
+        noted-in = omega (arith, same-length l l′ (k .kept), entering .as-long l, inside)
+
+        pub noted-few : noted l′ w ≤ mostWords
+        noted-few =
+            let d = distances graph (a .held .law) .few w inside in
+            omega (arith, k .each w (omega arith) (omega (arith, entering .as-long l, inside)), d, a .held .lent .few)
+
+  -- the list by noted distances
+  pub listed-noted : (d : ℕ) (list : List ℕ) {l′ list′ : List ℕ} → length l ≤ length list → Notes 0 l l′ → list′ ≡ over (listedBy d m l′) (length l′) list
+      → list′ ≡ over (listedAt graph d) (length (entries l)) list
+  listed-noted d list {l′} {list′} h k e =
+      let s = entering .as-long l in
+      let n : length l′ ≡ length l = same-length l l′ (k .kept) in
+      over-laws .is (listedAt graph d) (length (entries l)) list list′
+      (let z = ap length e in omega (arith, over-laws .length-over (listedBy d m l′) (length l′) list (omega arith)))
+      (λ p i. ap (λ (x : List ℕ). getD x p 0) e ∙ over-laws .at (listedBy d m l′) (length l′) list p (omega arith)
+      ∙ rw (marks-are p (omega (arith, a .held .lent .m-same)), k .each p (omega arith) (omega arith)))
+      (ap (drop (length (entries l))) e ∙ ap (λ (x : ℕ). drop (length (entries l)) (over (listedBy d m l′) x list)) (n ∙ sym s)
+      ∙ over-laws .past (listedBy d m l′) (length (entries l)) list)
+
+-- the list, by whether a reachable word is bad
+module _ (d : ℕ) (es list : List ℕ) {b : Bool} (e : b ≡ ltb (lowestBy (length es) (stepsOf es)) (length es)) where
+  abbrev by-bad : Bool → List ℕ
+  by-bad x = cond x list (over (listedAt (graphIn es) d) (length es) list)
+
+  pub list-bad : b ≡ true → list ≡ listIn d es list
+  list-bad t = ap by-bad (sym t ∙ e)
+
+  pub list-good : b ≡ false → {list′ : List ℕ} → list′ ≡ over (listedAt (graphIn es) d) (length es) list → list′ ≡ listIn d es list
+  list-good t g = g ∙ ap by-bad (sym t ∙ e)
+
+-- words that are searched, and the run of them
+module _ (version : Version) (words m l : List ℕ) (s : Searched (scriptOf version words) m l) where
+  abbrev script : Script
+  script = scriptOf version words
+
+  -- the entries stay
+  pub searched-kept : (l′ : List ℕ) → entries l′ ≡ entries l → Searched script m l′
+  searched-kept l′ e =
+      let k = s .lent in
       record {
-        same = same;
-        after = λ m k. lengths-same ws m l l′ same past (λ u. whole (touched ws m l few (omega arith) b u) past);
-        fewest = λ t i. h i ∙ ap (λ (x : List ℕ). getD x w 0) e ∙ over-laws .at (distanceOf (graphOf ws)) (length ws) l w i;
+        lent = record { some = k .some; few = k .few; m-same = k .m-same; l-same = same-length l l′ e ∙ k .l-same };
+        settled = rw e (s .settled);
+        marked = s .marked;
       }
+
+  graph-is : graphIn (entries l) ≡ graphOf script
+  graph-is = entering .graph-is version words m l s
+
+  module _ {r : Run} {m′ l′ : List ℕ} (d : Decided script ones r m′ l′) where
+    pub decided-run : Decided script ones (decided script ones) m′ l′
+    decided-run = subst (λ (x : Run). Decided script ones x m′ l′) (d .answer) d
+
+    pub nearest-refused : (w : ℕ) {k p : ℕ} → r ≡ Run.Refused k p → Nearest.Refused k p ≡ nearestBy (decided script ones) script w
+    nearest-refused w h = ap (λ (x : Run). nearestBy x script w) (sym h ∙ d .answer)
+
+    pub nearest-accepted : (w : ℕ) {a b : ℕ} {x : Nearest} → r ≡ Run.Accepted a b → x ≡ fewestIn (graphIn (entries l)) w → x ≡ nearestBy (decided script ones) script w
+    unfolding fewestOf
+    nearest-accepted w h e = e ∙ ap (λ (g : Graph). fewestIn g w) graph-is ∙ ap (λ (x : Run). nearestBy x script w) (sym h ∙ d .answer)
+
+    pub crossed-refused : (w : ℕ) {k p : ℕ} → r ≡ Run.Refused k p → Crossed.Refused k p ≡ crossedBy (decided script ones) script w
+    crossed-refused w h = ap (λ (x : Run). crossedBy x script w) (sym h ∙ d .answer)
+
+    pub crossed-accepted : (w : ℕ) {a b x : ℕ} → r ≡ Run.Accepted a b → x ≡ crossingOf (graphIn (entries l)) w → Crossed.Count x ≡ crossedBy (decided script ones) script w
+    crossed-accepted w h e = ap Crossed.Count (e ∙ ap (λ (g : Graph). crossingOf g w) graph-is) ∙ ap (λ (x : Run). crossedBy x script w) (sym h ∙ d .answer)
+
+    pub answer-refused : {k p : ℕ} → r ≡ Run.Refused k p → answer k p ≡ answerBy (decided script ones)
+    answer-refused h = ap answerBy (sym h ∙ d .answer)
+
+    pub answer-accepted : {a b : ℕ} → r ≡ Run.Accepted a b → answer «ACCEPTED» 0 ≡ answerBy (decided script ones)
+    answer-accepted h = ap answerBy (sym h ∙ d .answer)
+
+  pub list-decided : (d : ℕ) (list : List ℕ) {list′ : List ℕ} → list′ ≡ listIn d (entries l) list → list′ ≡ listBy (decided script ones) script d list
+  list-decided d list e =
+      let n : length (entries l) ≡ script .size = entering .as-long l ∙ s .lent .l-same in
+      let a = ap (λ (x : ℕ). cond (ltb x (length (entries l))) list (over (listedAt (graphIn (entries l)) d) (length (entries l)) list)) (entering .lowest-is version words m l s) in
+      let b = ap (λ (x : ℕ). cond (ltb (lowestInvalid script) x) list (over (listedAt (graphIn (entries l)) d) x list)) n in
+      let g = ap (λ (x : Graph). cond (ltb (lowestInvalid script) (script .size)) list (over (listedAt x d) (script .size) list)) graph-is in
+      e ∙ a ∙ b ∙ g ∙ go (ltb (lowestInvalid script) (script .size))
     where
-      same : length l′ ≡ length l
-      same = ap length e ∙ over-laws .length-over (distanceOf (graphOf ws)) (length ws) l b
-
-      past : drop (length ws) l′ ≡ drop (length ws) l
-      past = ap (drop (length ws)) e ∙ over-laws .past (distanceOf (graphOf ws)) (length ws) l
-
-      whole : {n : ℕ} → n ≡ 0 → drop n l′ ≡ drop n l → l′ ≡ l
-      whole {n} z d = subst (λ (k : ℕ). drop k l′ ≡ drop k l) z d
-
--- the distance of a word
-module _ (ws : List ℕ) (w : ℕ) where
-  pub fewest-past : length ws ≤ w → Nearest.Nowhere ≡ fewestOf ws w
-  unfolding fewestOf
-  fewest-past h = rw (le-ltb w (length ws) h)
-
-  pub fewest-not : w < length ws → (markOf (graphOf ws) w ≡ 1 → ⊥) → Nearest.Nowhere ≡ fewestOf ws w
-  unfolding fewestOf
-  fewest-not h n = rw (lt-ltb w (length ws) h, ne-eqb (markOf (graphOf ws) w) 1 n)
-
-  pub fewest-found : w < length ws → markOf (graphOf ws) w ≡ 1 → {d : ℕ} → d ≡ distanceOf (graphOf ws) w → Nearest.Fewest d ≡ fewestOf ws w
-  unfolding fewestOf
-  fewest-found h m {d} e = rw (lt-ltb w (length ws) h, eq-eqb (markOf (graphOf ws) w) 1 m) (ap Nearest.Fewest e)
-
-  module _ (m l l′ : List ℕ) {f : ℕ} (t : Tried ws w (length m) l l′ f) where
-    pub run-is : {r : Run} → r ≡ runOf ws ones (length m) (length l′) → r ≡ runOf ws ones (length m) (length l)
-    run-is {r} e = e ∙ ap (runOf ws ones (length m)) (t .same)
-
-    abbrev Whole : Nearest → List ℕ → List ℕ → Type 0
-    Whole x m′ l″ = (x ≡ nearestOf ws w (length m) (length l)) × ((m′ ≡ marksAfter ws ones m l) × (l″ ≡ lengthsAfter ws ones m l))
-
-    slices : {x : Nearest} {m′ l″ : List ℕ} → m′ ≡ marksAfter ws ones m l′ → l″ ≡ lengthsAfter ws ones m l′ → x ≡ nearestOf ws w (length m) (length l) → Whole x m′ l″
-    slices em el e = (e, (em ∙ marks-same ws m l l′ (t .same), el ∙ t .after m refl))
-
-    pub nearest-refused : {r : Run} {k p : ℕ} {m′ l″ : List ℕ} → r ≡ runOf ws ones (length m) (length l′) → r ≡ Run.Refused k p → m′ ≡ marksAfter ws ones m l′ → l″ ≡ lengthsAfter ws ones m l′ → Whole (Nearest.Refused k p) m′ l″
-    unfolding nearestOf
-    nearest-refused {r} {k} {p} e h em el = slices em el (ap (λ (x : Run). nearestBy x ws w) (sym h ∙ run-is e))
-
-    pub nearest-accepted : {r : Run} {a b : ℕ} {m′ l″ : List ℕ} {x : Nearest} → r ≡ runOf ws ones (length m) (length l′) → r ≡ Run.Accepted a b → m′ ≡ marksAfter ws ones m l′ → l″ ≡ lengthsAfter ws ones m l′ → x ≡ fewestOf ws w → Whole x m′ l″
-    unfolding nearestOf
-    nearest-accepted {r} {a} {b} e h em el k = slices em el (k ∙ ap (λ (x : Run). nearestBy x ws w) (sym h ∙ run-is e))
-
--- crossing edges
-module _ (ws : List ℕ) (w a b : ℕ) {r : Run} (e : r ≡ runOf ws ones a b) where
-  pub crossed-refused : {k p : ℕ} → r ≡ Run.Refused k p → Crossed.Refused k p ≡ crossedOf ws w a b
-  unfolding crossedOf
-  crossed-refused h = ap (λ (x : Run). crossedBy x ws w) (sym h ∙ e)
-
-  pub crossed-accepted : {i j x : ℕ} → r ≡ Run.Accepted i j → x ≡ crossingOf (graphOf ws) w → Crossed.Count x ≡ crossedOf ws w a b
-  unfolding crossedOf
-  crossed-accepted h k = ap Crossed.Count k ∙ ap (λ (x : Run). crossedBy x ws w) (sym h ∙ e)
+      go : (b : Bool)
+          → cond b list (over (listedAt (graphOf script) d) (script .size) list)
+          ≡ listBy (refuseIf b (Run.Refused «REACHES_INVALID» (lowestInvalid script)) (Run.Accepted (longest (graphOf script) (weightOf script ones)) (first (graphOf script) (weightOf script ones)))) script d list
+      go true = refl
+      go false = refl
 
 -- the list
-module _ (ws : List ℕ) (d : ℕ) (m l list : List ℕ) where
-  pub distances-past : (l′ : List ℕ) → l′ ≡ over (distanceOf (graphOf ws)) (length ws) l → drop (length ws) l′ ≡ drop (length ws) l
-  distances-past l′ e = ap (drop (length ws)) e ∙ over-laws .past (distanceOf (graphOf ws)) (length ws) l
-
-  pub listed-same : (m′ l′ : List ℕ) → Marked ws m′ → l′ ≡ over (distanceOf (graphOf ws)) (length ws) l → length ws ≤ length list → over (listedBy d m′ l′) (length ws) list ≡ over (listedAt (graphOf ws) d) (length ws) list
-  listed-same m′ l′ k e h =
-      over-laws .is (listedAt (graphOf ws) d) (length ws) list (over (listedBy d m′ l′) (length ws) list) (omega (arith, over-laws .length-over (listedBy d m′ l′) (length ws) list h))
-      (λ p i. over-laws .at (listedBy d m′ l′) (length ws) list p i ∙ rw (k .marks p i, ap (λ (x : List ℕ). getD x p 0) e ∙ over-laws .at (distanceOf (graphOf ws)) (length ws) l p i))
-      (over-laws .past (listedBy d m′ l′) (length ws) list)
-
-  abbrev Listed : Answer → List ℕ → List ℕ → List ℕ → Type 0
+module _ (ws : Script) (d : ℕ) (m l list : List ℕ) where
+  abbrev pub Listed : Answer → List ℕ → List ℕ → List ℕ → Type 0
   Listed x m′ l′ list′ =
       (x ≡ withinOf ws (length m) (length l) (length list)) × ((m′ ≡ marksWithin ws m l list) × ((l′ ≡ lengthsWithin ws m l list) × (list′ ≡ listWithin ws d m l list)))
 
-  pub within-many : mostWords < length ws → Listed (answer «TOO_MANY_WORDS» 0) m l list
+  pub within-many : mostWords < ws .size → Listed (answer «TOO_MANY_WORDS» 0) m l list
   unfolding withinOf marksWithin lengthsWithin listWithin
   within-many h = (
-    rw (lt-ltb mostWords (length ws) h),
+    rw (lt-ltb mostWords (ws .size) h),
     (
-      kept (ltb (length list) (length ws)) (sym (many-marks ws m l h)),
-      (kept (ltb (length list) (length ws)) (sym (many-lengths ws m l h)), rw (run-many ws (length m) (length l) h) (kept (ltb (length list) (length ws)) refl)),
+      kept (ltb (length list) (ws .size)) (slices .0),
+      (kept (ltb (length list) (ws .size)) (slices .1), rw (run-many ws (length m) (length l) h) (kept (ltb (length list) (ws .size)) refl)),
     ),
   )
     where
+      slices : (m ≡ marksAfter ws ones m l) × (l ≡ lengthsAfter ws ones m l)
+      slices = entering .refused ws ones m l «TOO_MANY_WORDS» 0 (run-many ws (length m) (length l) h) refl
+
       kept : (t : Bool) {x y : List ℕ} → x ≡ y → x ≡ refuseIf t x y
       kept true e = refl
       kept false e = e
 
-  pub within-short : length ws ≤ mostWords → length list < length ws → Listed (answer «SHORT_SLICE» 0) m l list
+  pub within-short : ws .size ≤ mostWords → length list < ws .size → Listed (answer «SHORT_SLICE» 0) m l list
   unfolding withinOf marksWithin lengthsWithin listWithin
   within-short few h = (
-    rw (le-ltb mostWords (length ws) few, lt-ltb (length list) (length ws) h),
-    (rw (lt-ltb (length list) (length ws) h), (rw (lt-ltb (length list) (length ws) h), rw (lt-ltb (length list) (length ws) h))),
+    rw (le-ltb mostWords (ws .size) few, lt-ltb (length list) (ws .size) h),
+    (rw (lt-ltb (length list) (ws .size) h), (rw (lt-ltb (length list) (ws .size) h), rw (lt-ltb (length list) (ws .size) h))),
   )
 
-  module _ (few : length ws ≤ mostWords) (long : length ws ≤ length list) {r : Run} (e : r ≡ runOf ws ones (length m) (length l)) where
-    pub within-refused : {k p : ℕ} {m′ l′ : List ℕ} → r ≡ Run.Refused k p → m′ ≡ marksAfter ws ones m l → l′ ≡ lengthsAfter ws ones m l → Listed (answer k p) m′ l′ list
-    unfolding withinOf marksWithin lengthsWithin listWithin
-    within-refused {k} {p} h em el =
-        let z : runOf ws ones (length m) (length l) ≡ Run.Refused k p = sym e ∙ h in (
-          rw (le-ltb mostWords (length ws) few, le-ltb (length list) (length ws) long, z),
-          (rw (le-ltb (length list) (length ws) long) em, (rw (le-ltb (length list) (length ws) long) el, rw (le-ltb (length list) (length ws) long, z))),
-        )
+  pub listed-by : ws .size ≤ mostWords → ws .size ≤ length list → {x : Answer} {m′ l′ list′ : List ℕ} → answerBy (runOf ws ones (length m) (length l)) ≡ x
+      → (m′ ≡ marksAfter ws ones m l) × (l′ ≡ lengthsAfter ws ones m l) → list′ ≡ listBy (runOf ws ones (length m) (length l)) ws d list → Listed x m′ l′ list′
+  unfolding withinOf marksWithin lengthsWithin listWithin
+  listed-by few long e s g = (
+    rw (le-ltb mostWords (ws .size) few, le-ltb (length list) (ws .size) long) (sym e),
+    (rw (le-ltb (length list) (ws .size) long) (s .0), (rw (le-ltb (length list) (ws .size) long) (s .1), rw (le-ltb (length list) (ws .size) long) g)),
+  )
 
-    pub within-accepted : {i j : ℕ} {m′ l′ list′ : List ℕ} → r ≡ Run.Accepted i j → m′ ≡ marksAfter ws ones m l → l′ ≡ lengthsAfter ws ones m l → list′ ≡ over (listedAt (graphOf ws) d) (length ws) list → Listed (answer «ACCEPTED» 0) m′ l′ list′
-    unfolding withinOf marksWithin lengthsWithin listWithin
-    within-accepted {i} {j} h em el k =
-        let z : runOf ws ones (length m) (length l) ≡ Run.Accepted i j = sym e ∙ h in (
-          rw (le-ltb mostWords (length ws) few, le-ltb (length list) (length ws) long, z),
-          (rw (le-ltb (length list) (length ws) long) em, (rw (le-ltb (length list) (length ws) long) el, rw (le-ltb (length list) (length ws) long, z) k)),
-        )
+-- the whole slices
+module _ (ws : Script) (m l : List ℕ) where
+  abbrev Slices : List ℕ → List ℕ → Type 0
+  Slices m′ l′ = (m′ ≡ marksAfter ws ones m l) × (l′ ≡ lengthsAfter ws ones m l)
+
+  -- a script that is refused before a word is read
+  module _ {r : ℕ} (s : Sizes (ws .size) (length m) (length l) r) (n : r ≡ «ACCEPTED» → ⊥) where
+    early-run : runOf ws ones (length m) (length l) ≡ Run.Refused r 0
+    early-run = s .refused n .1 ws refl
+
+    early-slices : Slices m l
+    early-slices = entering .refused ws ones m l r 0 early-run (s .refused n .0)
+
+    pub nearest-early : (w : ℕ) → (Nearest.Refused r 0 ≡ nearestOf ws w (length m) (length l)) × Slices m l
+    unfolding nearestOf
+    nearest-early w = (ap (λ (x : Run). nearestBy x ws w) (sym early-run), early-slices)
+
+    pub crossed-early : (w : ℕ) → (Crossed.Refused r 0 ≡ crossedOf ws w (length m) (length l)) × Slices m l
+    unfolding crossedOf
+    crossed-early w = (ap (λ (x : Run). crossedBy x ws w) (sym early-run), early-slices)
+
+    pub within-early : (d : ℕ) (list : List ℕ) → ws .size ≤ mostWords → ws .size ≤ length list → Listed ws d m l list (answer r 0) m l list
+    within-early d list few long = listed-by ws d m l list few long (ap answerBy early-run) early-slices (sym (ap (λ (x : Run). listBy x ws d list) early-run))
+
+  -- one that passes the checks of the sizes, by what its words give
+  module _ (k : Fits (ws .size) (length m) (length l)) {m′ l′ : List ℕ} (d : Decided ws ones (decided ws ones) m′ l′) where
+    late : (runOf ws ones (length m) (length l) ≡ decided ws ones) × Slices (m′ ++ drop (ws .size) m) (l′ ++ drop (ws .size) l)
+    late =
+        let o = entering .outcome ws ones m l (k .few) (k .marks-long) (k .lengths-long) (laws .ones-accepted) (k .some) m′ l′ d in
+        (o .0, (o .1, o .2))
+
+    pub nearest-late : (w : ℕ) {x : Nearest} → x ≡ nearestBy (decided ws ones) ws w
+        → (x ≡ nearestOf ws w (length m) (length l)) × Slices (m′ ++ drop (ws .size) m) (l′ ++ drop (ws .size) l)
+    unfolding nearestOf
+    nearest-late w e = (e ∙ ap (λ (x : Run). nearestBy x ws w) (sym (late .0)), late .1)
+
+    pub crossed-late : (w : ℕ) {x : Crossed} → x ≡ crossedBy (decided ws ones) ws w
+        → (x ≡ crossedOf ws w (length m) (length l)) × Slices (m′ ++ drop (ws .size) m) (l′ ++ drop (ws .size) l)
+    unfolding crossedOf
+    crossed-late w e = (e ∙ ap (λ (x : Run). crossedBy x ws w) (sym (late .0)), late .1)
+
+    pub within-late : (d : ℕ) (list : List ℕ) {x : Answer} {list′ : List ℕ} → ws .size ≤ length list → x ≡ answerBy (decided ws ones)
+        → list′ ≡ listBy (decided ws ones) ws d list → Listed ws d m l list x (m′ ++ drop (ws .size) m) (l′ ++ drop (ws .size) l) list′
+    within-late d list long e g =
+        listed-by ws d m l list (k .few) long (ap answerBy (late .0) ∙ sym e) (late .1) (g ∙ ap (λ (x : Run). listBy x ws d list) (sym (late .0)))

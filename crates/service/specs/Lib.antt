@@ -3,5 +3,6 @@ pub mod Questions
 pub mod Nearest
 pub mod ListedWords
 pub mod Crossings
+pub mod Versions
 pub mod Flat
 pub mod Pass

@@ -9,26 +9,25 @@ use Prim.Native.Nat.{ℕ, _≤_}
 use lib.ListN.{length}
 use Rattle.graph.specs.Graph.{In, Reachable, Segment}
 use Rattle.graph.specs.Distance.{lastOf}
+use Rattle.runs.specs.Script.{Script, graphOf}
 use Rattle.runs.specs.declared.longest.Run.the-variants as Run
-use Rattle.runs.specs.Steps.{isInvalid, listOf, servesOf}
-use Rattle.runs.specs.Successors.{successorsOf}
-use Rattle.runs.specs.Instance.{graphOf}
+use Rattle.runs.specs.Steps.{isInvalid, listOf}
 use Rattle.service.specs.declared.distance.Nearest.the-variants as Nearest
 use Rattle.service.specs.Questions.{unitRun, nearestOf}
 
 -- "A return, here and in C-22, is a word that is not bad and has no step."
-pub record Return (ws : List ℕ) (p : ℕ) : Type 0 where
-  pub valid : isInvalid (successorsOf ws p) ≡ false
-  pub no-step : listOf (successorsOf ws p) ≡ []
+pub record Return (ws : Script) (p : ℕ) : Type 0 where
+  pub valid : isInvalid (ws .steps p) ≡ false
+  pub no-step : listOf (ws .steps p) ≡ []
 
 -- "a word with a serving step"
-pub record HasServingStep (ws : List ℕ) (p : ℕ) : Type 0 where
+pub record HasServingStep (ws : Script) (p : ℕ) : Type 0 where
   pub to : ℕ
-  pub step : In to (listOf (successorsOf ws p))
-  pub serving : servesOf p to ≡ true
+  pub step : In to (listOf (ws .steps p))
+  pub serving : ws .serves p to ≡ true
 
 -- "a stretch of that many words from there ends at a return or a word with a serving step": k words from p on
-pub record Reaches (ws : List ℕ) (p k : ℕ) : Type 0 where
+pub record Reaches (ws : Script) (p k : ℕ) : Type 0 where
   pub rest : List ℕ
   pub stretch : Segment (graphOf ws) p rest
   pub ends : Return ws (lastOf p rest) ⊎ HasServingStep ws (lastOf p rest)
@@ -36,17 +35,17 @@ pub record Reaches (ws : List ℕ) (p k : ℕ) : Type 0 where
   pub words : length (p ∷ rest) ≡ k
 
 -- "The fewest is exact": a stretch of that many words does, "and no shorter one does"
-pub record FewestWords (ws : List ℕ) (p k : ℕ) : Type 0 where
+pub record FewestWords (ws : Script) (p k : ℕ) : Type 0 where
   pub reached : Reaches ws p k
   pub no-shorter : (j : ℕ) → Reaches ws p j → k ≤ j
 
 -- "an accepted function": the longest run with all weights 1 accepts it, lent slices of these lengths
-pub record AcceptedRun (ws : List ℕ) (marks lengths : ℕ) : Type 0 where
+pub record AcceptedRun (ws : Script) (marks lengths : ℕ) : Type 0 where
   pub longest : ℕ
   pub first : ℕ
   pub run : unitRun ws marks lengths ≡ Run.Accepted longest first
 
-pub record NearestService (ws : List ℕ) (w marks lengths : ℕ) : Type 0 where
+pub record NearestService (ws : Script) (w marks lengths : ℕ) : Type 0 where
   -- "From any reachable word of an accepted function, give the fewest words to the next serving step or return": every one has a fewest
   pub fewest :
       AcceptedRun ws marks lengths → Reachable (graphOf ws) w
@@ -55,6 +54,6 @@ pub record NearestService (ws : List ℕ) (w marks lengths : ℕ) : Type 0 where
   pub exact : (k : ℕ) → nearestOf ws w marks lengths ≡ Nearest.Fewest k → Reachable (graphOf ws) w × FewestWords ws w k
   -- "An unreachable word, or one past the end, has no fewest, and the answer says so"
   pub unreachable : AcceptedRun ws marks lengths → (Reachable (graphOf ws) w → ⊥) ↔ (nearestOf ws w marks lengths ≡ Nearest.Nowhere)
-  pub past-end : AcceptedRun ws marks lengths → length ws ≤ w → nearestOf ws w marks lengths ≡ Nearest.Nowhere
+  pub past-end : AcceptedRun ws marks lengths → ws .size ≤ w → nearestOf ws w marks lengths ≡ Nearest.Nowhere
   -- "A refused function gets the longest run's refusal with all weights 1"
   pub refused : (number place : ℕ) → (unitRun ws marks lengths ≡ Run.Refused number place) ↔ (nearestOf ws w marks lengths ≡ Nearest.Refused number place)

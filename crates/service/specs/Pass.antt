@@ -1,60 +1,82 @@
--- What the private functions ask and leave. No exported contract cites it.
+-- What the private functions ask and leave. No exported contract cites it. What goes by entries reads no word, and holds for any steps.
 -- Assumes nothing.
 use mathlib.Core.Path.{_≡_}
-use mathlib.Core.Bool.{cond}
+use mathlib.Core.Bool.{true, cond, _&&_}
 use mathlib.Core.List.{List, []}
-use Prim.Native.Nat.{ℕ, _≤_, _<_}
-use lib.Dec.{eqb}
+use Prim.Native.Nat.{ℕ, _+_, _/_, _%_, _≤_, _<_}
+use lib.Dec.{ltb, eqb}
 use lib.ListN.{length, getD}
 use Rattle.common.specs.Limits.{mostWords}
 use Rattle.common.specs.Numbers.{«ACCEPTED»}
+use Rattle.common.specs.Chain.{answer}
+use Rattle.common.specs.Lists.{over}
+use Rattle.common.specs.declared.answer.Answer.{Answer}
+use Rattle.graph.specs.Graph.{Graph, In, Lawful}
 use Rattle.graph.specs.Marks.{markOf}
 use Rattle.graph.specs.Distance.{distanceOf}
 use Rattle.graph.specs.Crossing.{crossingFrom}
+use Rattle.runs.specs.Script.{Script}
 use Rattle.runs.specs.declared.edges.Successors.{Successors}
+use Rattle.runs.specs.declared.longest.Run.{Run}
+use Rattle.runs.specs.declared.longest.Run.the-variants as Run
 use Rattle.runs.specs.Steps.{listOf}
-use Rattle.runs.specs.Instance.{graphOf}
-use Rattle.runs.specs.Run.{runOf, numberOf, lengthsAfter}
+use Rattle.runs.specs.Entries.{«ENTRIES», entryAt, entries, stepsOf, graphIn, lowestBy}
+use Rattle.runs.specs.Run.{runOf, numberOf, placeOf, untouched}
 use Rattle.runs.specs.Counted.{ones}
-use Rattle.service.specs.Questions.{listedOf}
+use Rattle.service.specs.declared.distance.Nearest.{Nearest}
+use Rattle.service.specs.declared.distance.Nearest.the-variants as Nearest
+use Rattle.service.specs.Questions.{listedOf, listedAt}
 
-abbrev pub at : List ℕ → ℕ → ℕ
-at l p = getD l p 0
-
--- n words are not too many, and a slice has a place for each
-pub record Fits (n slice : ℕ) : Type 0 where
+-- n words, some and not too many, with a place for each in both slices
+pub record Fits (n marks lengths : ℕ) : Type 0 where
+  pub some : 0 < n
   pub few : n ≤ mostWords
-  pub long : n ≤ slice
+  pub marks-long : n ≤ marks
+  pub lengths-long : n ≤ lengths
 
--- what finding the distance of word p asks: those of the words above it are no more than there are words
-pub record Nearing (ws l : List ℕ) (p : ℕ) : Type 0 where
-  pub long : length ws ≤ length l
-  pub low : (q : ℕ) → p < q → q < length ws → getD l q 0 ≤ mostWords
+-- r is the number by which a script of n words is refused before any is read, or 0
+pub record Sizes (n marks lengths r : ℕ) : Type 0 where
+  pub refused : (r ≡ «ACCEPTED» → ⊥) → (untouched r ≡ true) × ((ws : Script) → ws .size ≡ n → runOf ws ones marks lengths ≡ Run.Refused r 0)
+  pub passed : r ≡ «ACCEPTED» → Fits n marks lengths
 
--- after the distance of w was tried, with a marks slice of so many elements: the run leaves the lengths as if it had not been, and where the run
--- accepts, r is the distance of a word
-pub record Tried (ws : List ℕ) (w marks : ℕ) (l l′ : List ℕ) (r : ℕ) : Type 0 where
-  pub same : length l′ ≡ length l
-  pub after : (m : List ℕ) → length m ≡ marks → lengthsAfter ws ones m l′ ≡ lengthsAfter ws ones m l
-  pub fewest : numberOf (runOf ws ones marks (length l)) ≡ «ACCEPTED» → w < length ws → r ≡ distanceOf (graphOf ws) w
+-- a word's distance, where the search had its queue: less 1
+abbrev pub noted : List ℕ → ℕ → ℕ
+noted l p = getD l p 0 / «ENTRIES» + 1
 
--- what is listed of word p by marks m and distances l
+-- what finding the distance of word p asks: those of the words above it are noted, none too large, and a is that of the next
+pub record Nearing (l : List ℕ) (p a : ℕ) : Type 0 where
+  pub in-l : p < length l
+  pub steps : (q : ℕ) → In q (listOf (entryAt (getD l p 0 % «ENTRIES») p)) → q < length l
+  pub next : a ≡ getD l (p + 1) 0 / «ENTRIES»
+  pub low : (q : ℕ) → p < q → getD l q 0 / «ENTRIES» < mostWords
+
+-- what noting the distances asks: entries of words that are not too many
+pub record Holds (l : List ℕ) : Type 0 where
+  pub law : Lawful (graphIn (entries l))
+  pub few : length l ≤ mostWords
+
+-- and leaves
+pub record Notes (from : ℕ) (l l′ : List ℕ) : Type 0 where
+  pub kept : entries l′ ≡ entries l
+  pub each : (q : ℕ) → from ≤ q → q < length l → noted l′ q ≡ distanceOf (graphIn (entries l)) q
+
+-- the fewest words from word w of a graph
+abbrev pub fewestIn : Graph → ℕ → Nearest
+fewestIn g w = cond (ltb w (g .size) && eqb (markOf g w) 1) (Nearest.Fewest (distanceOf g w)) Nearest.Nowhere
+
+-- what is listed of word p by marks m and noted distances
 abbrev pub listedBy : ℕ → List ℕ → List ℕ → ℕ → ℕ
-listedBy d m l p = listedOf d (getD m p 0) (getD l p 0)
+listedBy d m l p = listedOf d (getD m p 0) (noted l p)
+
+-- the list after entries es: as it was, where a reachable word is bad
+abbrev pub listIn : ℕ → List ℕ → List ℕ → List ℕ
+listIn d es list = cond (ltb (lowestBy (length es) (stepsOf es)) (length es)) list (over (listedAt (graphIn es) d) (length es) list)
+
+-- the list's answer by that of the run
+abbrev pub answerBy : Run → Answer
+answerBy r = answer (numberOf r) (placeOf r)
 
 -- r edges of a word p with these steps pass over w, if its mark is 1
 pub record CrossesFrom (w p mark : ℕ) (s : Successors) (r : ℕ) : Type 0 where
   pub count : r ≡ length (cond (eqb mark 1) (crossingFrom w p (listOf s)) [])
-  pub few : r ≤ 2
-
--- the marks are those of the words, which are not too many
-pub record Marked (ws m : List ℕ) : Type 0 where
-  pub few : length ws ≤ mostWords
-  pub long : length ws ≤ length m
-  pub marks : (p : ℕ) → p < length ws → getD m p 0 ≡ markOf (graphOf ws) p
-
--- what listing the words asks: the run accepts them, the marks are theirs, and the list has a place for each
-pub record ListAsks (ws m l list : List ℕ) : Type 0 where
-  pub accepted : numberOf (runOf ws ones (length m) (length l)) ≡ «ACCEPTED»
-  pub marked : Marked ws m
-  pub long : length ws ≤ length list
+  pub few : r ≤ 1

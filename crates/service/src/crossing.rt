@@ -3,16 +3,24 @@ ghost use mathlib.Core.Path.{_≡_};
 ghost use mathlib.Core.Bool.{cond};
 ghost use lib.ListN.{length};
 ghost use Rattle.graph.specs.Crossing.{crosses, crossingOf};
-ghost use Rattle.runs.specs.Successors.{successorsOf};
+ghost use Rattle.runs.specs.Script.{scriptOf};
+ghost use Rattle.runs.specs.Entries.{entryAt, entries, graphIn};
+ghost use Rattle.runs.specs.SearchInvariants.{Lent};
+ghost use Rattle.runs.specs.PassInvariants.{FillAsks};
+ghost use Rattle.runs.specs.Outcome.{decided, Decided};
 ghost use Rattle.runs.specs.Run.{marksAfter, lengthsAfter};
 ghost use Rattle.runs.specs.Counted.{ones};
-ghost use Rattle.runs.specs.Instance.{graphOf};
-ghost use Rattle.service.specs.Questions.{crossedOf};
-ghost use Rattle.service.specs.Pass.{CrossesFrom, Marked};
+ghost use Rattle.service.specs.Questions.{crossedBy, crossedOf};
+ghost use Rattle.service.specs.Pass.{CrossesFrom};
+use crate::unit::size_refusal;
 use crate::unit::unit_run;
+use common::numbers::*;
+use fields::version::Version;
 use runs::Run;
-use runs::edges::Successors;
-use runs::successors::successors;
+use runs::inner::ENTRIES;
+use runs::inner::KIND_TARGET;
+use runs::inner::TARGETS;
+use runs::inner::search_words;
 
 pub enum Crossed {
     Count(usize),
@@ -37,58 +45,76 @@ fn edge_crosses(w: usize, p: usize, q: usize) -> usize
     0
 }
 
-// How many edges from word p pass over w, if it is marked.
-fn crossings_from(words: &[u32], w: usize, p: usize, mark: u8) -> usize
-    ensures { λ r. ⌜ CrossesFrom w p mark (successorsOf (now (words .entry)) p) r ⌝ }
+// How many edges from word p, which has this entry, pass over w, if it is marked. No word lies between p and the next one: only a target counts.
+fn crossings_from(w: usize, p: usize, mark: u8, entry: u32) -> usize
+    ensures { λ r. ⌜ CrossesFrom w p mark (entryAt entry p) r ⌝ }
 {
     if mark != 1 {
         return 0;
     }
-    let s = successors(words, p);
-    match s {
-        Successors::Invalid => {
-            return 0;
-        }
-        Successors::Stop => {
-            return 0;
-        }
-        Successors::One(a) => {
-            return edge_crosses(w, p, a);
-        }
-        Successors::Two(a, b) => {
-            return edge_crosses(w, p, a) + edge_crosses(w, p, b);
-        }
+    if entry / TARGETS < KIND_TARGET {
+        return 0;
     }
+    edge_crosses(w, p, (entry % TARGETS) as usize)
 }
 
 // How many edges from marked words pass over w.
-fn count_crossings(words: &[u32], w: usize, marks: &[u8]) -> usize
-    requires { ⌜ Marked (now words) (now marks) ⌝ }
-    ensures { λ r. ⌜ r ≡ crossingOf (graphOf (now (words .entry))) w ⌝ }
+fn count_crossings(w: usize, marks: &[u8], lengths: &[u32]) -> usize
+    requires { ⌜ FillAsks (now marks) (now lengths) ⌝ }
+    ensures { λ r. ⌜ r ≡ crossingOf (graphIn (entries (now (lengths .entry)))) w ⌝ }
 {
-    let n = words.len();
+    let n = lengths.len();
     let mut count: usize = 0;
     let mut i = 0;
     while i < n {
-        count += crossings_from(words, w, i, marks[i]);
+        count += crossings_from(w, i, marks[i], lengths[i] % ENTRIES);
         i += 1;
     }
     count
 }
 
-// How many edges from reachable words pass over w, or the run's refusal with all weights 1. The slices get what that run leaves.
-pub fn crossing_edges(words: &[u32], w: usize, marks: &mut [u8], lengths: &mut [u32]) -> Crossed
-    ensures { λ r. ⌜ r ≡ crossedOf (now (words .entry)) w (length (now (marks .entry))) (length (now (lengths .entry))) ⌝ }
-    ensures { λ _. ⌜ now (marks .exit) ≡ marksAfter (now (words .entry)) ones (now (marks .entry)) (now (lengths .entry)) ⌝ }
-    ensures { λ _. ⌜ now (lengths .exit) ≡ lengthsAfter (now (words .entry)) ones (now (marks .entry)) (now (lengths .entry)) ⌝ }
+// The answer for words that pass the checks of their number and of the slices. The edges are counted between the search and the lengths, where the
+// entries are.
+fn crossed_of_words(
+    version: Version,
+    words: &[u32],
+    w: usize,
+    marks: &mut [u8],
+    lengths: &mut [u32],
+) -> Crossed
+    requires { ⌜ Lent (length (now words)) (now marks) (now lengths) ⌝ }
+    ensures { λ r. ⌜ r ≡ crossedBy (decided (scriptOf version (now (words .entry))) ones) (scriptOf version (now (words .entry))) w ⌝ }
+    ensures { λ _. ⌜ Decided (scriptOf version (now (words .entry))) ones (decided (scriptOf version (now (words .entry))) ones) (now (marks .exit)) (now (lengths .exit)) ⌝ }
 {
-    let run = unit_run(words, marks, lengths);
+    search_words(version, words, marks, lengths);
+    let count = count_crossings(w, marks, lengths);
+    let run = unit_run(version, words, marks, lengths);
     match run {
         Run::Refused { number, place } => {
             return Crossed::Refused { number, place };
         }
         Run::Accepted { longest, first } => {
-            return Crossed::Count(count_crossings(words, w, marks));
+            return Crossed::Count(count);
         }
     }
+}
+
+// How many edges from reachable words pass over w, or the run's refusal with all weights 1. The slices get what that run leaves.
+pub fn crossing_edges(
+    version: Version,
+    words: &[u32],
+    w: usize,
+    marks: &mut [u8],
+    lengths: &mut [u32],
+) -> Crossed
+    ensures { λ r. ⌜ r ≡ crossedOf (scriptOf version (now (words .entry))) w (length (now (marks .entry))) (length (now (lengths .entry))) ⌝ }
+    ensures { λ _. ⌜ now (marks .exit) ≡ marksAfter (scriptOf version (now (words .entry))) ones (now (marks .entry)) (now (lengths .entry)) ⌝ }
+    ensures { λ _. ⌜ now (lengths .exit) ≡ lengthsAfter (scriptOf version (now (words .entry))) ones (now (marks .entry)) (now (lengths .entry)) ⌝ }
+{
+    let n = words.len();
+    let number = size_refusal(n, marks.len(), lengths.len());
+    if number != ACCEPTED {
+        return Crossed::Refused { number, place: 0 };
+    }
+    crossed_of_words(version, words, w, &mut marks[..n], &mut lengths[..n])
 }

@@ -1,14 +1,23 @@
 // The distance to service of a word: "the fewest words to the next serving step or return, counting the word itself".
 ghost use mathlib.Core.Path.{_≡_};
 ghost use lib.ListN.{length};
+ghost use Rattle.runs.specs.Script.{scriptOf};
+ghost use Rattle.runs.specs.Entries.{entries, graphIn};
+ghost use Rattle.runs.specs.SearchInvariants.{Lent};
+ghost use Rattle.runs.specs.PassInvariants.{FillAsks};
+ghost use Rattle.runs.specs.Outcome.{decided, Decided};
 ghost use Rattle.runs.specs.Run.{marksAfter, lengthsAfter};
 ghost use Rattle.runs.specs.Counted.{ones};
-ghost use Rattle.service.specs.Questions.{nearestOf};
-ghost use Rattle.service.specs.Pass.{Tried};
-use crate::pass::fill_distances;
+ghost use Rattle.service.specs.Questions.{nearestBy, nearestOf};
+ghost use Rattle.service.specs.Pass.{fewestIn};
+use crate::pass::note_distances;
+use crate::unit::size_refusal;
 use crate::unit::unit_run;
-use common::limits::MOST_WORDS;
+use common::numbers::*;
+use fields::version::Version;
 use runs::Run;
+use runs::inner::ENTRIES;
+use runs::inner::search_words;
 
 pub enum Nearest {
     Fewest(u32),
@@ -17,53 +26,64 @@ pub enum Nearest {
     Refused { number: u8, place: usize },
 }
 
-// The distance of word w, by way of those of all words in the lengths. Where the run will not come to its search, nothing is written.
-fn try_distance(words: &[u32], w: usize, marks: usize, lengths: &mut [u32]) -> u32
-    ensures { λ r. ⌜ Tried (now (words .entry)) w marks (now (lengths .entry)) (now (lengths .exit)) r ⌝ }
+// The fewest words from word w, by the entries and the marks that the search leaves. The entries stay.
+fn find_fewest(w: usize, marks: &[u8], lengths: &mut [u32]) -> Nearest
+    requires { ⌜ FillAsks (now marks) (now lengths) ⌝ }
+    ensures { λ r. ⌜ r ≡ fewestIn (graphIn (entries (now (lengths .entry)))) w ⌝ }
+    ensures { λ _. ⌜ entries (now (lengths .exit)) ≡ entries (now (lengths .entry)) ⌝ }
 {
-    let n = words.len();
-    if MOST_WORDS < n {
-        return 0;
+    if marks.len() <= w {
+        return Nearest::Nowhere;
     }
-    if marks < n {
-        return 0;
+    if marks[w] != 1 {
+        return Nearest::Nowhere;
     }
-    if lengths.len() < n {
-        return 0;
-    }
-    fill_distances(words, lengths);
-    if w < n {
-        return lengths[w];
-    }
-    0
+    note_distances(w, lengths);
+    Nearest::Fewest(lengths[w] / ENTRIES + 1)
 }
 
-// The fewest words from word w, or the run's refusal with all weights 1. The slices get what that run leaves. The distance is found
-// before it, so that the run need not be made again for the lengths.
-pub fn distance_to_service(
+// The answer for words that pass the checks of their number and of the slices. The distance is found between the search and the lengths, where the
+// entries are, so that the run need be made only once.
+fn nearest_of_words(
+    version: Version,
     words: &[u32],
     w: usize,
     marks: &mut [u8],
     lengths: &mut [u32],
 ) -> Nearest
-    ensures { λ r. ⌜ r ≡ nearestOf (now (words .entry)) w (length (now (marks .entry))) (length (now (lengths .entry))) ⌝ }
-    ensures { λ _. ⌜ now (marks .exit) ≡ marksAfter (now (words .entry)) ones (now (marks .entry)) (now (lengths .entry)) ⌝ }
-    ensures { λ _. ⌜ now (lengths .exit) ≡ lengthsAfter (now (words .entry)) ones (now (marks .entry)) (now (lengths .entry)) ⌝ }
+    requires { ⌜ Lent (length (now words)) (now marks) (now lengths) ⌝ }
+    ensures { λ r. ⌜ r ≡ nearestBy (decided (scriptOf version (now (words .entry))) ones) (scriptOf version (now (words .entry))) w ⌝ }
+    ensures { λ _. ⌜ Decided (scriptOf version (now (words .entry))) ones (decided (scriptOf version (now (words .entry))) ones) (now (marks .exit)) (now (lengths .exit)) ⌝ }
 {
-    let fewest = try_distance(words, w, marks.len(), lengths);
-    let run = unit_run(words, marks, lengths);
+    search_words(version, words, marks, lengths);
+    let nearest = find_fewest(w, marks, lengths);
+    let run = unit_run(version, words, marks, lengths);
     match run {
         Run::Refused { number, place } => {
             return Nearest::Refused { number, place };
         }
         Run::Accepted { longest, first } => {
-            if words.len() <= w {
-                return Nearest::Nowhere;
-            }
-            if marks[w] == 1 {
-                return Nearest::Fewest(fewest);
-            }
-            return Nearest::Nowhere;
+            return nearest;
         }
     }
+}
+
+// The fewest words from word w, or the run's refusal with all weights 1. The slices get what that run leaves.
+pub fn distance_to_service(
+    version: Version,
+    words: &[u32],
+    w: usize,
+    marks: &mut [u8],
+    lengths: &mut [u32],
+) -> Nearest
+    ensures { λ r. ⌜ r ≡ nearestOf (scriptOf version (now (words .entry))) w (length (now (marks .entry))) (length (now (lengths .entry))) ⌝ }
+    ensures { λ _. ⌜ now (marks .exit) ≡ marksAfter (scriptOf version (now (words .entry))) ones (now (marks .entry)) (now (lengths .entry)) ⌝ }
+    ensures { λ _. ⌜ now (lengths .exit) ≡ lengthsAfter (scriptOf version (now (words .entry))) ones (now (marks .entry)) (now (lengths .entry)) ⌝ }
+{
+    let n = words.len();
+    let number = size_refusal(n, marks.len(), lengths.len());
+    if number != ACCEPTED {
+        return Nearest::Refused { number, place: 0 };
+    }
+    nearest_of_words(version, words, w, &mut marks[..n], &mut lengths[..n])
 }

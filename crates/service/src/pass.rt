@@ -1,59 +1,63 @@
-// The distances of all words, from the highest down: an edge that does not serve goes forward, so that what it needs is there. No mark is
-// read, since how far a service is does not depend on how a word is reached.
+// The distances of all words, from the highest down: an edge that does not serve goes forward, so that what it needs is there. Where control goes is
+// read from the entries that the search leaves, and a word's distance stands where the search had its queue, above the entry: less 1, so that no
+// distance is too large for it. No word is read and no mark, since how far a service is does not depend on how a word is reached.
 ghost use mathlib.Core.Path.{_≡_};
-ghost use lib.ListN.{length};
-ghost use Rattle.common.specs.Lists.{over};
-ghost use Rattle.graph.specs.Distance.{nearer, distanceOf};
-ghost use Rattle.runs.specs.Instance.{graphOf};
-ghost use Rattle.service.specs.Pass.{at, Nearing, Fits};
-use runs::edges::Successors;
+ghost use Prim.Native.Nat.{_+_, min};
+ghost use Rattle.graph.specs.Distance.{nearer};
+ghost use Rattle.runs.specs.Entries.{entries, graphIn};
+ghost use Rattle.service.specs.Pass.{noted, Nearing, Holds, Notes};
 use runs::edges::serves;
-use runs::successors::successors;
+use runs::inner::ENTRIES;
+use runs::inner::KIND_NEXT;
+use runs::inner::KIND_NONE;
+use runs::inner::KIND_TARGET;
+use runs::inner::TARGETS;
 
-// The distance of word p, where those of the words above it stand in the lengths.
-fn distance_at(words: &[u32], lengths: &[u32], p: usize) -> u32
-    requires { ⌜ Nearing (now words) (now lengths) p ⌝ }
-    ensures { λ r. ⌜ r ≡ nearer (graphOf (now (words .entry))) (at (now (lengths .entry))) p ⌝ }
+// The smaller of two numbers.
+fn smaller(x: u32, y: u32) -> u32
+    ensures { λ r. ⌜ r ≡ min x y ⌝ }
 {
-    let s = successors(words, p);
-    match s {
-        Successors::Invalid => {
-            return 1;
-        }
-        Successors::Stop => {
-            return 1;
-        }
-        Successors::One(a) => {
-            if serves(p, a) {
-                return 1;
-            }
-            return lengths[a] + 1;
-        }
-        Successors::Two(a, b) => {
-            if serves(p, a) {
-                return 1;
-            }
-            if serves(p, b) {
-                return 1;
-            }
-            let x = lengths[a];
-            let y = lengths[b];
-            if x < y {
-                return x + 1;
-            }
-            return y + 1;
-        }
+    if x < y {
+        return x;
     }
+    y
 }
 
-// The first n lengths become the distances of the n words.
-pub(crate) fn fill_distances(words: &[u32], lengths: &mut [u32])
-    requires { ⌜ Fits (length (now words)) (length (now lengths)) ⌝ }
-    ensures { λ _. ⌜ now (lengths .exit) ≡ over (distanceOf (graphOf (now (words .entry)))) (length (now (words .entry))) (now (lengths .entry)) ⌝ }
+// The distance of word p, less 1, where those of the words above it are noted, and `above` is that of the next. It is handed on, so that a turn need
+// not wait for what the one before it stored.
+fn distance_at(lengths: &[u32], p: usize, above: u32) -> u32
+    requires { ⌜ Nearing (now lengths) p above ⌝ }
+    ensures { λ r. ⌜ r + 1 ≡ nearer (graphIn (entries (now (lengths .entry)))) (noted (now (lengths .entry))) p ⌝ }
 {
-    let mut i = words.len();
-    while 0 < i {
+    let entry = lengths[p] % ENTRIES;
+    let kind = entry / TARGETS;
+    if kind == KIND_NEXT {
+        return above + 1;
+    }
+    if kind == KIND_NONE {
+        return 0;
+    }
+    let to = (entry % TARGETS) as usize;
+    let x = lengths[to] / ENTRIES;
+    if serves(p, to) {
+        return 0;
+    }
+    if kind == KIND_TARGET {
+        return x + 1;
+    }
+    smaller(above, x) + 1
+}
+
+// Notes the distances of the words from `from` on. The entries stay.
+pub(crate) fn note_distances(from: usize, lengths: &mut [u32])
+    requires { ⌜ Holds (now lengths) ⌝ }
+    ensures { λ _. ⌜ Notes from (now (lengths .entry)) (now (lengths .exit)) ⌝ }
+{
+    let mut above: u32 = 0;
+    let mut i = lengths.len();
+    while from < i {
         i -= 1;
-        lengths[i] = distance_at(words, lengths, i);
+        above = distance_at(lengths, i, above);
+        lengths[i] = lengths[i] % ENTRIES + above * ENTRIES;
     }
 }

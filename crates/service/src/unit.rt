@@ -1,17 +1,39 @@
-// The run in which every word counts 1.
-ghost use mathlib.Core.Path.{_≡_};
-ghost use lib.ListN.{length};
-ghost use Rattle.runs.specs.Run.{runOf, marksAfter, lengthsAfter};
+// The run in which every word counts 1: what refuses it before a word is read, and the run of words that are searched.
+ghost use Rattle.runs.specs.Script.{scriptOf};
+ghost use Rattle.runs.specs.Outcome.{Searched, Decided};
 ghost use Rattle.runs.specs.Counted.{ones};
+ghost use Rattle.service.specs.Pass.{Sizes};
+use common::limits::MOST_WORDS;
+use common::numbers::*;
+use fields::version::Version;
 use runs::Run;
+use runs::inner::measure_run;
 use runs::weighing::WEIGHTS;
 
-// The longest run with all weights 1.
-pub(crate) fn unit_run(words: &[u32], marks: &mut [u8], lengths: &mut [u32]) -> Run
-    ensures { λ r. ⌜ r ≡ runOf (now (words .entry)) ones (length (now (marks .entry))) (length (now (lengths .entry))) ⌝ }
-    ensures { λ _. ⌜ now (marks .exit) ≡ marksAfter (now (words .entry)) ones (now (marks .entry)) (now (lengths .entry)) ⌝ }
-    ensures { λ _. ⌜ now (lengths .exit) ≡ lengthsAfter (now (words .entry)) ones (now (marks .entry)) (now (lengths .entry)) ⌝ }
+// The number by which the run refuses n words and slices of these lengths, or 0. Its place is 0.
+pub(crate) fn size_refusal(n: usize, marks: usize, lengths: usize) -> u8
+    ensures { λ r. ⌜ Sizes n marks lengths r ⌝ }
+{
+    if MOST_WORDS < n {
+        return TOO_MANY_WORDS;
+    }
+    if marks < n {
+        return SHORT_SLICE;
+    }
+    if lengths < n {
+        return SHORT_SLICE;
+    }
+    if n == 0 {
+        return NO_WORDS;
+    }
+    ACCEPTED
+}
+
+// The run of words that are searched: their lengths take the place of their entries.
+pub(crate) fn unit_run(version: Version, words: &[u32], marks: &[u8], lengths: &mut [u32]) -> Run
+    requires { ⌜ Searched (scriptOf version (now words)) (now marks) (now lengths) ⌝ }
+    ensures { λ r. ⌜ Decided (scriptOf version (now (words .entry))) ones r (now (marks .entry)) (now (lengths .exit)) ⌝ }
 {
     let weights = [1u8; WEIGHTS];
-    runs::longest_run(words, &weights, marks, lengths)
+    measure_run(version, words, &weights, marks, lengths)
 }

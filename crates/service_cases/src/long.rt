@@ -2,6 +2,7 @@
 use crate::print;
 use crate::words::plain;
 use fields::opcodes::*;
+use fields::version::Version;
 use service::crossing_edges;
 use service::distance_to_service;
 use service::list_within;
@@ -19,9 +20,9 @@ fn from(s: &[u8], i: usize) -> &[u8] {
 
 // The three questions, with d 3, and the end of the list.
 fn ask(words: &[u32], marks: &mut [u8], lengths: &mut [u32], list: &mut [u8]) {
-    print::nearest(distance_to_service(words, 0, marks, lengths));
-    print::crossed(crossing_edges(words, 1, marks, lengths));
-    print::listed(list_within(words, 3, marks, lengths, list));
+    print::nearest(distance_to_service(Version::Lua54, words, 0, marks, lengths));
+    print::crossed(crossing_edges(Version::Lua54, words, 1, marks, lengths));
+    print::listed(list_within(Version::Lua54, words, 3, marks, lengths, list));
     print::bytes(from(list, 32764));
     print::end();
 }

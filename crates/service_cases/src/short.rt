@@ -2,13 +2,14 @@
 use crate::print;
 use crate::words::*;
 use fields::opcodes::*;
+use fields::version::Version;
 use fields::word::OFFSET_SJ;
 use service::crossing_edges;
 use service::distance_to_service;
 use service::list_within;
 
 fn distance(words: &[u32], w: usize, marks: &mut [u8], lengths: &mut [u32]) {
-    print::nearest(distance_to_service(words, w, marks, lengths));
+    print::nearest(distance_to_service(Version::Lua54, words, w, marks, lengths));
 }
 
 // The distance of each word, of those past the end up to 6, and of one far past it.
@@ -28,7 +29,7 @@ fn show_distances(words: &[u32]) {
 }
 
 fn crossings(words: &[u32], w: usize, marks: &mut [u8], lengths: &mut [u32]) {
-    print::crossed(crossing_edges(words, w, marks, lengths));
+    print::crossed(crossing_edges(Version::Lua54, words, w, marks, lengths));
 }
 
 // The edges over each word, over those past the end up to 6, and over one far past it.
@@ -53,7 +54,14 @@ fn show_list(words: &[u32], d: usize) {
     let mut list = [9u8; 8];
     print::text(b"  within");
     print::number(d as u64);
-    print::listed(list_within(words, d, &mut marks, &mut lengths, &mut list));
+    print::listed(list_within(
+        Version::Lua54,
+        words,
+        d,
+        &mut marks,
+        &mut lengths,
+        &mut list,
+    ));
     print::bytes(&list);
     print::slices(&marks, &lengths);
 }
@@ -109,9 +117,9 @@ pub fn answers() {
 // With slices of these lengths: 8 is long enough.
 fn show_lent(label: &[u8], words: &[u32], marks: &mut [u8], lengths: &mut [u32], list: &mut [u8]) {
     print::text(label);
-    print::nearest(distance_to_service(words, 0, marks, lengths));
-    print::crossed(crossing_edges(words, 0, marks, lengths));
-    print::listed(list_within(words, 1, marks, lengths, list));
+    print::nearest(distance_to_service(Version::Lua54, words, 0, marks, lengths));
+    print::crossed(crossing_edges(Version::Lua54, words, 0, marks, lengths));
+    print::listed(list_within(Version::Lua54, words, 1, marks, lengths, list));
     print::text(b" list");
     print::bytes(list);
     print::slices(marks, lengths);
@@ -163,6 +171,7 @@ pub fn short_before_bad() {
     let mut list = [9u8; 1];
     print::text(b"a short list before a bad word");
     print::listed(list_within(
+        Version::Lua54,
         &[plain(OP_MOVE), 83],
         1,
         &mut marks,

@@ -1,4 +1,5 @@
--- A case and its executions agree: tests of the 83 opcodes, which antt computes, and what they say of any cell.
+-- A case and its executions agree: tests of the 83 and of the 47 opcodes, which antt computes, and what they say of
+-- any cell.
 -- Assumes nothing.
 use Prim.Native.Nat.{ℕ, _+_, _<_}
 use mathlib.Core.Path.{_≡_, refl, ap, sym, subst, _∙_}
@@ -7,13 +8,17 @@ use mathlib.Core.Bool.{Bool, true, false, cond}
 use mathlib.Core.List.{List, [], _∷_}
 use native.Mathlib.Omega.{arith}
 use lib.Dec.{T, eqb, eqb→eq}
-use Rattle.fields.specs.declared.word.RawInstruction54.{RawInstruction54}
+use Rattle.touches.specs.declared.arguments.Arguments.{Arguments}
 use Rattle.fields.specs.Laws.{all}
 use Rattle.fields.proofs.Laws.{laws}
 use Rattle.touches.specs.Operands.{Operand, «R[A]», «R[A+1]», «R[A+2]», «R[A+3]», «R[A+1…A+B-1]», «R[A+1…A+B]», locationOf}
-use Rattle.touches.specs.Cases.{Edge, noEdge, «p+1», «p+2», «p+1-Bx», Accesses, accessesOf}
-use Rattle.touches.specs.Table.{numberOf, operandFrom, edgeNumber}
-use Rattle.touches.specs.Executions.{Cell, register, upToTop, Access, names, Way, waysOf, wayReads, wayStores, Any, All}
+use Rattle.touches.specs.Cases.{Edge, noEdge, «p+1», «p+2», «p+1-Bx», «p+1+sBx», Accesses}
+use Rattle.touches.specs.Table.{numberOf, operandFrom, edgeNumber, opcodesOf}
+use Rattle.touches.specs.Executions.{Cell, register, upToTop, Access, names, Way}
+use Rattle.fields.specs.declared.version.Version.{Version}
+use Rattle.fields.specs.declared.version.Version.the-variants.{Lua54, Lua53}
+use Rattle.touches.specs.Versions.{accessesOf, waysOf}
+use Rattle.touches.specs.Touched.{wayReads, wayStores, Any, All}
 use Rattle.touches.proofs.Rows.{operand-back}
 use Rattle.touches.proofs.Choices.{every, some, left-of, right-of, one-of, every-any, every-all, some-any, some-all}
 use Rattle.touches.proofs.Cells.{At, kind, index, one-register, past-first, meant, named}
@@ -92,6 +97,10 @@ areClear xs = every (λ (y : Operand). every (λ (x : Operand). isClear x y) xs)
 abbrev edgeTold : Accesses → Bool
 edgeTold a = cond (eqb (edgeNumber (a .edge)) 0) true (cond (has (a .«edge-writes») «R[A]») true (has (a .«edge-writes») «R[A+2]»))
 
+-- a word that writes has a way on
+abbrev hasWay : Accesses → List Way → Bool
+hasWay a ways = cond (every (λ (x : Operand). false) (a .writes)) true (some (λ (w : Way). true) ways)
+
 abbrev tests : Accesses → List Way → List Bool
 tests a ways =
     allRead a ways
@@ -100,7 +109,7 @@ tests a ways =
     ∷ writtenOnAll a ways
     ∷ writtenOverEdge a ways
     ∷ notOnAll a ways
-    ∷ some (λ (w : Way). true) ways
+    ∷ hasWay a ways
     ∷ isListed a
     ∷ topsLast (a .reads)
     ∷ topsLast (a .writes)
@@ -116,7 +125,7 @@ pub record Agrees (a : Accesses) (ways : List Way) : Type 0 where
   pub written-on-all : T (writtenOnAll a ways)
   pub written-over-edge : T (writtenOverEdge a ways)
   pub not-on-all : T (notOnAll a ways)
-  pub some-way : T (some (λ (w : Way). true) ways)
+  pub some-way : T (hasWay a ways)
   pub no-constants : T (every (bars 1) (a .writes))
   pub no-edge-constants : T (every (bars 1) (a .«edge-writes»))
   pub no-edge-upvalues : T (every (bars 2) (a .«edge-writes»))
@@ -139,7 +148,7 @@ agrees-by a ways t =
     let t5 = right-of (writtenOnAll a ways) _ t4 in
     let t6 = right-of (writtenOverEdge a ways) _ t5 in
     let t7 = right-of (notOnAll a ways) _ t6 in
-    let t8 = right-of (some (λ (w : Way). true) ways) _ t7 in
+    let t8 = right-of (hasWay a ways) _ t7 in
     let t9 = right-of (isListed a) _ t8 in
     let t10 = right-of (topsLast (a .reads)) _ t9 in
     let t11 = right-of (topsLast (a .writes)) _ t10 in
@@ -155,7 +164,7 @@ agrees-by a ways t =
       written-on-all = left-of (writtenOnAll a ways) _ t4;
       written-over-edge = left-of (writtenOverEdge a ways) _ t5;
       not-on-all = left-of (notOnAll a ways) _ t6;
-      some-way = left-of (some (λ (w : Way). true) ways) _ t7;
+      some-way = left-of (hasWay a ways) _ t7;
       no-constants = left-of (every (bars 1) (a .writes)) _ l;
       no-edge-constants = left-of (every (bars 1) (a .«edge-writes»)) _ l2;
       no-edge-upvalues = left-of (every (bars 2) (a .«edge-writes»)) _ l3;
@@ -167,20 +176,21 @@ agrees-by a ways t =
       edge-told = left-of (edgeTold a) _ t13;
     }
 
-agrees-at : ℕ → Bool
-agrees-at o = passes (tests (accessesOf o) (waysOf o))
+agrees-at : Version → ℕ → Bool
+agrees-at v o = passes (tests (accessesOf v o) (waysOf v o))
 
-agrees-below : T (all agrees-at 128)
+agrees-below : (v : Version) → T (all (agrees-at v) (opcodesOf v))
 unfolding agrees-at accessesOf waysOf
-agrees-below = tt
+agrees-below Lua54 = tt
+agrees-below Lua53 = tt
 
-pub agree : (o : ℕ) → o < 128 → Agrees (accessesOf o) (waysOf o)
+pub agree : (v : Version) (o : ℕ) → o < opcodesOf v → Agrees (accessesOf v o) (waysOf v o)
 unfolding agrees-at
-agree o h = agrees-by (accessesOf o) (waysOf o) (laws .each-below agrees-at 128 agrees-below o h)
+agree v o h = agrees-by (accessesOf v o) (waysOf v o) (laws .each-below (agrees-at v) (opcodesOf v) (agrees-below v) o h)
 
 -- What the tests say of a cell c in a word i, between pi and ni
 
-module _ (i pi ni : RawInstruction54) (c : Cell) where
+module _ (i pi ni : Arguments) (c : Cell) where
   -- the cell is one that the operand stands for
   abbrev pub Is : Operand → Type 0
   Is x = At c (locationOf x i (pi .a) (ni .ax))
@@ -264,7 +274,11 @@ module _ (i pi ni : RawInstruction54) (c : Cell) where
         (λ w t k. ⊎-elim (λ h. h) (λ (h : T (leads (a .edge) (goOf w)) × Any Is (a .«edge-writes»)). absurd (not-every-way (h .1) (r .1))) (listed w t k))
 
     pub writes-into : Any Is (a .writes) → Any StoredOn ways × All StoredOn ways
-    writes-into r = (some-of ways (agrees .some-way) (every-way r), every-way r)
+    writes-into r = (
+      ⊎-elim (λ t. every-any Is (λ (x : Operand). false) (a .writes) t r (λ x s h. absurd s)) (λ t. some-of ways t (every-way r))
+          (one-of (every (λ (x : Operand). false) (a .writes)) _ (agrees .some-way)),
+      every-way r,
+    )
       where
         some-of : (ws : List Way) → T (some (λ (w : Way). true) ws) → All StoredOn ws → Any StoredOn ws
         some-of [] t all = absurd t
@@ -314,8 +328,9 @@ edge-is noEdge h = refl
 edge-is «p+1» h = absurd (omega (arith, h))
 edge-is «p+2» h = absurd (omega (arith, h))
 edge-is «p+1-Bx» h = absurd (omega (arith, h))
+edge-is «p+1+sBx» h = absurd (omega (arith, h))
 
-module _ (i pi ni : RawInstruction54) where
+module _ (i pi ni : Arguments) where
   -- if no register is written over an edge, there is none
   pub no-edge : (a : Accesses) → T (edgeTold a) → ((q : ℕ) → Any (Is i pi ni (register q)) (a .«edge-writes») → ⊥) → a .edge ≡ noEdge
   no-edge a t none =

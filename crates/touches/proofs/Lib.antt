@@ -6,10 +6,13 @@ pub mod Rows
 pub mod Answers
 pub mod Choices
 pub mod Cells
+pub mod Isk
+pub mod Gos
 pub mod Ways
 pub mod Sorts
 pub mod Agree
 pub mod Heights
 pub mod Whole
 pub mod Meaning
+pub mod Examples53
 pub mod Laws

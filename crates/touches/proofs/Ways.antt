@@ -1,74 +1,41 @@
--- The ways on of specs/Executions.antt are those of runs' Lvm.antt, and over them a word's successors. All that is
--- used of Lvm.antt is here.
+-- The ways on of specs/Executions.antt and specs/Executions53.antt are those of runs' Lvm.antt and Lvm53.antt; they lead to
+-- a word's steps, and over them an edge. All that is used of Lvm.antt and Lvm53.antt is here.
 -- Assumes nothing.
 use Prim.Native.Nat.{ℕ, zero, suc, _+_, _-_, _≤_, _<_}
-use mathlib.Core.Path.{_≡_, refl, ap, sym, subst, _∙_}
+use mathlib.Core.Path.{_≡_, refl, ap, ap₂, sym, subst, _∙_}
 use mathlib.Core.Logic.{_⊎_, inl, inr, ⊎-elim}
 use mathlib.Core.Bool.{Bool, true, false, cond}
 use mathlib.Core.List.{List, [], _∷_, _++_}
 use native.Mathlib.Omega.{arith}
 use lib.Dec.{T, eqb, eqb→eq}
-use lib.IntN.{ℤ, pos, negsuc, _+ℤ_, _-ℤ_}
+use lib.IntN.{ℤ, pos, negsuc, negℤ, _+ℤ_, _-ℤ_, +ℤ-assoc}
 use lib.ListN.{getD}
 use borrow.Author.Tests.{lt-ltb, le-ltb}
 use Rattle.fields.specs.declared.word.RawInstruction54.{RawInstruction54}
-use Rattle.fields.specs.Word.{opcodeOf}
-use Rattle.fields.specs.Lopcodes.{«GET_OPCODE», «GETARG_Bx», «TESTARG_k»}
+use Rattle.fields.specs.Lopcodes.{«GET_OPCODE», «TESTARG_k»}
 use Rattle.fields.specs.Laws.{all}
 use Rattle.fields.proofs.Laws.{laws}
 use Rattle.graph.specs.Graph.{In}
 use Rattle.graph.proofs.Laws as graph
 use Rattle.runs.specs.Steps.{isInvalid, listOf}
-use Rattle.runs.specs.Successors.{successorsOf, isSuccessor}
 use Rattle.runs.specs.Lvm as lvm
 use Rattle.runs.proofs.Laws as runs
-use Rattle.touches.specs.Executions.{Go, vmbreak, «pc++», «pc++-if-k», dojump, donextjump, «pc-=Bx», «pc+=Bx+1», l_tforcall, l_tforloop, leave, next, Way, way, waysOf, waysAt, nexts, Any, LeadsTo}
-use Rattle.touches.specs.Cases.{Edge, noEdge, «p+1», «p+2», «p+1-Bx», edgeOf}
+use Rattle.fields.specs.declared.version.Version.{Version}
+use Rattle.fields.specs.declared.version.Version.the-variants.{Lua54, Lua53}
+use Rattle.touches.specs.Words.{opcodeBy, «GET_OPCODE-of», taken}
+use Rattle.touches.specs.Executions.{Go, vmbreak, «pc++», «pc++-if-k», dojump, donextjump, «pc-=Bx», «pc+=Bx+1», l_tforcall, l_tforloop, leave, «pc++-if-C», «pc++-if-not-C», «pc+=sBx», dojump-sBx, compared-0, compared-1, sBx, next, Way, way}
+use Rattle.fields.specs.declared.word53.RawInstruction53.{RawInstruction53}
+use Rattle.fields.specs.Lopcodes53 as lopcodes53
+use Rattle.runs.specs.Lvm53 as lvm53
+use Rattle.runs.specs.Script.{stepsOf}
+use Rattle.touches.specs.Versions.{goesOn, isStep, waysOf}
+use Rattle.touches.specs.Touched.{waysAt, nexts, Any, LeadsTo}
+use Rattle.touches.specs.Cases.{Edge, noEdge, «p+1», «p+2», «p+1-Bx», «p+1+sBx», edgeOf}
+use Rattle.touches.specs.Table.{opcodesOf}
 use Rattle.touches.proofs.Order.{split}
 use Rattle.touches.proofs.Choices.{one-of, same, by-test}
-
--- How a case goes on, as a number
-
-abbrev pub goNumber : Go → ℕ
-goNumber vmbreak = 0
-goNumber «pc++» = 1
-goNumber «pc++-if-k» = 2
-goNumber dojump = 3
-goNumber donextjump = 4
-goNumber «pc-=Bx» = 5
-goNumber «pc+=Bx+1» = 6
-goNumber l_tforcall = 7
-goNumber l_tforloop = 8
-goNumber leave = 9
-
-abbrev goFrom : ℕ → Go
-goFrom number =
-    getD (vmbreak ∷ «pc++» ∷ «pc++-if-k» ∷ dojump ∷ donextjump ∷ «pc-=Bx» ∷ «pc+=Bx+1» ∷ l_tforcall ∷ l_tforloop ∷ []) number leave
-
-go-back : (go : Go) → goFrom (goNumber go) ≡ go
-go-back vmbreak = refl
-go-back «pc++» = refl
-go-back «pc++-if-k» = refl
-go-back dojump = refl
-go-back donextjump = refl
-go-back «pc-=Bx» = refl
-go-back «pc+=Bx+1» = refl
-go-back l_tforcall = refl
-go-back l_tforloop = refl
-go-back leave = refl
-
--- a case's ways on alone
-abbrev gosOf : List Way → List Go
-gosOf [] = []
-gosOf (way go runs ∷ ways) = go ∷ gosOf ways
-
-abbrev nextsBy : List Go → ℤ → ℕ → List ℤ
-nextsBy [] pc i = []
-nextsBy (go ∷ gos) pc i = next go pc i ++ nextsBy gos pc i
-
-nexts-by : (ways : List Way) (pc : ℤ) (i : ℕ) → nexts ways pc i ≡ nextsBy (gosOf ways) pc i
-nexts-by [] pc i = refl
-nexts-by (way go runs ∷ ways) pc i = ap (next go pc i ++_) (nexts-by ways pc i)
+use Rattle.touches.proofs.Gos.{goNumber, goFrom, go-back, goNumbers, gosFrom, gos-back, gosOf, nextsBy, nexts-by}
+use mathlib.Core.Logic.{_↔_}
 
 -- the ways of a body of Lvm.antt
 abbrev gosBy : lvm.Body → List Go
@@ -89,7 +56,7 @@ gosBy lvm.setlist = «pc++-if-k» ∷ []
 gosBy lvm.assert0 = vmbreak ∷ []
 gosBy lvm.absent = vmbreak ∷ []
 
-body-nexts : (ws : List ℕ) (body : lvm.Body) (pc : ℤ) (i : ℕ) → nextsBy (gosBy body) pc i ≡ lvm.targetsOf (lvm.waysOf ws body pc i)
+body-nexts : (ws : List ℕ) (body : lvm.Body) (pc : ℤ) (i : ℕ) → nextsBy Lua54 (gosBy body) pc i ≡ lvm.targetsOf (lvm.waysOf ws body pc i)
 body-nexts ws lvm.still pc i = refl
 body-nexts ws lvm.skip pc i = refl
 body-nexts ws lvm.arith pc i = refl
@@ -113,47 +80,109 @@ body-nexts ws lvm.absent pc i = refl
 
 -- The two switches go on alike: a test that antt computes
 
-abbrev goNumbers : List Go → List ℕ
-goNumbers [] = []
-goNumbers (go ∷ gos) = goNumber go ∷ goNumbers gos
-
-abbrev gosFrom : List ℕ → List Go
-gosFrom [] = []
-gosFrom (n ∷ ns) = goFrom n ∷ gosFrom ns
-
-gos-back : (gos : List Go) → gosFrom (goNumbers gos) ≡ gos
-gos-back [] = refl
-gos-back (go ∷ gos) = rw (go-back go, gos-back gos)
-
 alike-at : ℕ → Bool
-alike-at o = same (goNumbers (gosOf (waysOf o))) (goNumbers (gosBy (lvm.vmdispatch lvm.switch o)))
+alike-at o = same (goNumbers (gosOf (waysOf Lua54 o))) (goNumbers (gosBy (lvm.vmdispatch lvm.switch o)))
 
 alike-below : T (all alike-at 128)
 unfolding alike-at waysOf
 alike-below = tt
 
-gos-alike : (o : ℕ) → o < 128 → gosOf (waysOf o) ≡ gosBy (lvm.vmdispatch lvm.switch o)
+gos-alike : (o : ℕ) → o < 128 → gosOf (waysOf Lua54 o) ≡ gosBy (lvm.vmdispatch lvm.switch o)
 unfolding alike-at
 gos-alike o h =
-    sym (gos-back (gosOf (waysOf o)))
+    sym (gos-back (gosOf (waysOf Lua54 o)))
     ∙ (ap gosFrom
-    (by-test (goNumbers (gosOf (waysOf o))) (goNumbers (gosBy (lvm.vmdispatch lvm.switch o))) (laws .each-below alike-at 128 alike-below o h))
+    (by-test (goNumbers (gosOf (waysOf Lua54 o))) (goNumbers (gosBy (lvm.vmdispatch lvm.switch o))) (laws .each-below alike-at 128 alike-below o h))
     ∙ gos-back (gosBy (lvm.vmdispatch lvm.switch o)))
 
-module _ (w : ℕ) where
-  pub opcode-is : «GET_OPCODE» w ≡ opcodeOf w
-  opcode-is = ap (λ (i : RawInstruction54). i .«opcode_num») (laws .lopcodes w)
+pub opcode-is : (v : Version) (w : ℕ) → «GET_OPCODE-of» v w ≡ opcodeBy v w
+opcode-is Lua54 w = ap (λ (i : RawInstruction54). i .«opcode_num») (laws .lopcodes w)
+opcode-is Lua53 w = ap (λ (i : RawInstruction53). i .«opcode_num») (laws .lua53 .lopcodes w)
 
-  pub opcode-fits : «GET_OPCODE» w < 128
-  opcode-fits = rw opcode-is (omega arith)
+pub opcode-fits : (v : Version) (w : ℕ) → «GET_OPCODE-of» v w < opcodesOf v
+opcode-fits Lua54 w = rw (opcode-is Lua54 w) (omega arith)
+opcode-fits Lua53 w = rw (opcode-is Lua53 w) (omega arith)
 
-pub same-ways : (ws : List ℕ) (p : ℕ) → nexts (waysAt ws p) (pos (p + 1)) (getD ws p 0) ≡ lvm.goesOn ws p
-unfolding lvm.waysAt lvm.bodyAt
-same-ways ws p =
+-- the same of 5.3
+abbrev gosBy53 : lvm53.Body → List Go
+gosBy53 lvm53.still = vmbreak ∷ []
+gosBy53 lvm53.loadkx = «pc++» ∷ []
+gosBy53 lvm53.loadbool = «pc++-if-C» ∷ []
+gosBy53 lvm53.jmp = dojump-sBx ∷ []
+gosBy53 lvm53.compare = compared-0 ∷ compared-1 ∷ []
+gosBy53 lvm53.test = «pc++» ∷ donextjump ∷ []
+gosBy53 lvm53.call = vmbreak ∷ []
+gosBy53 lvm53.tailcall = vmbreak ∷ leave ∷ []
+gosBy53 lvm53.leave = leave ∷ []
+gosBy53 lvm53.forloop = «pc+=sBx» ∷ vmbreak ∷ []
+gosBy53 lvm53.forprep = «pc+=sBx» ∷ []
+gosBy53 lvm53.tforcall = l_tforloop ∷ []
+gosBy53 lvm53.tforloop = «pc+=sBx» ∷ vmbreak ∷ []
+gosBy53 lvm53.setlist = «pc++-if-not-C» ∷ []
+gosBy53 lvm53.assert0 = []
+gosBy53 lvm53.absent = []
+
+either53 : (t : Bool) (x y : ℤ) → cond t x y ∷ [] ≡ lvm53.targetsOf (cond t (lvm53.fetch x ∷ []) (lvm53.fetch y ∷ []))
+either53 true x y = refl
+either53 false x y = refl
+
+jumps53 : (t : Bool) (x after y : ℤ) → cond t x y ≡ lvm53.targetOf (cond t (lvm53.jumped x after) (lvm53.fetch y))
+jumps53 true x after y = refl
+jumps53 false x after y = refl
+
+body-nexts53 : (ws : List ℕ) (body : lvm53.Body) (pc : ℤ) (i : ℕ) → nextsBy Lua53 (gosBy53 body) pc i ≡ lvm53.targetsOf (lvm53.waysOf ws body pc i)
+body-nexts53 ws lvm53.still pc i = refl
+body-nexts53 ws lvm53.loadkx pc i = refl
+body-nexts53 ws lvm53.loadbool pc i = either53 (eqb (lopcodes53.«GETARG_C» i) 0) pc (pc +ℤ pos 1)
+body-nexts53 ws lvm53.jmp pc i = refl
+body-nexts53 ws lvm53.compare pc i =
+    ap₂ (λ (x y : ℤ). x ∷ y ∷ []) (jumps53 (eqb 0 (lopcodes53.«GETARG_A» i)) pc _ (pc +ℤ pos 1)) (jumps53 (eqb 1 (lopcodes53.«GETARG_A» i)) pc _ (pc +ℤ pos 1))
+body-nexts53 ws lvm53.test pc i = refl
+body-nexts53 ws lvm53.call pc i = refl
+body-nexts53 ws lvm53.tailcall pc i = refl
+body-nexts53 ws lvm53.leave pc i = refl
+body-nexts53 ws lvm53.forloop pc i = refl
+body-nexts53 ws lvm53.forprep pc i = refl
+body-nexts53 ws lvm53.tforcall pc i = refl
+body-nexts53 ws lvm53.tforloop pc i = refl
+body-nexts53 ws lvm53.setlist pc i = either53 (eqb (lopcodes53.«GETARG_C» i) 0) (pc +ℤ pos 1) pc
+body-nexts53 ws lvm53.assert0 pc i = refl
+body-nexts53 ws lvm53.absent pc i = refl
+
+alike53-at : ℕ → Bool
+alike53-at o = same (goNumbers (gosOf (waysOf Lua53 o))) (goNumbers (gosBy53 (lvm53.vmdispatch lvm53.switch o)))
+
+alike53-below : T (all alike53-at 64)
+unfolding alike53-at waysOf
+alike53-below = tt
+
+gos-alike53 : (o : ℕ) → o < 64 → gosOf (waysOf Lua53 o) ≡ gosBy53 (lvm53.vmdispatch lvm53.switch o)
+unfolding alike53-at
+gos-alike53 o h =
+    sym (gos-back (gosOf (waysOf Lua53 o)))
+    ∙ (ap gosFrom
+    (by-test (goNumbers (gosOf (waysOf Lua53 o))) (goNumbers (gosBy53 (lvm53.vmdispatch lvm53.switch o))) (laws .each-below alike53-at 64 alike53-below o h))
+    ∙ gos-back (gosBy53 (lvm53.vmdispatch lvm53.switch o)))
+
+pub same-ways : (v : Version) (ws : List ℕ) (p : ℕ) → nexts v (waysAt v ws p) (pos (p + 1)) (getD ws p 0) ≡ goesOn v ws p
+unfolding lvm.waysAt lvm.bodyAt lvm53.waysAt lvm53.bodyAt
+same-ways Lua54 ws p =
     let w = getD ws p 0 in
-    nexts-by (waysAt ws p) (pos (p + 1)) w
-    ∙ (ap (λ (gos : List Go). nextsBy gos (pos (p + 1)) w) (gos-alike («GET_OPCODE» w) (opcode-fits w))
+    nexts-by Lua54 (waysAt Lua54 ws p) (pos (p + 1)) w
+    ∙ (ap (λ (gos : List Go). nextsBy Lua54 gos (pos (p + 1)) w) (gos-alike («GET_OPCODE» w) (opcode-fits Lua54 w))
     ∙ body-nexts ws (lvm.vmdispatch lvm.switch («GET_OPCODE» w)) (pos (p + 1)) w)
+same-ways Lua53 ws p =
+    let w = getD ws p 0 in
+    nexts-by Lua53 (waysAt Lua53 ws p) (pos (p + 1)) w
+    ∙ (ap (λ (gos : List Go). nextsBy Lua53 gos (pos (p + 1)) w) (gos-alike53 (lopcodes53.«GET_OPCODE» w) (opcode-fits Lua53 w))
+    ∙ body-nexts53 ws (lvm53.vmdispatch lvm53.switch (lopcodes53.«GET_OPCODE» w)) (pos (p + 1)) w)
+
+-- the ways of either version are the word's steps
+ways-are :
+    (v : Version) (ws : List ℕ) (p : ℕ) → isInvalid (stepsOf v ws p) ≡ false → (z : ℤ) →
+    In z (nexts v (waysAt v ws p) (pos (p + 1)) (getD ws p 0)) ↔ In z (lvm.integers (listOf (stepsOf v ws p)))
+ways-are Lua54 ws p valid z = rw (same-ways Lua54 ws p) (runs.laws .agreement .same ws p valid z)
+ways-are Lua53 ws p valid z = rw (same-ways Lua53 ws p) (runs.laws .agreement53 .same ws p valid z)
 
 -- A way of a word that is not bad leads to a successor
 
@@ -179,36 +208,40 @@ none-below n (x ∷ xs) a = ⊎-elim (λ e. signs e) (λ b. none-below n xs b) a
     signs : negsuc n ≡ pos x → ⊥
     signs e = omega (arith, ap sign e)
 
-module _ (ws : List ℕ) (p : ℕ) (valid : isInvalid (successorsOf ws p) ≡ false) where
+module _ (v : Version) (ws : List ℕ) (p : ℕ) (valid : isInvalid (stepsOf v ws p) ≡ false) where
   abbrev word : ℕ
   word = getD ws p 0
 
   abbrev Reached : ℤ → Type 0
-  Reached z = In z (nexts (waysAt ws p) (pos (p + 1)) word)
+  Reached z = In z (nexts v (waysAt v ws p) (pos (p + 1)) word)
 
-  reached : (z : ℤ) → Reached z → In z (lvm.integers (listOf (successorsOf ws p)))
-  reached z a = runs.laws .agreement .same ws p valid z .0 (rw (same-ways ws p) at a)
+  reached : (z : ℤ) → Reached z → In z (lvm.integers (listOf (stepsOf v ws p)))
+  reached z a = ways-are v ws p valid z .0 a
 
-  pub to-successor : (q : ℕ) → Reached (pos q) → isSuccessor ws p q ≡ true
-  unfolding isSuccessor
+  pub to-successor : (q : ℕ) → Reached (pos q) → isStep v ws p q ≡ true
+  unfolding isStep
   to-successor q a =
-      graph.laws .member-in q (listOf (successorsOf ws p)) .1 (in-numbers q (listOf (successorsOf ws p)) (reached (pos q) a))
+      graph.laws .member-in q (listOf (stepsOf v ws p)) .1 (in-numbers q (listOf (stepsOf v ws p)) (reached (pos q) a))
 
-  -- a way back does not go below 0
-  under : (b : ℕ) → p + 1 < b → Reached (pos (p + 1) -ℤ pos b) → ⊥
-  under zero h r = absurd (omega arith)
-  under (suc b) h r =
-      none-below (suc b - suc (p + 1)) (listOf (successorsOf ws p)) (reached (negsuc (suc b - suc (p + 1))) (subst Reached below r))
+  -- a way does not go below 0
+  under : (x b : ℕ) → x < b → Reached (pos x -ℤ pos b) → ⊥
+  under x zero h r = absurd (omega arith)
+  under x (suc b) h r =
+      none-below (suc b - suc x) (listOf (stepsOf v ws p)) (reached (negsuc (suc b - suc x)) (subst Reached below r))
     where
-      below : pos (p + 1) -ℤ pos (suc b) ≡ negsuc (suc b - suc (p + 1))
-      below = rw (lt-ltb (p + 1) (suc b) h)
+      below : pos x -ℤ pos (suc b) ≡ negsuc (suc b - suc x)
+      below = rw (lt-ltb x (suc b) h)
 
-  back-fits : (b : ℕ) → Reached (pos (p + 1) -ℤ pos b) → b ≤ p + 1
-  back-fits b a = ⊎-elim (λ h. absurd (under b h a)) (λ h. h) (split (p + 1) b)
+  not-below : (x b : ℕ) → Reached (pos x -ℤ pos b) → b ≤ x
+  not-below x b a = ⊎-elim (λ h. absurd (under x b h a)) (λ h. h) (split x b)
 
 difference : (x b : ℕ) → b ≤ x → pos x -ℤ pos b ≡ pos (x - b)
 difference x zero h = ap pos (omega arith)
 difference x (suc b) h = rw (le-ltb x (suc b) h)
+
+-- a signed distance: the sum in naturals, less the offset
+away : (m a b : ℕ) → pos m +ℤ (pos a -ℤ pos b) ≡ pos (m + a) -ℤ pos b
+away m a b = sym (+ℤ-assoc (pos m) (pos a) (negℤ (pos b)))
 
 -- The edge of a case, and the way on that leads over it
 
@@ -220,43 +253,51 @@ leads noEdge go = false
 leads «p+1» go = cond (eqb (goNumber go) 0) true (eqb (goNumber go) 4)
 leads «p+2» go = eqb (goNumber go) 1
 leads «p+1-Bx» go = eqb (goNumber go) 5
+leads «p+1+sBx» go = eqb (goNumber go) 12
 
 -- where lvm.c leaves pc then
-abbrev pub landing : Edge → ℕ → ℕ → ℤ
-landing noEdge p w = pos 0
-landing «p+1» p w = pos (p + 1)
-landing «p+2» p w = pos (p + 1) +ℤ pos 1
-landing «p+1-Bx» p w = pos (p + 1) -ℤ pos («GETARG_Bx» w)
+abbrev pub landing : Version → Edge → ℕ → ℕ → ℤ
+landing v noEdge p w = pos 0
+landing v «p+1» p w = pos (p + 1)
+landing v «p+2» p w = pos (p + 1) +ℤ pos 1
+landing v «p+1-Bx» p w = pos (p + 1) -ℤ pos (taken v w .bx)
+landing v «p+1+sBx» p w = pos (p + 1) +ℤ sBx (taken v w .bx)
 
 go-is : (go : Go) (n : ℕ) → T (eqb (goNumber go) n) → go ≡ goFrom n
 go-is go n t = sym (go-back go) ∙ ap goFrom (eqb→eq (goNumber go) n t)
 
-pub next-landing : (edge : Edge) (go : Go) (p w : ℕ) → T (leads edge go) → next go (pos (p + 1)) w ≡ landing edge p w ∷ []
-next-landing noEdge go p w t = absurd t
-next-landing «p+1» go p w t =
-    ⊎-elim (λ u. ap (λ (g : Go). next g (pos (p + 1)) w) (go-is go 0 u)) (λ u. ap (λ (g : Go). next g (pos (p + 1)) w) (go-is go 4 u))
+pub next-landing : (v : Version) (edge : Edge) (go : Go) (p w : ℕ) → T (leads edge go) → next v go (pos (p + 1)) w ≡ landing v edge p w ∷ []
+next-landing v noEdge go p w t = absurd t
+next-landing v «p+1» go p w t =
+    ⊎-elim (λ u. ap (λ (g : Go). next v g (pos (p + 1)) w) (go-is go 0 u)) (λ u. ap (λ (g : Go). next v g (pos (p + 1)) w) (go-is go 4 u))
     (one-of (eqb (goNumber go) 0) (eqb (goNumber go) 4) t)
-next-landing «p+2» go p w t = ap (λ (g : Go). next g (pos (p + 1)) w) (go-is go 1 t)
-next-landing «p+1-Bx» go p w t = ap (λ (g : Go). next g (pos (p + 1)) w) (go-is go 5 t)
+next-landing v «p+2» go p w t = ap (λ (g : Go). next v g (pos (p + 1)) w) (go-is go 1 t)
+next-landing v «p+1-Bx» go p w t = ap (λ (g : Go). next v g (pos (p + 1)) w) (go-is go 5 t)
+next-landing v «p+1+sBx» go p w t = ap (λ (g : Go). next v g (pos (p + 1)) w) (go-is go 12 t)
 
 pub landing-is :
-    (ws : List ℕ) (p : ℕ) → isInvalid (successorsOf ws p) ≡ false → (edge : Edge) →
-    In (landing edge p (getD ws p 0)) (nexts (waysAt ws p) (pos (p + 1)) (getD ws p 0)) →
-    landing edge p (getD ws p 0) ≡ pos (edgeOf edge p («GETARG_Bx» (getD ws p 0)))
-landing-is ws p valid noEdge a = refl
-landing-is ws p valid «p+1» a = refl
-landing-is ws p valid «p+2» a = ap pos (omega arith)
-landing-is ws p valid «p+1-Bx» a =
-    difference (p + 1) («GETARG_Bx» (getD ws p 0)) (back-fits ws p valid («GETARG_Bx» (getD ws p 0)) a)
+    (v : Version) (ws : List ℕ) (p : ℕ) → isInvalid (stepsOf v ws p) ≡ false → (edge : Edge) →
+    In (landing v edge p (getD ws p 0)) (nexts v (waysAt v ws p) (pos (p + 1)) (getD ws p 0)) →
+    landing v edge p (getD ws p 0) ≡ pos (edgeOf edge p (taken v (getD ws p 0) .bx))
+landing-is v ws p valid noEdge a = refl
+landing-is v ws p valid «p+1» a = refl
+landing-is v ws p valid «p+2» a = ap pos (omega arith)
+landing-is v ws p valid «p+1-Bx» a =
+    let bx : ℕ = taken v (getD ws p 0) .bx in
+    difference (p + 1) bx (not-below v ws p valid (p + 1) bx a)
+landing-is v ws p valid «p+1+sBx» a =
+    let bx : ℕ = taken v (getD ws p 0) .bx in
+    let e = away (p + 1) bx 131071 in
+    e ∙ difference (p + 1 + bx) 131071 (not-below v ws p valid (p + 1 + bx) 131071 (subst (Reached v ws p valid) e a))
 
 -- a word that some way leads to
 pub any-reached :
-    (ws : List ℕ) (p : ℕ) (z : ℤ) (P : Way → Type 0) (ways : List Way) → Any (λ (w : Way). LeadsTo ws p z w × P w) ways →
-    In z (nexts ways (pos (p + 1)) (getD ws p 0))
-any-reached ws p z P [] a = a
-any-reached ws p z P (way go runs ∷ ways) a =
-    ⊎-elim (λ (h : LeadsTo ws p z (way go runs) × P (way go runs)). in-left z (next go (pos (p + 1)) (getD ws p 0)) (nexts ways (pos (p + 1)) (getD ws p 0)) (h .0))
-    (λ h. in-right z (next go (pos (p + 1)) (getD ws p 0)) (nexts ways (pos (p + 1)) (getD ws p 0)) (any-reached ws p z P ways h)) a
+    (v : Version) (ws : List ℕ) (p : ℕ) (z : ℤ) (P : Way → Type 0) (ways : List Way) → Any (λ (w : Way). LeadsTo v ws p z w × P w) ways →
+    In z (nexts v ways (pos (p + 1)) (getD ws p 0))
+any-reached v ws p z P [] a = a
+any-reached v ws p z P (way go runs ∷ ways) a =
+    ⊎-elim (λ (h : LeadsTo v ws p z (way go runs) × P (way go runs)). in-left z (next v go (pos (p + 1)) (getD ws p 0)) (nexts v ways (pos (p + 1)) (getD ws p 0)) (h .0))
+    (λ h. in-right z (next v go (pos (p + 1)) (getD ws p 0)) (nexts v ways (pos (p + 1)) (getD ws p 0)) (any-reached v ws p z P ways h)) a
   where
     in-left : (z : ℤ) (xs ys : List ℤ) → In z xs → In z (xs ++ ys)
     in-left z [] ys b = absurd b

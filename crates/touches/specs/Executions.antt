@@ -2,7 +2,8 @@
 -- luaV_execute's switch the ways on, and on each way the executions that take it, with what they read and what they
 -- store. specs/Meaning.antt says that the lists of specs/Touches.antt are those that follow from here: "the
 -- registers, constants and upvalues that lvm.c reads and writes in some execution". An execution that ends in an
--- error goes on nowhere and is left out.
+-- error goes on nowhere and is left out. The cases of 5.3.6 are in specs/Executions53.antt; what they alone need
+-- stands here last.
 -- Assumes nothing.
 use Prim.Native.Nat.{ℕ, _+_, _-_, _≤_, _<_}
 use mathlib.Core.Path.{_≡_}
@@ -11,11 +12,12 @@ use mathlib.Core.Bool.{cond}
 use mathlib.Core.List.{List, [], _∷_, _++_}
 use lib.Dec.{eqb}
 use lib.IntN.{ℤ, pos, _+ℤ_, _-ℤ_}
-use lib.ListN.{getD}
-use Rattle.fields.specs.declared.word.RawInstruction54.{RawInstruction54}
 use Rattle.fields.specs.Opcodes.{«OP_MOVE», «OP_LOADI», «OP_LOADF», «OP_LOADK», «OP_LOADKX», «OP_LOADFALSE», «OP_LFALSESKIP», «OP_LOADTRUE», «OP_LOADNIL», «OP_GETUPVAL», «OP_SETUPVAL», «OP_GETTABUP», «OP_GETTABLE», «OP_GETI», «OP_GETFIELD», «OP_SETTABUP», «OP_SETTABLE», «OP_SETI», «OP_SETFIELD», «OP_NEWTABLE», «OP_SELF», «OP_ADDI», «OP_ADDK», «OP_SUBK», «OP_MULK», «OP_MODK», «OP_POWK», «OP_DIVK», «OP_IDIVK», «OP_BANDK», «OP_BORK», «OP_BXORK», «OP_SHRI», «OP_SHLI», «OP_ADD», «OP_SUB», «OP_MUL», «OP_MOD», «OP_POW», «OP_DIV», «OP_IDIV», «OP_BAND», «OP_BOR», «OP_BXOR», «OP_SHR», «OP_SHL», «OP_MMBIN», «OP_MMBINI», «OP_MMBINK», «OP_UNM», «OP_BNOT», «OP_NOT», «OP_LEN», «OP_CONCAT», «OP_CLOSE», «OP_TBC», «OP_JMP», «OP_EQ», «OP_LT», «OP_LE», «OP_EQK», «OP_EQI», «OP_LTI», «OP_LEI», «OP_GTI», «OP_GEI», «OP_TEST», «OP_TESTSET», «OP_CALL», «OP_TAILCALL», «OP_RETURN», «OP_RETURN0», «OP_RETURN1», «OP_FORLOOP», «OP_FORPREP», «OP_TFORPREP», «OP_TFORCALL», «OP_TFORLOOP», «OP_SETLIST», «OP_CLOSURE», «OP_VARARG», «OP_VARARGPREP», «OP_EXTRAARG»}
-use Rattle.graph.specs.Graph.{In}
-use Rattle.fields.specs.Lopcodes.{«GET_OPCODE», «GETARG_Bx», «GETARG_sJ», «TESTARG_k», instruction}
+use Rattle.fields.specs.Lopcodes.{«GETARG_sJ», «TESTARG_k»}
+use Rattle.fields.specs.declared.version.Version.{Version}
+use Rattle.touches.specs.declared.arguments.Arguments.{Arguments}
+use Rattle.touches.specs.Words.{taken}
+use Rattle.touches.specs.Isk.{«ISK», «INDEXK»}
 
 -- What can be touched.
 pub data Cell : Type 0 where
@@ -62,9 +64,19 @@ pub data Access : Type 0 where
   returned : Access
   -- for (; n > 0; n--) { TValue *val = s2v(ra + n); .. }, where n = GETARG_B(i), or L->top.p - ra - 1
   elements : Access
+  -- 5.3.6: ISK(GETARG_B(i)) ? k+INDEXK(GETARG_B(i)) : base+GETARG_B(i), and the same of C; its RB(i) is vRB's register
+  RKB-isk : Access
+  RKC-isk : Access
+  -- 5.3.6, "CONCAT [goes] by [its] formula": R(B).. ... ..R(C)
+  concatenated : Access
+  -- 5.3.6: R(A+3), ... ,R(A+2+C)
+  called : Access
+  -- 5.3.6: for (j = 0; j < b && j < n; j++) .. for (; j < b; j++) .. ra + j, where b = GETARG_B(i) - 1, or n with
+  -- L->top = ra + n
+  varargs : Access
 
 -- A cell that an access names in the word i, by lopcodes.h's macros; pi is the word before i, ni the one after it.
-abbrev pub names : RawInstruction54 → RawInstruction54 → RawInstruction54 → Cell → Access → Type 0
+abbrev pub names : Arguments → Arguments → Arguments → Cell → Access → Type 0
 names i pi ni c «ra» = c ≡ register (i .a)
 names i pi ni c «ra+1» = c ≡ register (i .a + 1)
 names i pi ni c «ra+2» = c ≡ register (i .a + 2)
@@ -90,13 +102,19 @@ names i pi ni c iterated = (j : ℕ) × ((j < i .c) × (c ≡ register (i .a + 4
 names i pi ni c returned = ((i .b ≡ 0) × (c ≡ upToTop (i .a))) ⊎ ((j : ℕ) × ((j + 1 < i .b) × (c ≡ register (i .a + j))))
 names i pi ni c elements =
     ((i .b ≡ 0) × (c ≡ upToTop (i .a + 1))) ⊎ ((j : ℕ) × (((0 < j) × (j ≤ i .b)) × (c ≡ register (i .a + j))))
+-- #define RKB(i)  ISK(GETARG_B(i)) ? k+INDEXK(GETARG_B(i)) : base+GETARG_B(i)
+names i pi ni c RKB-isk = ((«ISK» (i .b) ≡ 0) × (c ≡ register (i .b))) ⊎ ((«ISK» (i .b) ≡ 0 → ⊥) × (c ≡ constant («INDEXK» (i .b))))
+names i pi ni c RKC-isk = ((«ISK» (i .c) ≡ 0) × (c ≡ register (i .c))) ⊎ ((«ISK» (i .c) ≡ 0 → ⊥) × (c ≡ constant («INDEXK» (i .c))))
+names i pi ni c concatenated = (j : ℕ) × ((i .b + j ≤ i .c) × (c ≡ register (i .b + j)))
+names i pi ni c called = (j : ℕ) × ((j < i .c) × (c ≡ register (i .a + 3 + j)))
+names i pi ni c varargs = ((i .b ≡ 0) × (c ≡ upToTop (i .a))) ⊎ ((j : ℕ) × ((j + 1 < i .b) × (c ≡ register (i .a + j))))
 
 -- The registers that an access names when L->top.p is base + t; the top after the word for what it stores, before it
 -- for what it reads. Only a count of 0 looks at the top.
 abbrev counted : ℕ → ℕ → ℕ → ℕ
 counted field byTop byField = cond (eqb field 0) byTop byField
 
-abbrev pub namesAt : RawInstruction54 → RawInstruction54 → RawInstruction54 → ℕ → ℕ → Access → Type 0
+abbrev pub namesAt : Arguments → Arguments → Arguments → ℕ → ℕ → Access → Type 0
 -- "if (B == 0) then B = top - A"
 namesAt i pi ni t q arguments = (j : ℕ) × (((0 < j) × (j < counted (i .b) (t - i .a) (i .b))) × (q ≡ i .a + j))
 -- "'top' is set to last_result+1"
@@ -105,6 +123,8 @@ namesAt i pi ni t q results = (j : ℕ) × ((j < counted (i .c) (t - i .a) (i .c
 namesAt i pi ni t q returned = (j : ℕ) × ((j < counted (i .b) (t - i .a) (i .b - 1)) × (q ≡ i .a + j))
 -- if (n == 0) n = cast_int(L->top.p - ra) - 1;
 namesAt i pi ni t q elements = (j : ℕ) × (((0 < j) × (j ≤ counted (i .b) (t - i .a - 1) (i .b))) × (q ≡ i .a + j))
+-- L->top = ra + n
+namesAt i pi ni t q varargs = (j : ℕ) × ((j < counted (i .b) (t - i .a) (i .b - 1)) × (q ≡ i .a + j))
 namesAt i pi ni t q «ra» = names i pi ni (register q) «ra»
 namesAt i pi ni t q «ra+1» = names i pi ni (register q) «ra+1»
 namesAt i pi ni t q «ra+2» = names i pi ni (register q) «ra+2»
@@ -123,14 +143,19 @@ namesAt i pi ni t q «upvals[B]» = names i pi ni (register q) «upvals[B]»
 namesAt i pi ni t q nils = names i pi ni (register q) nils
 namesAt i pi ni t q pieces = names i pi ni (register q) pieces
 namesAt i pi ni t q iterated = names i pi ni (register q) iterated
+namesAt i pi ni t q RKB-isk = names i pi ni (register q) RKB-isk
+namesAt i pi ni t q RKC-isk = names i pi ni (register q) RKC-isk
+namesAt i pi ni t q concatenated = names i pi ni (register q) concatenated
+namesAt i pi ni t q called = names i pi ni (register q) called
 
 -- The tops that an access can meet: past the function that is called, and past the table; of values returned and of
 -- results there may be none.
-abbrev pub Meets : RawInstruction54 → ℕ → Access → Type 0
+abbrev pub Meets : Arguments → ℕ → Access → Type 0
 Meets i t arguments = i .b ≡ 0 → i .a < t
 Meets i t results = i .c ≡ 0 → i .a ≤ t
 Meets i t returned = i .b ≡ 0 → i .a ≤ t
 Meets i t elements = i .b ≡ 0 → i .a < t
+Meets i t varargs = i .b ≡ 0 → i .a ≤ t
 Meets i t «ra» = Unit {0}
 Meets i t «ra+1» = Unit {0}
 Meets i t «ra+2» = Unit {0}
@@ -149,6 +174,10 @@ Meets i t «upvals[B]» = Unit {0}
 Meets i t nils = Unit {0}
 Meets i t pieces = Unit {0}
 Meets i t iterated = Unit {0}
+Meets i t RKB-isk = Unit {0}
+Meets i t RKC-isk = Unit {0}
+Meets i t concatenated = Unit {0}
+Meets i t called = Unit {0}
 
 -- How a case goes on, pc being past the word.
 pub data Go : Type 0 where
@@ -170,19 +199,41 @@ pub data Go : Type 0 where
   l_tforloop : Go
   -- goto ret, or for a tail call of a Lua function goto startfunc
   leave : Go
+  -- 5.3.6: if (GETARG_C(i)) ci->u.l.savedpc++
+  «pc++-if-C» : Go
+  -- 5.3.6: if (c == 0) c = GETARG_Ax(*ci->u.l.savedpc++)
+  «pc++-if-not-C» : Go
+  -- 5.3.6: ci->u.l.savedpc += GETARG_sBx(i)
+  «pc+=sBx» : Go
+  -- 5.3.6: dojump(ci, i, 0), which takes sBx there
+  dojump-sBx : Go
+  -- 5.3.6: if (luaV_equalobj(L, rb, rc) != GETARG_A(i)) ci->u.l.savedpc++; else donextjump(ci);
+  -- where that came out as 0, and as 1
+  compared-0 : Go
+  compared-1 : Go
+
+-- 5.3.6's GETARG_sBx(i), by GETARG_Bx(i): less MAXARG_sBx
+abbrev pub sBx : ℕ → ℤ
+sBx bx = pos bx -ℤ pos 131071
 
 -- the word that is executed next, if this function goes on
-abbrev pub next : Go → ℤ → ℕ → List ℤ
-next vmbreak pc i = pc ∷ []
-next «pc++» pc i = (pc +ℤ pos 1) ∷ []
-next «pc++-if-k» pc i = cond (eqb («TESTARG_k» i) 0) pc (pc +ℤ pos 1) ∷ []
-next dojump pc i = (pc +ℤ («GETARG_sJ» i +ℤ pos 0)) ∷ []
-next donextjump pc i = pc ∷ []
-next «pc-=Bx» pc i = (pc -ℤ pos («GETARG_Bx» i)) ∷ []
-next «pc+=Bx+1» pc i = (pc +ℤ (pos («GETARG_Bx» i) +ℤ pos 1)) ∷ []
-next l_tforcall pc i = (pc +ℤ pos («GETARG_Bx» i)) ∷ []
-next l_tforloop pc i = pc ∷ []
-next leave pc i = []
+abbrev pub next : Version → Go → ℤ → ℕ → List ℤ
+next v vmbreak pc i = pc ∷ []
+next v «pc++» pc i = (pc +ℤ pos 1) ∷ []
+next v «pc++-if-k» pc i = cond (eqb («TESTARG_k» i) 0) pc (pc +ℤ pos 1) ∷ []
+next v dojump pc i = (pc +ℤ («GETARG_sJ» i +ℤ pos 0)) ∷ []
+next v donextjump pc i = pc ∷ []
+next v «pc-=Bx» pc i = (pc -ℤ pos (taken v i .bx)) ∷ []
+next v «pc+=Bx+1» pc i = (pc +ℤ (pos (taken v i .bx) +ℤ pos 1)) ∷ []
+next v l_tforcall pc i = (pc +ℤ pos (taken v i .bx)) ∷ []
+next v l_tforloop pc i = pc ∷ []
+next v leave pc i = []
+next v «pc++-if-C» pc i = cond (eqb (taken v i .c) 0) pc (pc +ℤ pos 1) ∷ []
+next v «pc++-if-not-C» pc i = cond (eqb (taken v i .c) 0) (pc +ℤ pos 1) pc ∷ []
+next v «pc+=sBx» pc i = (pc +ℤ sBx (taken v i .bx)) ∷ []
+next v dojump-sBx pc i = (pc +ℤ (sBx (taken v i .bx) +ℤ pos 0)) ∷ []
+next v compared-0 pc i = cond (eqb 0 (taken v i .a)) pc (pc +ℤ pos 1) ∷ []
+next v compared-1 pc i = cond (eqb 1 (taken v i .a)) pc (pc +ℤ pos 1) ∷ []
 
 -- An execution of a case: what it reads, and what it stores.
 pub data Execution : Type 0 where
@@ -192,11 +243,11 @@ pub data Execution : Type 0 where
 pub data Way : Type 0 where
   way : Go → List Execution → Way
 
-abbrev straight : List Access → List Access → List Way
+abbrev pub straight : List Access → List Access → List Way
 straight reads stores = way vmbreak (run reads stores ∷ []) ∷ []
 
 -- the next word is an extra argument, or skipped
-abbrev skipping : List Access → List Access → List Way
+abbrev pub skipping : List Access → List Access → List Way
 skipping reads stores = way «pc++» (run reads stores ∷ []) ∷ []
 
 -- #define op_arithI(L,iop,fop); SHRI and SHLI have it written out
@@ -224,7 +275,7 @@ abbrev op_arithK : List Way
 op_arithK = op_arith_aux vRB KC
 
 -- #define docondjump()  if (cond != GETARG_k(i)) pc++; else donextjump(ci);
-abbrev docondjump : List Access → List Way
+abbrev pub docondjump : List Access → List Way
 docondjump reads = way «pc++» (run reads [] ∷ []) ∷ way donextjump (run reads [] ∷ []) ∷ []
 
 pub data Case : Type 0 where
@@ -364,82 +415,3 @@ abbrev pub vmdispatch : List Case → ℕ → List Way
 -- the switch has no such case, and no default
 vmdispatch [] o = straight [] []
 vmdispatch (vmcase opcode ways ∷ cases) o = cond (eqb o opcode) ways (vmdispatch cases o)
-
-unfoldable pub waysOf : ℕ → List Way
-waysOf opcode = vmdispatch switch opcode
-
--- Word p of the words, `i = *(pc++)`: its ways, and the words to which they lead.
-abbrev pub waysAt : List ℕ → ℕ → List Way
-waysAt ws p = waysOf («GET_OPCODE» (getD ws p 0))
-
-abbrev pub nexts : List Way → ℤ → ℕ → List ℤ
-nexts [] pc i = []
-nexts (way go runs ∷ ways) pc i = next go pc i ++ nexts ways pc i
-
--- What is touched in some execution.
-
-abbrev pub Any : {X : Type 0} → (X → Type 0) → List X → Type 0
-Any P [] = ⊥
-Any P (x ∷ xs) = P x ⊎ Any P xs
-
-abbrev pub All : {X : Type 0} → (X → Type 0) → List X → Type 0
-All P [] = Unit {0}
-All P (x ∷ xs) = P x × All P xs
-
-abbrev pub readsOf : List Execution → List Access
-readsOf [] = []
-readsOf (run reads stores ∷ runs) = reads ++ readsOf runs
-
-abbrev pub storesOf : List Execution → List Access
-storesOf [] = []
-storesOf (run reads stores ∷ runs) = stores ++ storesOf runs
-
--- on a way, by some execution that takes it
-abbrev pub wayReads : Way → List Access
-wayReads (way go runs) = readsOf runs
-
-abbrev pub wayStores : Way → List Access
-wayStores (way go runs) = storesOf runs
-
--- the cell is named by one of the accesses, in word p
-abbrev pub Touched : List ℕ → ℕ → Cell → List Access → Type 0
-Touched ws p c accesses = Any (names (instruction (getD ws p 0)) (instruction (getD ws (p - 1) 0)) (instruction (getD ws (p + 1) 0)) c) accesses
-
--- read by some execution of word p
-abbrev pub Reads : List ℕ → ℕ → Cell → Type 0
-Reads ws p c = Any (λ (w : Way). Touched ws p c (wayReads w)) (waysAt ws p)
-
--- written on every way on: listed plainly
-abbrev pub WrittenOnAll : List ℕ → ℕ → Cell → Type 0
-WrittenOnAll ws p c =
-    Any (λ (w : Way). Touched ws p c (wayStores w)) (waysAt ws p) × All (λ (w : Way). Touched ws p c (wayStores w)) (waysAt ws p)
-
--- the way leads to word z
-abbrev pub LeadsTo : List ℕ → ℕ → ℤ → Way → Type 0
-LeadsTo ws p z (way go runs) = In z (next go (pos (p + 1)) (getD ws p 0))
-
--- "A write that happens on one step only .. is listed with that step": written on a way that leads to word z, and not
--- on every way
-abbrev pub WrittenOnlyTo : List ℕ → ℕ → Cell → ℤ → Type 0
-WrittenOnlyTo ws p c z =
-    Any (λ (w : Way). LeadsTo ws p z w × Touched ws p c (wayStores w)) (waysAt ws p)
-    × (All (λ (w : Way). Touched ws p c (wayStores w)) (waysAt ws p) → ⊥)
-
--- The same at a stack top t.
-
-abbrev pub TouchedAt : List ℕ → ℕ → ℕ → ℕ → List Access → Type 0
-TouchedAt ws p t q accesses = Any (namesAt (instruction (getD ws p 0)) (instruction (getD ws (p - 1) 0)) (instruction (getD ws (p + 1) 0)) t q) accesses
-
-abbrev pub ReadsAt : List ℕ → ℕ → ℕ → ℕ → Type 0
-ReadsAt ws p t q = Any (λ (w : Way). TouchedAt ws p t q (wayReads w)) (waysAt ws p)
-
-abbrev pub WrittenAt : List ℕ → ℕ → ℕ → ℕ → Type 0
-WrittenAt ws p t q =
-    Any (λ (w : Way). TouchedAt ws p t q (wayStores w)) (waysAt ws p) × All (λ (w : Way). TouchedAt ws p t q (wayStores w)) (waysAt ws p)
-
--- the tops that can be: before the word, and after it
-abbrev pub TopBefore : List ℕ → ℕ → ℕ → Type 0
-TopBefore ws p t = All (λ (w : Way). All (Meets (instruction (getD ws p 0)) t) (wayReads w)) (waysAt ws p)
-
-abbrev pub TopAfter : List ℕ → ℕ → ℕ → Type 0
-TopAfter ws p t = All (λ (w : Way). All (Meets (instruction (getD ws p 0)) t) (wayStores w)) (waysAt ws p)

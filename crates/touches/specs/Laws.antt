@@ -4,12 +4,19 @@
 use Prim.Native.Nat.{ℕ}
 use mathlib.Core.Path.{_≡_}
 use mathlib.Core.List.{List}
-use Rattle.touches.specs.Touches.{touchesOf}
-use Rattle.touches.specs.Table.{accessTable, touchesWith}
+use Rattle.fields.specs.declared.version.Version.{Version}
+use Rattle.touches.specs.Touches.{touchesFor}
+use Rattle.touches.specs.Table.{tableOf, touchesLent}
+use Rattle.touches.specs.Isk.{RK}
 use Rattle.touches.specs.Meaning.{Meaning}
+use Rattle.touches.specs.Examples53 as examples53
 
 pub record Laws : Type 0 where
   -- the form of the lists, and that they are exactly what lvm.c touches
-  pub meaning : Meaning
+  pub meaning : (v : Version) → Meaning v
+  -- words of 5.3 and their lists by number
+  pub by-hand : examples53.Hold examples53.examples
+  -- the bit by which 5.3 tells constants from registers, by number
+  pub rk : RK
   -- by the table that the code has
-  pub by-table : (ws : List ℕ) (p : ℕ) → touchesWith accessTable ws p ≡ touchesOf ws p
+  pub by-table : (v : Version) (ws : List ℕ) (p : ℕ) → touchesLent v (tableOf v) ws p ≡ touchesFor v ws p

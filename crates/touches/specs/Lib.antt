@@ -1,10 +1,17 @@
--- Document 02, C-14: what each word really touches.
+-- Document 02, C-14 and C-24: what each word really touches.
+pub mod Isk
+pub mod Words
 pub mod Operands
 pub mod Cases
+pub mod Cases53
 pub mod Canonical
 pub mod Lists
-pub mod Touches
 pub mod Executions
+pub mod Executions53
+pub mod Versions
+pub mod Touches
+pub mod Touched
 pub mod Meaning
+pub mod Examples53
 pub mod Table
 pub mod Laws

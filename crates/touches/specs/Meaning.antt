@@ -1,5 +1,6 @@
 -- What the answer says, in document 02's words: that it has the form asked for, and that it lists exactly what lvm.c
--- touches (specs/Executions.antt). proofs/Meaning.antt proves it for every word.
+-- touches (specs/Executions.antt, specs/Executions53.antt). proofs/Meaning.antt proves it for every word of either
+-- version.
 -- Assumes nothing.
 use Prim.Native.Nat.{ℕ, _+_, _-_, _≤_, _<_}
 use mathlib.Core.Path.{_≡_}
@@ -10,15 +11,17 @@ use lib.IntN.{ℤ, pos}
 use lib.ListN.{length, getD, take, drop, replicate}
 use Rattle.graph.specs.Graph.{In}
 use Rattle.runs.specs.Steps.{isInvalid}
-use Rattle.runs.specs.Successors.{successorsOf, isSuccessor}
-use Rattle.runs.specs.Lvm.{goesOn}
 use Rattle.touches.specs.declared.answer.Range.{Range}
 use Rattle.touches.specs.declared.answer.Ranges.{Ranges}
 use Rattle.touches.specs.declared.answer.Indices.{Indices}
 use Rattle.touches.specs.declared.answer.Top.{Top}
 use Rattle.touches.specs.declared.answer.Touches.{Touches}
-use Rattle.touches.specs.Touches.{touchesBy, touchesOf}
-use Rattle.touches.specs.Executions.{Cell, register, constant, upvalue, upToTop, waysAt, nexts, Reads, WrittenOnAll, WrittenOnlyTo, ReadsAt, WrittenAt, TopBefore, TopAfter}
+use Rattle.fields.specs.declared.version.Version.{Version}
+use Rattle.runs.specs.Script.{stepsOf}
+use Rattle.touches.specs.Versions.{goesOn, isStep}
+use Rattle.touches.specs.Touches.{touchesBy, touchesFor}
+use Rattle.touches.specs.Executions.{Cell, register, constant, upvalue, upToTop}
+use Rattle.touches.specs.Touched.{waysAt, nexts, Reads, WrittenOnAll, WrittenOnlyTo, ReadsAt, WrittenAt, TopBefore, TopAfter}
 
 -- the items up to the count
 abbrev pub rangesIn : Ranges → List Range
@@ -104,39 +107,39 @@ NamedOnEdge t (upvalue q) = ⊥
 NamedOnEdge t (upToTop first) = ⊥
 
 -- A word that is not bad: its lists are exactly what lvm.c touches, where lvm.c's ways on are those of runs
-pub record Exact (ws : List ℕ) (p : ℕ) : Type 0 where
-  pub ways : nexts (waysAt ws p) (pos (p + 1)) (getD ws p 0) ≡ goesOn ws p
-  pub reads : (c : Cell) → NamedRead (touchesOf ws p) c ↔ Reads ws p c
-  pub writes : (c : Cell) → NamedWritten (touchesOf ws p) c ↔ WrittenOnAll ws p c
-  pub «edge-writes» : (c : Cell) (z : ℤ) → (NamedOnEdge (touchesOf ws p) c × (z ≡ pos (touchesOf ws p .edge))) ↔ WrittenOnlyTo ws p c z
-  -- "listed with that step": one of the word's, by document 01's table
-  pub edge : 0 < touchesOf ws p .«edge_writes» .count → isSuccessor ws p (touchesOf ws p .edge) ≡ true
+pub record Exact (v : Version) (ws : List ℕ) (p : ℕ) : Type 0 where
+  pub ways : nexts v (waysAt v ws p) (pos (p + 1)) (getD ws p 0) ≡ goesOn v ws p
+  pub reads : (c : Cell) → NamedRead (touchesFor v ws p) c ↔ Reads v ws p c
+  pub writes : (c : Cell) → NamedWritten (touchesFor v ws p) c ↔ WrittenOnAll v ws p c
+  pub «edge-writes» : (c : Cell) (z : ℤ) → (NamedOnEdge (touchesFor v ws p) c × (z ≡ pos (touchesFor v ws p .edge))) ↔ WrittenOnlyTo v ws p c z
+  -- "listed with that step": one of the word's, by document 01's table, or C-24's
+  pub edge : 0 < touchesFor v ws p .«edge_writes» .count → isStep v ws p (touchesFor v ws p .edge) ≡ true
 
 -- register q is in a range up to the top, when that is t
 abbrev pub Below : Top → ℕ → ℕ → Type 0
 Below top t q = (top .count ≡ 1) × ((top .first ≤ q) × (q < t))
 
 -- "a range up to the stack top is given apart, by its first register past those touched at every top"
-pub record Tops (ws : List ℕ) (p : ℕ) : Type 0 where
+pub record Tops (v : Version) (ws : List ℕ) (p : ℕ) : Type 0 where
   -- the registers listed plainly are those touched at every top
-  pub «every-read» : (q : ℕ) → NamedRead (touchesOf ws p) (register q) ↔ ((t : ℕ) → TopBefore ws p t → ReadsAt ws p t q)
-  pub «every-write» : (q : ℕ) → NamedWritten (touchesOf ws p) (register q) ↔ ((t : ℕ) → TopAfter ws p t → WrittenAt ws p t q)
+  pub «every-read» : (q : ℕ) → NamedRead (touchesFor v ws p) (register q) ↔ ((t : ℕ) → TopBefore v ws p t → ReadsAt v ws p t q)
+  pub «every-write» : (q : ℕ) → NamedWritten (touchesFor v ws p) (register q) ↔ ((t : ℕ) → TopAfter v ws p t → WrittenAt v ws p t q)
   -- with the range up to the top they are what is touched at a top
-  pub reads : (t q : ℕ) → (NamedRead (touchesOf ws p) (register q) ⊎ Below (touchesOf ws p .«reads_to_top») t q) ↔ ReadsAt ws p t q
-  pub writes : (t q : ℕ) → (NamedWritten (touchesOf ws p) (register q) ⊎ Below (touchesOf ws p .«writes_to_top») t q) ↔ WrittenAt ws p t q
+  pub reads : (t q : ℕ) → (NamedRead (touchesFor v ws p) (register q) ⊎ Below (touchesFor v ws p .«reads_to_top») t q) ↔ ReadsAt v ws p t q
+  pub writes : (t q : ℕ) → (NamedWritten (touchesFor v ws p) (register q) ⊎ Below (touchesFor v ws p .«writes_to_top») t q) ↔ WrittenAt v ws p t q
   -- and it starts past them
-  pub «past-reads» : (q : ℕ) → NamedRead (touchesOf ws p) (register q) → touchesOf ws p .«reads_to_top» .count ≡ 1 → q < touchesOf ws p .«reads_to_top» .first
-  pub «past-writes» : (q : ℕ) → NamedWritten (touchesOf ws p) (register q) → touchesOf ws p .«writes_to_top» .count ≡ 1 → q < touchesOf ws p .«writes_to_top» .first
+  pub «past-reads» : (q : ℕ) → NamedRead (touchesFor v ws p) (register q) → touchesFor v ws p .«reads_to_top» .count ≡ 1 → q < touchesFor v ws p .«reads_to_top» .first
+  pub «past-writes» : (q : ℕ) → NamedWritten (touchesFor v ws p) (register q) → touchesFor v ws p .«writes_to_top» .count ≡ 1 → q < touchesFor v ws p .«writes_to_top» .first
 
 abbrev pub NamesNothing : Touches → Type 0
 NamesNothing t = (c : Cell) → (NamedRead t c → ⊥) × ((NamedWritten t c → ⊥) × (NamedOnEdge t c → ⊥))
 
-pub record Meaning : Type 0 where
-  pub form : (ws : List ℕ) (p : ℕ) → Form (touchesOf ws p)
+pub record Meaning (v : Version) : Type 0 where
+  pub form : (ws : List ℕ) (p : ℕ) → Form (touchesFor v ws p)
   pub «only-one» : OnlyOne
-  pub exact : (ws : List ℕ) (p : ℕ) → isInvalid (successorsOf ws p) ≡ false → Exact ws p
-  pub tops : (ws : List ℕ) (p : ℕ) → isInvalid (successorsOf ws p) ≡ false → Tops ws p
+  pub exact : (ws : List ℕ) (p : ℕ) → isInvalid (stepsOf v ws p) ≡ false → Exact v ws p
+  pub tops : (ws : List ℕ) (p : ℕ) → isInvalid (stepsOf v ws p) ≡ false → Tops v ws p
   -- "A bad word touches nothing", nor does a word number of n or more, which has no steps either
-  pub bad : (ws : List ℕ) (p : ℕ) → isInvalid (successorsOf ws p) ≡ true → touchesOf ws p ≡ touchesBy [] [] 0 []
-  pub «bad-names-nothing» : (ws : List ℕ) (p : ℕ) → isInvalid (successorsOf ws p) ≡ true → NamesNothing (touchesOf ws p)
-  pub «nothing-past-end» : (ws : List ℕ) (p : ℕ) → length ws ≤ p → NamesNothing (touchesOf ws p)
+  pub bad : (ws : List ℕ) (p : ℕ) → isInvalid (stepsOf v ws p) ≡ true → touchesFor v ws p ≡ touchesBy [] [] 0 []
+  pub «bad-names-nothing» : (ws : List ℕ) (p : ℕ) → isInvalid (stepsOf v ws p) ≡ true → NamesNothing (touchesFor v ws p)
+  pub «nothing-past-end» : (ws : List ℕ) (p : ℕ) → length ws ≤ p → NamesNothing (touchesFor v ws p)

@@ -1,13 +1,19 @@
-// What a word touches (document 02, C-14).
+// What a word touches (document 02, C-14 and C-24).
 ghost use mathlib.Core.Path.{_≡_};
 ghost use mathlib.Core.List.{[], _∷_};
 ghost use Prim.Native.Nat.{_+_, _-_, _/_, _%_, _^_, _<_};
 ghost use lib.ListN.{length, getD};
-ghost use Rattle.fields.specs.Word.{fieldsOf, opcodeOf, aOf, axOf};
+ghost use Rattle.runs.specs.Steps.{isInvalid};
+ghost use Rattle.touches.specs.Words.{opcodeBy, argumentsOf};
 ghost use Rattle.touches.specs.Cases.{edgeOf};
-ghost use Rattle.touches.specs.Table.{accessTable, edgeFrom, touchesFrom, touchesWith};
-ghost use Rattle.touches.specs.Touches.{touchesBy, touchesOf};
+ghost use Rattle.runs.specs.Script.{stepsOf};
+ghost use Rattle.touches.specs.Operands.{locationOf};
+ghost use Rattle.touches.specs.Table.{tableOf, accessTable, operandFrom, edgeFrom, touchesFrom, touchesLent, touchesWith};
+ghost use Rattle.touches.specs.Touches.{touchesBy, touchesFor, touchesOf};
 use crate::answer::Touches;
+use crate::arguments::Arguments;
+use crate::arguments::arguments_of;
+use crate::arguments::opcode_of;
 use crate::indices::constants_in;
 use crate::indices::upvalues_in;
 use crate::intervals::ranges_in;
@@ -15,8 +21,10 @@ use crate::locations::Location;
 use crate::locations::location_of;
 use crate::operands::*;
 use crate::table::TABLE;
+use crate::table53::TABLE_53;
 use crate::tops::top_in;
-use fields::word::RawInstruction54;
+use fields::version::Version;
+use fields::word53::OFFSET_SBX;
 use runs::edges::Successors;
 
 // By value: reading a constant array copies it, so a loop takes the table once and lends it to `touches_in`.
@@ -26,10 +34,16 @@ pub fn table() -> [u64; 128]
     TABLE
 }
 
-fn row(rows: &[u64; 128], word: u32) -> u64
-    ensures { λ r. ⌜ r ≡ getD (now (rows .entry)) (opcodeOf word) 0 ⌝ }
+fn table_53() -> [u64; 64]
+    ensures { λ r. ⌜ r ≡ tableOf Version.Lua53 ⌝ }
 {
-    rows[(word % 128) as usize]
+    TABLE_53
+}
+
+fn row_at(rows: &[u64], i: usize) -> u64
+    ensures { λ r. ⌜ r ≡ getD (now (rows .entry)) i 0 ⌝ }
+{
+    if i < rows.len() { rows[i] } else { 0 }
 }
 
 fn word_at(words: &[u32], i: usize) -> u32
@@ -46,10 +60,15 @@ fn edge_of(edge: u64, p: usize, bx: u32) -> usize
         NO_EDGE => 0,
         P_1 => p + 1,
         P_2 => p + 2,
-        // P_1_BX
-        _ => {
+        P_1_BX => {
             let back = bx as usize;
             if p + 1 < back { 0 } else { p + 1 - back }
+        }
+        // P_1_SBX
+        _ => {
+            let to = p + 1 + bx as usize;
+            let offset = OFFSET_SBX as usize;
+            if to < offset { 0 } else { to - offset }
         }
     }
 }
@@ -61,21 +80,22 @@ fn listed(
     r3: Location,
     w: Location,
     w2: Location,
+    w3: Location,
     edge: usize,
     e: Location,
     e2: Location,
     e3: Location,
 ) -> Touches
-    ensures { λ t. ⌜ t ≡ touchesBy (r ∷ r2 ∷ r3 ∷ []) (w ∷ w2 ∷ Location.Nothing ∷ []) edge (e ∷ e2 ∷ e3 ∷ []) ⌝ }
+    ensures { λ t. ⌜ t ≡ touchesBy (r ∷ r2 ∷ r3 ∷ []) (w ∷ w2 ∷ w3 ∷ []) edge (e ∷ e2 ∷ e3 ∷ []) ⌝ }
 {
     Touches {
         reads: ranges_in(r, r2, r3),
         reads_to_top: top_in(r, r2, r3),
         constants: constants_in(r, r2, r3),
         upvalues: upvalues_in(r, r2, r3),
-        writes: ranges_in(w, w2, Location::Nothing),
-        writes_to_top: top_in(w, w2, Location::Nothing),
-        upvalue_writes: upvalues_in(w, w2, Location::Nothing),
+        writes: ranges_in(w, w2, w3),
+        writes_to_top: top_in(w, w2, w3),
+        upvalue_writes: upvalues_in(w, w2, w3),
         edge_writes: ranges_in(e, e2, e3),
         edge,
     }
@@ -88,10 +108,19 @@ fn digit(row: u64, unit: u64) -> u64
     row / unit % 32
 }
 
+// What the operand at a digit of the row stands for.
+fn located(row: u64, unit: u64, raw: Arguments, before: u8, after: u32) -> Location
+    requires { ⌜ (raw .b + raw .c < 1024) × (0 < unit) ⌝ }
+    ensures { λ r. ⌜ r ≡ locationOf (operandFrom (row / unit % 32)) raw before after ⌝ }
+{
+    location_of(digit(row, unit), raw, before, after)
+}
+
 fn nothing() -> Touches
     ensures { λ t. ⌜ t ≡ touchesBy [] [] 0 [] ⌝ }
 {
     listed(
+        Location::Nothing,
         Location::Nothing,
         Location::Nothing,
         Location::Nothing,
@@ -105,27 +134,22 @@ fn nothing() -> Touches
 }
 
 // The answer by a row of the table.
-fn touched_by(row: u64, raw: RawInstruction54, before: u8, after: u32, p: usize) -> Touches
-    requires { ⌜ p < 2 ^ 62 ⌝ }
+fn touched_by(row: u64, raw: Arguments, before: u8, after: u32, p: usize) -> Touches
+    requires { ⌜ (raw .b + raw .c < 1024) × (p < 2 ^ 62) ⌝ }
     ensures { λ r. ⌜ r ≡ touchesFrom row raw before after p ⌝ }
 {
     listed(
-        location_of(digit(row, READ), raw, before, after),
-        location_of(digit(row, READ_2), raw, before, after),
-        location_of(digit(row, READ_3), raw, before, after),
-        location_of(digit(row, WRITE), raw, before, after),
-        location_of(digit(row, WRITE_2), raw, before, after),
+        located(row, READ, raw, before, after),
+        located(row, READ_2, raw, before, after),
+        located(row, READ_3, raw, before, after),
+        located(row, WRITE, raw, before, after),
+        located(row, WRITE_2, raw, before, after),
+        located(row, WRITE_3, raw, before, after),
         edge_of(digit(row, EDGE), p, raw.bx),
-        location_of(digit(row, ON_EDGE), raw, before, after),
-        location_of(digit(row, ON_EDGE_2), raw, before, after),
-        location_of(digit(row, ON_EDGE_3), raw, before, after),
+        located(row, ON_EDGE, raw, before, after),
+        located(row, ON_EDGE_2, raw, before, after),
+        located(row, ON_EDGE_3, raw, before, after),
     )
-}
-
-fn a_of(word: u32) -> u8
-    ensures { λ r. ⌜ r ≡ aOf word ⌝ }
-{
-    (word / 128 % 256) as u8
 }
 
 fn previous(p: usize) -> usize
@@ -135,33 +159,57 @@ fn previous(p: usize) -> usize
 }
 
 // The answer for a word that is not bad.
-fn touches_at(rows: &[u64; 128], words: &[u32], p: usize) -> Touches
+fn touches_at(version: Version, rows: &[u64], words: &[u32], p: usize) -> Touches
     requires { ⌜ p < length (now words) ⌝ }
-    ensures { λ r. ⌜ r ≡ touchesFrom (getD (now (rows .entry)) (opcodeOf (getD (now (words .entry)) p 0)) 0) (fieldsOf (getD (now (words .entry)) p 0)) (aOf (getD (now (words .entry)) (p - 1) 0)) (axOf (getD (now (words .entry)) (p + 1) 0)) p ⌝ }
+    ensures { λ r. ⌜ r ≡ touchesFrom (getD (now (rows .entry)) (opcodeBy version (getD (now (words .entry)) p 0)) 0) (argumentsOf version (getD (now (words .entry)) p 0)) (argumentsOf version (getD (now (words .entry)) (p - 1) 0) .a) (argumentsOf version (getD (now (words .entry)) (p + 1) 0) .ax) p ⌝ }
 {
     let word = words[p];
-    let before = a_of(word_at(words, previous(p)));
-    let after = fields::word::ax(word_at(words, p + 1));
+    let before = arguments_of(version, word_at(words, previous(p)));
+    let after = arguments_of(version, word_at(words, p + 1));
     touched_by(
-        row(rows, word),
-        fields::word::decode(word),
-        before,
-        after,
+        row_at(rows, opcode_of(version, word)),
+        arguments_of(version, word),
+        before.a,
+        after.ax,
         p,
     )
 }
 
-// By a table that the caller lends: what loops call, with the one that `table` gives.
+fn is_bad(version: Version, words: &[u32], p: usize) -> bool
+    ensures { λ r. ⌜ r ≡ isInvalid (stepsOf version (now (words .entry)) p) ⌝ }
+{
+    match runs::script::successors(version, words, p) {
+        Successors::Invalid => true,
+        Successors::Stop => false,
+        Successors::One(_) => false,
+        Successors::Two(_, _) => false,
+    }
+}
+
+// By a table that the caller lends: what loops call, with the one of that version.
+pub fn touches_lent(version: Version, rows: &[u64], words: &[u32], p: usize) -> Touches
+    ensures { λ r. ⌜ r ≡ touchesLent version (now (rows .entry)) (now (words .entry)) p ⌝ }
+{
+    if is_bad(version, words, p) {
+        return nothing();
+    }
+    touches_at(version, rows, words, p)
+}
+
+pub fn touches_for(version: Version, words: &[u32], p: usize) -> Touches
+    ensures { λ r. ⌜ r ≡ touchesFor version (now (words .entry)) p ⌝ }
+{
+    match version {
+        Version::Lua54 => touches(words, p),
+        Version::Lua53 => touches_53(words, p),
+    }
+}
+
+// For 5.4, by a lent table and by the code's own.
 pub fn touches_in(rows: &[u64; 128], words: &[u32], p: usize) -> Touches
     ensures { λ r. ⌜ r ≡ touchesWith (now (rows .entry)) (now (words .entry)) p ⌝ }
 {
-    let successors = runs::successors::successors(words, p);
-    match successors {
-        Successors::Invalid => nothing(),
-        Successors::Stop => touches_at(rows, words, p),
-        Successors::One(_) => touches_at(rows, words, p),
-        Successors::Two(_, _) => touches_at(rows, words, p),
-    }
+    touches_lent(Version::Lua54, rows, words, p)
 }
 
 pub fn touches(words: &[u32], p: usize) -> Touches
@@ -169,4 +217,11 @@ pub fn touches(words: &[u32], p: usize) -> Touches
 {
     let rows = table();
     touches_in(&rows, words, p)
+}
+
+fn touches_53(words: &[u32], p: usize) -> Touches
+    ensures { λ r. ⌜ r ≡ touchesFor Version.Lua53 (now (words .entry)) p ⌝ }
+{
+    let rows = table_53();
+    touches_lent(Version::Lua53, &rows, words, p)
 }

@@ -62,6 +62,18 @@ pub fn opcode(opcode: u8, k: u32) {
     number(k as u64);
 }
 
+pub fn case_53(label: &[u8]) {
+    text(b"5.3: ");
+    text(label);
+}
+
+pub fn opcode_53(opcode: u8, bit: u32) {
+    text(b"5.3: opcode");
+    number(opcode as u64);
+    text(b" bit");
+    number(bit as u64);
+}
+
 pub fn touches(t: Touches) {
     text(b":");
     ranges(b" reads", t.reads);

@@ -1,32 +1,42 @@
+use mathlib.Core.Path.{sym}
+use native.Mathlib.Omega.{arith}
+use lib.ListN.{length}
+use lib.Seq.{length-take-le}
 use borrow.Author.Needs.{needs}
-use Rattle.service.proofs.Slices.{marked-by}
-use Rattle.service.proofs.Outcome.{run-accepted, crossed-refused, crossed-accepted}
+use Rattle.runs.specs.Script.{Script, scriptOf}
+use Rattle.service.specs.Pass.{Fits}
+use Rattle.service.proofs.Outcome.{crossed-early, crossed-late}
 use Rattle.service.proofs.crossing.crossing_edges.Statement.{statement}
 use Rattle.service.proofs.crossing.crossing_edges.Tie as tie
 
-returns : tie.Need-returns
-returns c = let r = c .before .before .before .before .before .before .before .unit-run .ensures in (crossed-refused _ _ _ _ (r .0) (c .before .run .given .1), r .1)
+-- the script that is lent
+abbrev script : tie.Start → Script
+script s = scriptOf (s .args .version) (s .args .words .now)
 
-count-crossings-requires : tie.Need-count-crossings-requires
-count-crossings-requires c κs =
-    let a = c .before .before .before .before .before .before .before .before .unit-run in
-    let s = c .before .before .before .before .before .before .before .before .before .before .before .before .before .before .args in
-    marked-by (s .words .now) (s .marks .now) (s .lengths .now) (run-accepted (s .words .now) (s .marks .now) (s .lengths .now) (a .ensures .0) (c .before .before .run2 .given .1)) _ (a .ensures .1 .0) (a .kept .1 .0)
+-- the checks of the sizes are passed
+module _ (c : tie.Else1) where
+  abbrev start : tie.Start
+  start = c .before .before .before .before .before
 
-returns-2 : tie.Need-returns-2
-returns-2 c = let r = c .before .before .before .before .before .before .before .before .before .unit-run .ensures in (crossed-accepted _ _ _ _ (r .0) (c .before .before .before .run2 .given .1) (c .count-crossings .ensures), r .1)
+  fits : Fits (script start .size) (length (start .args .marks .now)) (length (start .args .lengths .now))
+  fits = c .before .size-refusal .ensures .passed (c .if1 .left)
 
 pub crossing-edges-spec : {M : Type 1} → statement M
 crossing-edges-spec =
     tie.close
     (tie.spec
     (λ c κs. search needs)
+    (λ c. crossed-early (script (c .before .before .before .before .before)) _ _ (c .before .size-refusal .ensures) (c .if1 .taken) _)
+    (λ c. omega (arith, fits c .marks-long))
+    (λ c. sym (length-take-le _ _ (fits (c .before) .marks-long)))
+    (λ c. omega (arith, fits (c .before) .lengths-long))
+    (λ c. sym (length-take-le _ _ (fits (c .before .before) .lengths-long)))
+    (λ c κs.
+    let f = fits (c .before .before) in
+    record { some = f .some; few = f .few; m-same = length-take-le _ _ (f .marks-long); l-same = length-take-le _ _ (f .lengths-long) })
     (λ c. search needs)
     (λ c. search needs)
-    (λ c. search needs)
-    returns
-    (λ c. search needs)
-    count-crossings-requires
-    (λ c. search needs)
-    (λ c. search needs)
-    returns-2)
+    (λ c.
+    let e = c .before .before .before .before .before .before .before in
+    let r = c .before .before .before .before .crossed-of-words .ensures in
+    crossed-late (script (start e)) _ _ (fits e) (r .1) _ (r .0)))

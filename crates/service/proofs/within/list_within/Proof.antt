@@ -1,34 +1,25 @@
-use mathlib.Core.Path.{_∙_}
+use mathlib.Core.Path.{sym}
+use native.Mathlib.Omega.{arith}
+use lib.ListN.{length}
+use lib.Seq.{length-take-le}
 use borrow.Author.Needs.{needs}
-use Rattle.service.proofs.Slices.{marked-by, lengths-past, again, again-marks, again-lengths}
-use Rattle.service.proofs.Outcome.{run-accepted, within-many, within-short, within-refused, within-accepted}
+use Rattle.runs.specs.Script.{Script, scriptOf}
+use Rattle.service.specs.Pass.{Fits}
+use Rattle.service.proofs.Outcome.{within-many, within-short, within-early, within-late}
 use Rattle.service.proofs.within.list_within.Statement.{statement}
 use Rattle.service.proofs.within.list_within.Tie as tie
 
-returns-3 : tie.Need-returns-3
-returns-3 c =
-    let r = c .before .before .before .before .before .before .before .unit-run .ensures in
-    let d = c .before .before .before .before .before .before .before .before .before .before in
-    within-refused _ _ _ _ _ (d .before .if1 .left) (d .if2 .left) (r .0) (c .before .run .given .1) (r .1 .0) (r .1 .1)
+-- the script that is lent
+abbrev script : tie.Start → Script
+script s = scriptOf (s .args .version) (s .args .words .now)
 
-list-accepted-requires : tie.Need-list-accepted-requires
-list-accepted-requires c κs =
-    let a = c .before .before .before .before .before .before .before .before .before .before .unit-run in
-    let s = c .before .before .before .before .before .before .before .before .before .before .before .before .before .before .before .before .before .before .before .args in
-    let k = run-accepted (s .words .now) (s .marks .now) (s .lengths .now) (a .ensures .0) (c .before .before .before .before .run2 .given .1) in
-    record { accepted = again (s .words .now) (s .marks .now) (s .lengths .now) (a .last .1 .0) (a .last .1 .1 .0) k (a .kept .1 .0) (a .kept .1 .1 .0); marked = marked-by (s .words .now) (s .marks .now) (s .lengths .now) k (a .last .1 .0) (a .ensures .1 .0) (a .kept .1 .0); long = c .before .before .before .before .before .before .before .before .before .before .before .before .before .if2 .left }
+-- the checks of the sizes are passed
+module _ (c : tie.Else3) where
+  abbrev start : tie.Start
+  start = c .before .before .before .before .before .before .before .before
 
-returns-4 : tie.Need-returns-4
-returns-4 c =
-    let a = c .before .before .before .before .before .before .before .before .before .before .before .before .before .before .before .before .before .unit-run in
-    let t = c .before .before .before .before .before .before .list-accepted .ensures in
-    let d = c .before .before .before .before .before .before .before .before .before .before .before .before .before .before .before .before .before .before .before .before in
-    let s = c .before .before .before .before .before .before .before .before .before .before .before .before .before .before .before .before .before .before .before .before .before .before .before .before .before .before .args in
-    let k = run-accepted (s .words .now) (s .marks .now) (s .lengths .now) (a .ensures .0) (c .before .before .before .before .before .before .before .before .before .before .before .run2 .given .1) in
-    within-accepted (s .words .now) (s .d) (s .marks .now) (s .lengths .now) (s .list .now) (d .before .if1 .left) (d .if2 .left) (a .ensures .0) (c .before .before .before .before .before .before .before .before .before .before .before .run2 .given .1)
-    (t .0 ∙ again-marks (s .words .now) (s .marks .now) (s .lengths .now) (a .last .1 .0) (a .last .1 .1 .0) k (a .kept .1 .0) (a .kept .1 .1 .0) (a .ensures .1 .0))
-    (t .1 .0 ∙ again-lengths (s .words .now) (s .marks .now) (s .lengths .now) (a .last .1 .0) (a .last .1 .1 .0) k (a .kept .1 .0) (a .kept .1 .1 .0) (lengths-past (s .words .now) (s .marks .now) (s .lengths .now) k (a .last .1 .1 .0) (a .ensures .1 .1)))
-    (t .1 .1)
+  fits : Fits (script start .size) (length (start .args .marks .now)) (length (start .args .lengths .now))
+  fits = c .before .size-refusal .ensures .passed (c .if3 .left)
 
 pub list-within-spec : {M : Type 1} → statement M
 list-within-spec =
@@ -37,13 +28,19 @@ list-within-spec =
     (λ c. within-many _ _ _ _ _ (c .if1 .taken))
     (λ c. within-short _ _ _ _ _ (c .before .if1 .left) (c .if2 .taken))
     (λ c κs. search needs)
+    (λ c. within-early (script (c .before .before .before .before .before .before .before .before)) _ _ (c .before .size-refusal .ensures) (c .if3 .taken) _ _ (c .before .before .before .if1 .left) (c .before .before .if2 .left))
+    (λ c. omega (arith, fits c .marks-long))
+    (λ c. sym (length-take-le _ _ (fits (c .before) .marks-long)))
+    (λ c. omega (arith, fits (c .before) .lengths-long))
+    (λ c. sym (length-take-le _ _ (fits (c .before .before) .lengths-long)))
+    (λ c κs.
+    let e = c .before .before .before in
+    let f = fits e in
+    (record { some = f .some; few = f .few; m-same = length-take-le _ _ (f .marks-long); l-same = length-take-le _ _ (f .lengths-long) }, e .before .before .if2 .left))
     (λ c. search needs)
     (λ c. search needs)
     (λ c. search needs)
-    returns-3
-    (λ c. search needs)
-    list-accepted-requires
-    (λ c. search needs)
-    (λ c. search needs)
-    (λ c. search needs)
-    returns-4)
+    (λ c.
+    let e = c .before .before .before .before .before .before .before .before .before .before in
+    let r = c .before .before .before .before .before .before .list-of-words .ensures in
+    within-late (script (start e)) _ _ (fits e) (r .1 .0) _ _ (e .before .before .if2 .left) (r .0) (r .1 .1)))

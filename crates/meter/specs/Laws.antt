@@ -1,0 +1,29 @@
+-- What callers go by. proofs/Laws.antt has the one value of `Laws`. Each law stands twice: over any sound
+-- script, as request C-24 has it argued ("over any step relation in which a step that does not serve goes
+-- forward"), and for every list of words of either version, where nothing of a script is left to suppose:
+-- "longest run, meter and C-22's questions take either version, and demand 3 holds by its steps".
+-- Assumes nothing.
+use mathlib.Core.List.{List}
+use Prim.Native.Nat.{ℕ, _≤_}
+use lib.ListN.{length}
+use Rattle.common.specs.Limits.{mostWords}
+use Rattle.fields.specs.declared.version.Version.{Version}
+use Rattle.runs.specs.Script.{Script, Sound, scriptOf}
+use Rattle.runs.specs.Weights.{Weighs}
+use Rattle.meter.specs.declared.step.Meter.{Meter}
+use Rattle.meter.specs.Feed.{Scale, scaleOf}
+use Rattle.meter.specs.Model.{Call}
+use Rattle.meter.specs.Highest.{HighestAfter}
+use Rattle.meter.specs.Demand3.{Demand3}
+use Rattle.meter.specs.Earlier.{EarlierFeed}
+
+pub record Laws : Type 0 where
+  -- demand 3, whole: "For one function of at most 32,768 words", and "weights that 18 accepts"
+  pub demand3 : (ws : Script) → Sound ws → (weights : List ℕ) → Weighs weights → ws .size ≤ mostWords → Demand3 ws weights
+  pub demand3-of : (version : Version) (ws weights : List ℕ) → Weighs weights → length ws ≤ mostWords → Demand3 (scriptOf version ws) weights
+  -- request C-17: "With all weights 1 every earlier answer returns, number 11 aside"
+  pub earlier-feed : (ws : Script) → Sound ws → (m : Meter) (q : ℕ) → EarlierFeed ws m q
+  pub earlier-feed-of : (version : Version) (ws : List ℕ) (m : Meter) (q : ℕ) → EarlierFeed (scriptOf version ws) m q
+  -- request C-19, of the highest: by any scale, of any number of words and whatever the weights are
+  pub highest : (s : Scale) (m : Meter) (calls : List Call) → HighestAfter s m calls
+  pub highest-of : (version : Version) (ws weights : List ℕ) (m : Meter) (calls : List Call) → HighestAfter (scaleOf (scriptOf version ws) weights) m calls
