@@ -1,6 +1,6 @@
 -- Where four scripts are accepted within a quarter of the budget each, the budget refuses none of their words.
 -- Assumes nothing.
-use Prim.Native.Nat.{ℕ, _+_, _/_, _≤_}
+use Prim.Native.Nat.{ℕ, _+_, _/_, _≤_, _<_}
 use mathlib.Core.Logic.{inl, inr}
 use mathlib.Core.Bool.{cond, Bool, true, false, not, true≢false}
 use mathlib.Core.Path.{_≡_, refl, sym, ap, _∙_, subst}
@@ -21,7 +21,7 @@ use Rattle.runs.proofs.Laws.{laws}
 use Rattle.meter.specs.declared.step.Meter.{Meter}
 use Rattle.meter.specs.declared.step.FeedAnswer.{FeedAnswer}
 use Rattle.meter.specs.declared.step.Fed.{Fed}
-use Rattle.meter.specs.Feed.{Scale, ceiling, beginOf, resetOf, feedOf, refusal}
+use Rattle.meter.specs.Feed.{Scale, beginOf, resetOf, feedOf, refusal}
 use Rattle.meter.specs.Model.{Call, begin, feed, reset}
 use Rattle.meter.specs.Calls.{meterCalled, meterAfter}
 use Rattle.meter.specs.Bound.{Bound}
@@ -143,7 +143,7 @@ module _ (versions : ℕ → Version) (words weights : ℕ → List ℕ) (s : �
 
 -- Begins and resets before the first feed.
 
-begin-begins : (m : Meter) → m .services ≤ ceiling → JustBegun (beginOf m)
+begin-begins : (m : Meter) → m .services < 4294967296 → JustBegun (beginOf m)
 unfolding beginOf
 begin-begins m fits = record { begun = refl; fits = fits }
 
@@ -172,7 +172,7 @@ module _ (g : Scripts) (i : ℕ) (l : i ≤ 3) where
           own false d = rw (other-as g ms i l (record { script = k; budget = s; call = reset }) d) h
 
   abbrev Fits : Meter → Type 0
-  Fits m = m .services ≤ ceiling
+  Fits m = m .services < 4294967296
 
   fits-kept : (ms : Meters) (c : FourCall) → isFeed (c .call) ≡ false → Fits (meterOf ms i) → Fits (meterOf (made g ms c .meters) i)
   unfolding beginOf resetOf
@@ -199,7 +199,7 @@ module _ (g : Scripts) (i : ℕ) (l : i ≤ 3) where
   script-begun (c ∷ cs) n (inl b) ms h = stays-begun cs (n .1) (made g ms c .meters) (begin-made ms c (b .0) (b .1) h)
   script-begun (c ∷ cs) n (inr b) ms h = script-begun cs (n .1) b (made g ms c .meters) (fits-kept ms c (n .0) h)
 
-four-begun : (g : Scripts) (ms : Meters) → ((i : ℕ) → i ≤ lastScript → meterOf ms i .services ≤ ceiling) → (opening : List FourCall) → Opening opening → EachBegun (fourAfter g ms opening)
+four-begun : (g : Scripts) (ms : Meters) → ((i : ℕ) → i ≤ lastScript → meterOf ms i .services < 4294967296) → (opening : List FourCall) → Opening opening → EachBegun (fourAfter g ms opening)
 four-begun g ms fits opening o i l = script-begun g i l opening (o .no-feeds) (o .begins i l) ms (fits i l)
 
 -- the answer to a begin or a reset is not among those to feeds
@@ -217,7 +217,7 @@ module _ (g : Scripts) (i : ℕ) where
       silent (eqb (c .script) i) (c .call) (n .0) (made g ms c .answer) (allAnswers g i (made g ms c .meters) (cs ++ calls))
       ∙ opening-silent cs calls (n .1) (made g ms c .meters)
 
-opened : (versions : ℕ → Version) (words weights : ℕ → List ℕ) (s : ℕ) → EachWithin versions words weights s → (ms : Meters) → ((i : ℕ) → i ≤ lastScript → meterOf ms i .services ≤ ceiling)
+opened : (versions : ℕ → Version) (words weights : ℕ → List ℕ) (s : ℕ) → EachWithin versions words weights s → (ms : Meters) → ((i : ℕ) → i ≤ lastScript → meterOf ms i .services < 4294967296)
     → (opening : List FourCall) → Opening opening → (calls : List FourCall) → EachWith s calls → (i : ℕ) → TurnsBack versions words weights i ms (opening ++ calls) → ⊥
 opened versions words weights s accepted ms fits opening o calls e i =
     let g : Scripts = scriptsOf versions words weights in

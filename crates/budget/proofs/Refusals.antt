@@ -1,11 +1,12 @@
 -- What a refusal of one of the four says, and what it leaves.
 -- Assumes nothing.
-use Prim.Native.Nat.{ℕ, _+_, _<_, _≤_}
+use Prim.Native.Nat.{ℕ, zero, suc, _+_, _<_, _≤_}
 use mathlib.Core.Bool.{Bool, true, false, not, true≢false}
 use mathlib.Core.Path.{_≡_, refl, sym, ap, subst, _∙_}
+use mathlib.Core.Logic.{_↔_}
 use native.Mathlib.Omega.{arith}
 use lib.Dec.{ltb, eqb}
-use borrow.Author.Tests.{ltb-true, ltb-false, lt-ltb, le-ltb, eqb-true, eq-eqb}
+use borrow.Author.Tests.{ltb-true, ltb-false, lt-ltb, le-ltb, eqb-true, eq-eqb, ne-eqb}
 use Rattle.common.specs.Numbers.{«ACCEPTED», «NO_SCRIPT», «BUDGET_RANGE», «OVER_BUDGET»}
 use Rattle.common.specs.Chain.{refuseIf}
 use Rattle.meter.specs.declared.step.Meter.{Meter}
@@ -80,6 +81,62 @@ module _ (g : Scale) (ms : Meters) (i s q : ℕ) where
       (λ l e b h. omega arith)
       (λ e b h. b)
 
+  -- a feed that neither 20 nor 21 refuses is answered neither
+  settled-plain : (n : ℕ) → turnsBack n ≡ true → (n ≡ «OVER_BUDGET» → ⊥) → settleFour ms i s f .answer .number ≡ n → ⊥
+  unfolding settleFour
+  settled-plain n b d = go (not (eqb (f .answer .number) «ACCEPTED»)) (ltb s (sumOf (withMeter ms i (f .meter))))
+    where
+      plain : f .answer .number ≡ n → ⊥
+      plain h = true≢false (sym b ∙ ap turnsBack (sym h) ∙ fed-plain g (meterOf ms i) q .own)
+
+      go : (t u : Bool)
+          → refuseIf t (record { meters = ms; answer = f .answer }) (refuseIf u (refusedFour «OVER_BUDGET» ms) (record { meters = withMeter ms i (f .meter); answer = f .answer })) .answer .number ≡ n
+          → ⊥
+      go true u h = plain h
+      go false true h = d (sym h)
+      go false false h = plain h
+
+  only-range : feedFourOf g ms i s q .answer .number ≡ «BUDGET_RANGE» → (i ≤ lastScript) × (isOutOfRange s ≡ true)
+  unfolding feedFourOf
+  only-range = go (ltb lastScript i) refl (isOutOfRange s) refl
+    where
+      go : (t : Bool) → ltb lastScript i ≡ t → (u : Bool) → isOutOfRange s ≡ u
+          → refuseIf t (refusedFour «NO_SCRIPT» ms) (refuseIf u (refusedFour «BUDGET_RANGE» ms) (settleFour ms i s f)) .answer .number ≡ «BUDGET_RANGE»
+          → (i ≤ lastScript) × (isOutOfRange s ≡ true)
+      go true e u d h = absurd (omega (arith, h))
+      go false e true d h = (ltb-false lastScript i e, d)
+      go false e false d h = absurd (settled-plain «BUDGET_RANGE» refl (λ k. omega (arith, k)) h)
+
+  only-script : feedFourOf g ms i s q .answer .number ≡ «NO_SCRIPT» → lastScript < i
+  unfolding feedFourOf
+  only-script = go (ltb lastScript i) refl (isOutOfRange s)
+    where
+      go : (t : Bool) → ltb lastScript i ≡ t → (u : Bool)
+          → refuseIf t (refusedFour «NO_SCRIPT» ms) (refuseIf u (refusedFour «BUDGET_RANGE» ms) (settleFour ms i s f)) .answer .number ≡ «NO_SCRIPT»
+          → lastScript < i
+      go true e u h = ltb-true lastScript i e
+      go false e true h = absurd (omega (arith, h))
+      go false e false h = absurd (settled-plain «NO_SCRIPT» refl (λ k. omega (arith, k)) h)
+
+  own-refusal : i ≤ lastScript → isOutOfRange s ≡ false → (f .answer .number ≡ «ACCEPTED» → ⊥) → feedFourOf g ms i s q .answer ≡ f .answer
+  unfolding feedFourOf settleFour
+  own-refusal l r e = rw (le-ltb lastScript i l, r, ne-eqb (f .answer .number) «ACCEPTED» e)
+
+  taken : i ≤ lastScript → isOutOfRange s ≡ false → f .answer .number ≡ «ACCEPTED» → f .meter .count + othersOf ms i ≤ s
+      → (feedFourOf g ms i s q .answer .number ≡ «ACCEPTED») × (feedFourOf g ms i s q .meters ≡ withMeter ms i (f .meter))
+  unfolding feedFourOf settleFour
+  taken l r e b =
+      let w = le-ltb s (sumOf (withMeter ms i (f .meter))) (subst (λ (k : ℕ). k ≤ s) (sym (sum-after ms (f .meter) i l)) b) in
+      (rw (le-ltb lastScript i l, r, eq-eqb (f .answer .number) «ACCEPTED» e, w) e, rw (le-ltb lastScript i l, r, eq-eqb (f .answer .number) «ACCEPTED» e, w))
+
+range : (s : ℕ) → (isOutOfRange s ≡ false) ↔ ((0 < s) × (s ≤ 16777216))
+unfolding isOutOfRange
+range zero = ((λ h. absurd (true≢false h)), (λ p. absurd (omega (arith, p .0))))
+range (suc n) = ((λ h. (omega arith, ltb-false 16777216 (suc n) (rw some at h))), (λ p. rw some (le-ltb 16777216 (suc n) (p .1))))
+  where
+    some : eqb (suc n) 0 ≡ false
+    some = ne-eqb (suc n) 0 (λ d. omega (arith, d))
+
 -- a begin or a reset
 changed : (ms : Meters) (i : ℕ) (m : Meter) (t : Bool) → (refuseIf t (refusedFour «NO_SCRIPT» ms) (changedFour ms i m) .answer .number ≡ «ACCEPTED» → ⊥)
     → refuseIf t (refusedFour «NO_SCRIPT» ms) (changedFour ms i m) .meters ≡ ms
@@ -100,5 +157,20 @@ none : (g : Scripts) (ms : Meters) (c : FourCall) → lastScript < c .script →
 unfolding made
 none g ms c l = ap (λ (r : FedFour). r .answer .number) (no-script g ms (c .script) (c .budget) (c .call) (lt-ltb lastScript (c .script) l))
 
+only-changed : (ms : Meters) (i : ℕ) (m : Meter) (t : Bool) → ltb lastScript i ≡ t → refuseIf t (refusedFour «NO_SCRIPT» ms) (changedFour ms i m) .answer .number ≡ «NO_SCRIPT»
+    → lastScript < i
+only-changed ms i m true e h = ltb-true lastScript i e
+only-changed ms i m false e h = absurd (omega (arith, h))
+
+only-called : (g : Scripts) (ms : Meters) (i s : ℕ) (c : Call) → madeBy g ms i s c .answer .number ≡ «NO_SCRIPT» → lastScript < i
+unfolding beginFourOf resetFourOf
+only-called g ms i s begin = only-changed ms i (beginOf (meterOf ms i)) (ltb lastScript i) refl
+only-called g ms i s (feed q) = only-script (g i) ms i s q
+only-called g ms i s reset = only-changed ms i (resetOf (meterOf ms i)) (ltb lastScript i) refl
+
+only-none : (g : Scripts) (ms : Meters) (c : FourCall) → made g ms c .answer .number ≡ «NO_SCRIPT» → lastScript < c .script
+unfolding made
+only-none g ms c = only-called g ms (c .script) (c .budget) (c .call)
+
 pub refusals : Claim.Refusals
-refusals = record { unchanged = unchanged; no-script = none; out-of-range = out-of-range; over-budget = over-budget; over-sum = over-sum; within = within }
+refusals = record { unchanged = unchanged; no-script = none; out-of-range = out-of-range; over-budget = over-budget; over-sum = over-sum; within = within; range = range; only-no-script = only-none; only-out-of-range = only-range; own-refusal = own-refusal; taken = taken }

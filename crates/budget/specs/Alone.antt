@@ -10,7 +10,7 @@ use Rattle.fields.specs.declared.version.Version.{Version}
 use Rattle.runs.specs.Script.{scriptOf}
 use Rattle.runs.specs.Weights.{Weighs}
 use Rattle.meter.specs.declared.step.Meter.{Meter}
-use Rattle.meter.specs.Feed.{Scale, scaleOf, ceiling, isBegun}
+use Rattle.meter.specs.Feed.{Scale, scaleOf, isBegun}
 use Rattle.meter.specs.Model.{Call, Model, emptyModel, modelAfter, modelAnswers, hasWord, lastOr0, weightSince}
 use Rattle.meter.specs.Calls.{meterAfter}
 use Rattle.meter.specs.Highest.{HighestAfter}
@@ -49,7 +49,7 @@ module _ (versions : ℕ → Version) (words weights : ℕ → List ℕ) (ms : M
     -- "words since service count from the word its last serving step leads to (all of them if none serves, 0 if empty)", by weight
     pub count : shown .count ≡ weightSince (scale .graph) (scale .weight) (model .path)
     -- "services are those at the start plus the tally, at most 4,294,967,295": "its own services counter"
-    pub services : shown .services ≡ min (meterOf ms i .services + model .tally) ceiling
+    pub services : shown .services ≡ min (meterOf ms i .services + model .tally) 4294967295
     -- request C-19: the highest is that of the script's meter alone, and so what its own list says
     pub shown-highest : shown .highest ≡ meterAfter scale (meterOf ms i) own .highest
     pub highest : HighestAfter scale (meterOf ms i) own

@@ -3,14 +3,14 @@
 use mathlib.Core.Bool.{Bool, cond, not, _&&_, _||_}
 use mathlib.Core.Path.{_≡_}
 use mathlib.Core.List.{List, [], _∷_}
-use Prim.Native.Nat.{ℕ, _≤_}
+use Prim.Native.Nat.{ℕ, _≤_, _<_}
 use lib.Dec.{eqb}
 use Rattle.common.specs.Numbers.{«NO_SCRIPT», «BUDGET_RANGE», «OVER_BUDGET»}
 use Rattle.fields.specs.declared.version.Version.{Version}
 use Rattle.runs.specs.Script.{scriptOf}
 use Rattle.meter.specs.declared.step.Meter.{Meter}
 use Rattle.meter.specs.declared.step.FeedAnswer.{FeedAnswer}
-use Rattle.meter.specs.Feed.{Scale, scaleOf, ceiling, beginOf, resetOf, feedOf}
+use Rattle.meter.specs.Feed.{Scale, scaleOf, beginOf, resetOf, feedOf}
 use Rattle.meter.specs.Model.{Call, begin, feed, reset}
 use Rattle.budget.specs.declared.step.Meters.{Meters}
 use Rattle.budget.specs.declared.step.FedFour.{FedFour}
@@ -53,7 +53,7 @@ EachWith s (c ∷ cs) = (c .budget ≡ s) × EachWith s cs
 -- a meter "just begun": a begin would change nothing. Its services are 32 bits
 pub record JustBegun (m : Meter) : Type 0 where
   pub begun : beginOf m ≡ m
-  pub fits : m .services ≤ ceiling
+  pub fits : m .services < 4294967296
 
 -- "every meter was just begun"
 abbrev pub EachBegun : Meters → Type 0

@@ -5,7 +5,7 @@ use mathlib.Core.Logic.{_⊎_}
 use mathlib.Core.Bool.{Bool, true, false}
 use mathlib.Core.Path.{_≡_}
 use mathlib.Core.List.{List, [], _∷_, _++_}
-use Prim.Native.Nat.{ℕ, _/_, _≤_}
+use Prim.Native.Nat.{ℕ, _/_, _≤_, _<_}
 use lib.ListN.{getD}
 use Rattle.common.specs.Numbers.{«ACCEPTED», «OVER_BUDGET»}
 use Rattle.graph.specs.Graph.{In}
@@ -13,7 +13,7 @@ use Rattle.fields.specs.declared.version.Version.{Version}
 use Rattle.runs.specs.Script.{scriptOf}
 use Rattle.runs.specs.Weights.{heaviestWeight}
 use Rattle.runs.specs.Run.{runOf, numberOf, longestOf}
-use Rattle.meter.specs.Feed.{scaleOf, ceiling}
+use Rattle.meter.specs.Feed.{scaleOf}
 use Rattle.meter.specs.Model.{Call, begin, feed, reset}
 use Rattle.budget.specs.declared.step.Meters.{Meters}
 use Rattle.budget.specs.Four.{lastScript, meterOf, feedFourOf}
@@ -67,12 +67,12 @@ pub record Never : Type 0 where
   pub none : (versions : ℕ → Version) (words weights : ℕ → List ℕ) (s : ℕ) → EachWithin versions words weights s
       → (ms : Meters) → EachBegun ms → (calls : List FourCall) → EachWith s calls → (i : ℕ) → TurnsBack versions words weights i ms calls → ⊥
   -- such are four meters of any contents once all four scripts have been begun
-  pub begun : (ms : Meters) → ((i : ℕ) → i ≤ lastScript → meterOf ms i .services ≤ ceiling)
+  pub begun : (ms : Meters) → ((i : ℕ) → i ≤ lastScript → meterOf ms i .services < 4294967296)
       → (versions : ℕ → Version) (words weights : ℕ → List ℕ) (opening : List FourCall) → Opening opening
       → EachBegun (fourAfter (scriptsOf versions words weights) ms opening)
   -- so that, from any four meters, a list that begins so meets no 22, whatever S its begins and resets name
   pub opened : (versions : ℕ → Version) (words weights : ℕ → List ℕ) (s : ℕ) → EachWithin versions words weights s
-      → (ms : Meters) → ((i : ℕ) → i ≤ lastScript → meterOf ms i .services ≤ ceiling)
+      → (ms : Meters) → ((i : ℕ) → i ≤ lastScript → meterOf ms i .services < 4294967296)
       → (opening : List FourCall) → Opening opening
       → (calls : List FourCall) → EachWith s calls → (i : ℕ) → TurnsBack versions words weights i ms (opening ++ calls) → ⊥
   -- and more: whatever S the calls before named, the next feed with this S is not answered 22

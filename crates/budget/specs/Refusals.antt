@@ -3,11 +3,12 @@
 -- Assumes nothing.
 use mathlib.Core.Bool.{true, false}
 use mathlib.Core.Path.{_≡_}
+use mathlib.Core.Logic.{_↔_}
 use Prim.Native.Nat.{ℕ, _+_, _<_, _≤_}
 use Rattle.common.specs.Numbers.{«ACCEPTED», «NO_SCRIPT», «BUDGET_RANGE», «OVER_BUDGET»}
 use Rattle.meter.specs.Feed.{Scale, feedOf}
 use Rattle.budget.specs.declared.step.Meters.{Meters}
-use Rattle.budget.specs.Four.{meterOf, sumOf, othersOf, isOutOfRange, lastScript, feedFourOf}
+use Rattle.budget.specs.Four.{meterOf, withMeter, sumOf, othersOf, isOutOfRange, lastScript, feedFourOf}
 use Rattle.budget.specs.Calls.{FourCall, Scripts, made}
 
 pub record Refusals : Type 0 where
@@ -25,3 +26,15 @@ pub record Refusals : Type 0 where
       → s < feedOf g (meterOf ms i) q .meter .count + othersOf ms i → feedFourOf g ms i s q .answer .number ≡ «OVER_BUDGET»
   -- and after a feed that is accepted "the sum of the four counts" is within S
   pub within : (g : Scale) (ms : Meters) (i s q : ℕ) → feedFourOf g ms i s q .answer .number ≡ «ACCEPTED» → sumOf (feedFourOf g ms i s q .meters) ≤ s
+  -- "an allowance S, 1 to 16,777,216": what out of range is
+  pub range : (s : ℕ) → (isOutOfRange s ≡ false) ↔ ((0 < s) × (s ≤ 16777216))
+  -- 20 and 21 are given for nothing else
+  pub only-no-script : (g : Scripts) (ms : Meters) (c : FourCall) → made g ms c .answer .number ≡ «NO_SCRIPT» → lastScript < c .script
+  pub only-out-of-range : (g : Scale) (ms : Meters) (i s q : ℕ) → feedFourOf g ms i s q .answer .number ≡ «BUDGET_RANGE» → (i ≤ lastScript) × (isOutOfRange s ≡ true)
+  -- so that with neither a feed is refused as the script's own is, with its place
+  pub own-refusal : (g : Scale) (ms : Meters) (i s q : ℕ) → i ≤ lastScript → isOutOfRange s ≡ false → (feedOf g (meterOf ms i) q .answer .number ≡ «ACCEPTED» → ⊥)
+      → feedFourOf g ms i s q .answer ≡ feedOf g (meterOf ms i) q .answer
+  -- and taken if that is and the sum is within S
+  pub taken : (g : Scale) (ms : Meters) (i s q : ℕ) → i ≤ lastScript → isOutOfRange s ≡ false → feedOf g (meterOf ms i) q .answer .number ≡ «ACCEPTED»
+      → feedOf g (meterOf ms i) q .meter .count + othersOf ms i ≤ s
+      → (feedFourOf g ms i s q .answer .number ≡ «ACCEPTED») × (feedFourOf g ms i s q .meters ≡ withMeter ms i (feedOf g (meterOf ms i) q .meter))

@@ -15,5 +15,7 @@ pub mod Refill
 pub mod Shows
 pub mod Passes
 pub mod Claims
-pub mod Example
+pub mod Examples
+pub mod Inside
+pub mod Places
 pub mod Laws

@@ -8,6 +8,7 @@ use native.Mathlib.Omega.{arith}
 use lib.Dec.{leb}
 use lib.ListN.{length}
 use Rattle.common.specs.Limits.{mostConstants, mostNames}
+use Rattle.chunk.specs.Limits.{levelsBelow}
 use Rattle.chunk.specs.Reading.{Result, done, refused, Reader, bind, only}
 use Rattle.chunk.specs.Lundump.{loadByte, Function, Constant, Text, loadInt, loadHead, loadCode, loadConstant, loadConstants, loadUpvalues, loadLines, loadNames, functionWith, several, noneOf, loadProtos, loadFunction, checkHeader, undump}
 use Rattle.chunk.specs.Chunk.{pick, chosen}
@@ -20,48 +21,57 @@ module _ (bytes : List ℕ) where
   both [] gs h k = k
   both (f ∷ fs) gs h k = (h .0, both fs gs (h .1) k)
 
-  module _ (P : Reader (List Function)) (within : (at : ℕ) → AllRead bytes (P bytes at)) where
+  -- at₀ is the function's first byte; `read` says what is left to read of it
+  module _ (level : ℕ) (low : level ≤ levelsBelow) (within : (at : ℕ) → AllRead bytes (loadProtos level bytes at)) where
+    abbrev P : Reader (List Function)
+    P = loadProtos level
+
+    abbrev Reads : ℕ → Result (List Function) → Type 0
+    Reads at₀ X = loadFunction level bytes at₀ ≡ X
+
     s7 : (at₀ at₁ : ℕ) (code : List ℕ) (at₂ : ℕ) (ks : List Constant) (at₃ n : ℕ) (inner : List Function) (at₆ : ℕ) (X : Result (List Text))
         → loadCode bytes at₁ ≡ done code at₂ → loadConstants bytes at₂ ≡ done ks at₃ → n ≤ mostNames → AllStand bytes inner → loadNames n bytes at₆ ≡ X
-        → AllRead bytes (bind X (then7 bytes P at₀ at₁ code at₂ ks n inner at₆))
-    s7 at₀ at₁ code at₂ ks at₃ n inner at₆ (done names at₇) c k u i m =
+        → Reads at₀ (bind X (then7 bytes P at₀ at₁ code at₂ ks n inner at₆)) → AllRead bytes (bind X (then7 bytes P at₀ at₁ code at₂ ks n inner at₆))
+    s7 at₀ at₁ code at₂ ks at₃ n inner at₆ (done names at₇) c k u i m r =
         let e = names-length bytes n at₆ names at₇ m in
-        (record { codeNext = at₂; code = c; constantsNext = at₃; constants = k; namesNext = at₇; names = m; one-each = e; few-words = few-words bytes at₁ code at₂ c; few-constants = few-items bytes mostConstants loadConstant at₂ ks at₃ k; few-names = omega arith }, i)
-    s7 at₀ at₁ code at₂ ks at₃ n inner at₆ (refused e) c k u i m = tt
+        (record { level = level; few-levels = low; within = inner; next = at₇; whole = r; codeNext = at₂; code = c; constantsNext = at₃; constants = k; namesNext = at₇; names = m; one-each = e; few-words = few-words bytes at₁ code at₂ c; few-constants = few-items bytes mostConstants loadConstant at₂ ks at₃ k; few-names = omega arith }, i)
+    s7 at₀ at₁ code at₂ ks at₃ n inner at₆ (refused e) c k u i m r = tt
 
     s6 : (at₀ at₁ : ℕ) (code : List ℕ) (at₂ : ℕ) (ks : List Constant) (at₃ n : ℕ) (inner : List Function) (X : Result (List ℕ))
         → loadCode bytes at₁ ≡ done code at₂ → loadConstants bytes at₂ ≡ done ks at₃ → n ≤ mostNames → AllStand bytes inner
-        → AllRead bytes (bind X (then6 bytes P at₀ at₁ code at₂ ks n inner))
-    s6 at₀ at₁ code at₂ ks at₃ n inner (done z at₆) c k u i = s7 at₀ at₁ code at₂ ks at₃ n inner at₆ (loadNames n bytes at₆) c k u i refl
-    s6 at₀ at₁ code at₂ ks at₃ n inner (refused e) c k u i = tt
+        → Reads at₀ (bind X (then6 bytes P at₀ at₁ code at₂ ks n inner)) → AllRead bytes (bind X (then6 bytes P at₀ at₁ code at₂ ks n inner))
+    s6 at₀ at₁ code at₂ ks at₃ n inner (done z at₆) c k u i r = s7 at₀ at₁ code at₂ ks at₃ n inner at₆ (loadNames n bytes at₆) c k u i refl r
+    s6 at₀ at₁ code at₂ ks at₃ n inner (refused e) c k u i r = tt
 
     s5 : (at₀ at₁ : ℕ) (code : List ℕ) (at₂ : ℕ) (ks : List Constant) (at₃ n : ℕ) (X : Result (List Function))
         → loadCode bytes at₁ ≡ done code at₂ → loadConstants bytes at₂ ≡ done ks at₃ → n ≤ mostNames → AllRead bytes X
-        → AllRead bytes (bind X (then5 bytes P at₀ at₁ code at₂ ks n))
-    s5 at₀ at₁ code at₂ ks at₃ n (done inner at₅) c k u i = s6 at₀ at₁ code at₂ ks at₃ n inner (loadLines bytes at₅) c k u i
-    s5 at₀ at₁ code at₂ ks at₃ n (refused e) c k u i = tt
+        → Reads at₀ (bind X (then5 bytes P at₀ at₁ code at₂ ks n)) → AllRead bytes (bind X (then5 bytes P at₀ at₁ code at₂ ks n))
+    s5 at₀ at₁ code at₂ ks at₃ n (done inner at₅) c k u i r = s6 at₀ at₁ code at₂ ks at₃ n inner (loadLines bytes at₅) c k u i r
+    s5 at₀ at₁ code at₂ ks at₃ n (refused e) c k u i r = tt
 
     s4 : (at₀ at₁ : ℕ) (code : List ℕ) (at₂ : ℕ) (ks : List Constant) (at₃ : ℕ) (X : Result ℕ)
-        → loadCode bytes at₁ ≡ done code at₂ → loadConstants bytes at₂ ≡ done ks at₃ → loadUpvalues bytes at₃ ≡ X → AllRead bytes (bind X (then4 bytes P at₀ at₁ code at₂ ks))
-    s4 at₀ at₁ code at₂ ks at₃ (done n at₄) c k u = s5 at₀ at₁ code at₂ ks at₃ n (P bytes at₄) c k (few-upvalues bytes at₃ n at₄ u) (within at₄)
-    s4 at₀ at₁ code at₂ ks at₃ (refused e) c k u = tt
+        → loadCode bytes at₁ ≡ done code at₂ → loadConstants bytes at₂ ≡ done ks at₃ → loadUpvalues bytes at₃ ≡ X
+        → Reads at₀ (bind X (then4 bytes P at₀ at₁ code at₂ ks)) → AllRead bytes (bind X (then4 bytes P at₀ at₁ code at₂ ks))
+    s4 at₀ at₁ code at₂ ks at₃ (done n at₄) c k u r = s5 at₀ at₁ code at₂ ks at₃ n (P bytes at₄) c k (few-upvalues bytes at₃ n at₄ u) (within at₄) r
+    s4 at₀ at₁ code at₂ ks at₃ (refused e) c k u r = tt
 
     s3 : (at₀ at₁ : ℕ) (code : List ℕ) (at₂ : ℕ) (X : Result (List Constant)) → loadCode bytes at₁ ≡ done code at₂ → loadConstants bytes at₂ ≡ X
-        → AllRead bytes (bind X (then3 bytes P at₀ at₁ code at₂))
-    s3 at₀ at₁ code at₂ (done ks at₃) c k = s4 at₀ at₁ code at₂ ks at₃ (loadUpvalues bytes at₃) c k refl
-    s3 at₀ at₁ code at₂ (refused e) c k = tt
+        → Reads at₀ (bind X (then3 bytes P at₀ at₁ code at₂)) → AllRead bytes (bind X (then3 bytes P at₀ at₁ code at₂))
+    s3 at₀ at₁ code at₂ (done ks at₃) c k r = s4 at₀ at₁ code at₂ ks at₃ (loadUpvalues bytes at₃) c k refl r
+    s3 at₀ at₁ code at₂ (refused e) c k r = tt
 
-    s2 : (at₀ at₁ : ℕ) (X : Result (List ℕ)) → loadCode bytes at₁ ≡ X → AllRead bytes (bind X (then2 bytes P at₀ at₁))
-    s2 at₀ at₁ (done code at₂) c = s3 at₀ at₁ code at₂ (loadConstants bytes at₂) c refl
-    s2 at₀ at₁ (refused e) c = tt
+    s2 : (at₀ at₁ : ℕ) (X : Result (List ℕ)) → loadCode bytes at₁ ≡ X
+        → Reads at₀ (bind X (then2 bytes P at₀ at₁)) → AllRead bytes (bind X (then2 bytes P at₀ at₁))
+    s2 at₀ at₁ (done code at₂) c r = s3 at₀ at₁ code at₂ (loadConstants bytes at₂) c refl r
+    s2 at₀ at₁ (refused e) c r = tt
 
-    s1 : (at₀ : ℕ) (X : Result ℕ) → AllRead bytes (bind X (then1 bytes P at₀))
-    s1 at₀ (done a at₁) = s2 at₀ at₁ (loadCode bytes at₁) refl
-    s1 at₀ (refused e) = tt
+    s1 : (at₀ : ℕ) (X : Result ℕ) → Reads at₀ (bind X (then1 bytes P at₀)) → AllRead bytes (bind X (then1 bytes P at₀))
+    s1 at₀ (done a at₁) r = s2 at₀ at₁ (loadCode bytes at₁) refl r
+    s1 at₀ (refused e) r = tt
 
-    one-stands : (at : ℕ) → AllRead bytes (functionWith P bytes at)
+    one-stands : (at : ℕ) → AllRead bytes (loadFunction level bytes at)
     unfolding functionWith
-    one-stands at = s1 at (loadHead bytes at)
+    one-stands at = s1 at (loadHead bytes at) refl
 
   module _ (r : Reader (List Function)) (each : (at : ℕ) → AllRead bytes (r bytes at)) where
     joins : (fs : List Function) (X : Result (List Function)) → AllStand bytes fs → AllRead bytes X → AllRead bytes (bind X (λ more at. done (fs ++ more) at))
@@ -87,15 +97,15 @@ module _ (bytes : List ℕ) where
   on (done n at) k h = h n at
   on (refused e) k h = tt
 
-  within-stand : (level at : ℕ) → AllRead bytes (loadProtos level bytes at)
+  within-stand : (level : ℕ) → level ≤ levelsBelow → (at : ℕ) → AllRead bytes (loadProtos level bytes at)
   unfolding loadProtos
-  within-stand zero at = on (loadInt bytes at) (λ n at₁. noneOf n bytes at₁) none-stand
-  within-stand (suc level) at =
+  within-stand zero low at = on (loadInt bytes at) (λ n at₁. noneOf n bytes at₁) none-stand
+  within-stand (suc level) low at =
       on (loadInt bytes at) (λ n at₁. several (functionWith (loadProtos level)) n bytes at₁)
-      (several-stand (functionWith (loadProtos level)) (one-stands (loadProtos level) (within-stand level)))
+      (let fewer : level ≤ levelsBelow = omega arith in several-stand (functionWith (loadProtos level)) (one-stands level fewer (within-stand level fewer)))
 
-  pub all-stand : (level at : ℕ) → AllRead bytes (loadFunction level bytes at)
-  all-stand level at = one-stands (loadProtos level) (within-stand level) at
+  pub all-stand : (level : ℕ) → level ≤ levelsBelow → (at : ℕ) → AllRead bytes (loadFunction level bytes at)
+  all-stand level low = one-stands level low (within-stand level low)
 
   pub on-unit : {A : Type 0} (X : Result A) (k : ℕ → Result (List Function)) → ((at : ℕ) → AllRead bytes (k at)) → AllRead bytes (bind X (λ _ at. k at))
   on-unit (done n at) k h = h at
@@ -104,7 +114,7 @@ module _ (bytes : List ℕ) where
   chunk-stands : AllRead bytes (undump bytes 0)
   unfolding undump
   chunk-stands = on-unit (checkHeader bytes 0) (λ at. bind (loadByte bytes at) (λ _ at₁. loadFunction 31 bytes at₁))
-      (λ at. on-unit (loadByte bytes at) (λ at₁. loadFunction 31 bytes at₁) (all-stand 31))
+      (λ at. on-unit (loadByte bytes at) (λ at₁. loadFunction 31 bytes at₁) (all-stand 31 (omega arith)))
 
   pick-stands : (k : ℕ) (fs : List Function) (at : ℕ) → AllStand bytes fs → OneRead bytes (pick k fs at)
   unfolding pick

@@ -10,4 +10,6 @@ pub mod Cursors
 pub mod Search
 pub mod Filling
 pub mod Claims
+pub mod Examples
+pub mod Places
 pub mod Laws

@@ -126,7 +126,7 @@ loadConstants = loadItems mostConstants loadConstant
 unfoldable pub loadUpvalues : Reader ℕ
 loadUpvalues bytes at = bind (loadVector mostNames 3 bytes at) (λ v at₁. done (v .count) at₁)
 
--- loadDebug: lineinfo, abslineinfo and locvars. "The count of line infos" is its own
+-- loadDebug: lineinfo, abslineinfo and locvars. Document 02 sets their counts no limit: loadInt's is the only one
 unfoldable pub loadAbsLine : ℕ → Reader ℕ
 loadAbsLine i = andThen loadInt loadInt
 

@@ -1,14 +1,21 @@
--- What the positions of a function mean: the same readers, started there, read that function's words, constants and names.
+-- What the positions of a function mean: the same readers, started there, read that function, its words, constants and names.
 -- Assumes nothing.
 use mathlib.Core.Path.{_≡_}
 use mathlib.Core.List.{List, [], _∷_}
 use Prim.Native.Nat.{ℕ, _≤_}
 use lib.ListN.{length}
 use Rattle.common.specs.Limits.{mostWords, mostConstants, mostNames}
+use Rattle.chunk.specs.Limits.{levelsBelow}
 use Rattle.chunk.specs.Reading.{Result, done, refused}
-use Rattle.chunk.specs.Lundump.{Function, loadCode, loadConstants, loadNames}
+use Rattle.chunk.specs.Lundump.{Function, loadCode, loadConstants, loadNames, loadFunction}
 
 pub record Stands (bytes : List ℕ) (f : Function) : Type 0 where
+  -- "their first byte": a function read from there is this one, and then those within it
+  pub level : ℕ
+  pub few-levels : level ≤ levelsBelow
+  pub within : List Function
+  pub next : ℕ
+  pub whole : loadFunction level bytes (f .firstAt) ≡ done (f ∷ within) next
   pub codeNext : ℕ
   pub code : loadCode bytes (f .codeAt) ≡ done (f .words) codeNext
   pub constantsNext : ℕ

@@ -1,5 +1,6 @@
 // Cases at the edges of request C-11. What is printed is held to the stored output.
 mod chunks;
+mod limits;
 mod names;
 mod passes;
 
@@ -46,6 +47,8 @@ fn filled_stripped() {
 fn unfilled(bytes: &[u8]) {
     passes::fill(b"15, not there", bytes, 2);
     passes::short_words(b"6, words", bytes);
+    passes::short_tags(b"6, tags", bytes);
+    passes::short_payloads(b"6, payloads", bytes);
     passes::short_names(b"6, names", bytes);
 }
 
@@ -68,5 +71,7 @@ fn main() {
     let bytes = chunks::plain();
     plain(&bytes);
     levels();
+    limits::counts();
+    limits::numbers();
     names::all();
 }

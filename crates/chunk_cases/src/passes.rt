@@ -62,6 +62,32 @@ pub fn short_words(label: &[u8], bytes: &[u8]) {
     show(&words, &tags, &payloads, &names);
 }
 
+// A tag's.
+pub fn short_tags(label: &[u8], bytes: &[u8]) {
+    let mut words = [9u32; 16];
+    let mut tags = [9u8; 4];
+    let mut payloads = [9u64; 6];
+    let mut names = [9u64; 2];
+    print_cases::text(label);
+    let c = chunk::lawendeb_chunk_fill(bytes, 0, &mut words, &mut tags, &mut payloads, &mut names);
+    counts(c);
+    print_cases::end();
+    show(&words, &tags, &payloads, &names);
+}
+
+// A payload's.
+pub fn short_payloads(label: &[u8], bytes: &[u8]) {
+    let mut words = [9u32; 16];
+    let mut tags = [9u8; 6];
+    let mut payloads = [9u64; 4];
+    let mut names = [9u64; 2];
+    print_cases::text(label);
+    let c = chunk::lawendeb_chunk_fill(bytes, 0, &mut words, &mut tags, &mut payloads, &mut names);
+    counts(c);
+    print_cases::end();
+    show(&words, &tags, &payloads, &names);
+}
+
 // A name's.
 pub fn short_names(label: &[u8], bytes: &[u8]) {
     let mut words = [9u32; 16];

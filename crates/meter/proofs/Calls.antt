@@ -20,7 +20,7 @@ use Rattle.meter.proofs.Paths.{last-more, weight-more}
 
 -- The ceiling.
 
-more-services : (s k : ℕ) → oneService (min (s + k) ceiling) ≡ min (s + (k + 1)) ceiling
+pub more-services : (s k : ℕ) → oneService (min (s + k) ceiling) ≡ min (s + (k + 1)) ceiling
 unfolding oneService
 more-services s k = go (ltb (min (s + k) ceiling) ceiling) refl
   where

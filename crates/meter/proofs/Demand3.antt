@@ -3,6 +3,7 @@
 use Prim.Native.Nat.{ℕ, _≤_}
 use mathlib.Core.Path.{_≡_, refl}
 use mathlib.Core.List.{List, _∷_}
+use native.Mathlib.Omega.{arith}
 use Rattle.common.specs.Limits.{mostWords}
 use Rattle.graph.specs.Graph.{weigh}
 use Rattle.runs.specs.declared.longest.Run.{Run}
@@ -57,8 +58,8 @@ module _ (ws : Script) (steps : script.Sound ws) (weights : List ℕ) (weighs : 
   demand3 few =
       record {
         run = λ marks lengths a b. laws .demand ws steps weights marks lengths (record { few = few; marks-long = a; lengths-long = b; weighed = weighs .accepted }) (weighs .bytes);
-        meter = λ m fits calls. follows-model (scaleOf ws weights) (sound few) m calls fits;
-        bound = λ marks lengths accepted m fits. bounded-by-run marks lengths accepted m fits;
-        worst = λ marks lengths accepted m fits. worst-by-run marks lengths accepted m fits;
+        meter = λ m fits calls. follows-model (scaleOf ws weights) (sound few) m calls (omega (arith, fits));
+        bound = λ marks lengths accepted m fits. bounded-by-run marks lengths accepted m (omega (arith, fits));
+        worst = λ marks lengths accepted m fits. worst-by-run marks lengths accepted m (omega (arith, fits));
         highest = highest-after (scaleOf ws weights);
       }

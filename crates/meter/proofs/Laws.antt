@@ -6,6 +6,8 @@ use Rattle.meter.specs.Laws.{Laws}
 use Rattle.meter.proofs.Highest.{highest-after}
 use Rattle.meter.proofs.Demand3.{demand3}
 use Rattle.meter.proofs.Earlier.{earlier-feed}
+use Rattle.meter.proofs.Changing.{follows-book}
+use Rattle.meter.proofs.Order.{order}
 
 pub laws : Laws
 laws =
@@ -16,4 +18,7 @@ laws =
       earlier-feed-of = λ version ws. earlier-feed (scriptOf version ws) (runs.laws .sound version ws);
       highest = highest-after;
       highest-of = λ version ws weights. highest-after (scaleOf (scriptOf version ws) weights);
+      order = order;
+      follows-book = follows-book;
+      follows-book-of = λ version ws. follows-book (scriptOf version ws) (runs.laws .sound version ws);
     }

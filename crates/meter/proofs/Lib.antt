@@ -5,5 +5,7 @@ pub mod Highest
 pub mod Bound
 pub mod Demand3
 pub mod Earlier
+pub mod Changing
+pub mod Order
 pub mod Laws
 pub mod FeedWalk

@@ -4,7 +4,7 @@ use mathlib.Core.Path.{_≡_}
 use mathlib.Core.List.{List, [], _∷_}
 use Prim.Native.Nat.{ℕ, _+_, min}
 use Rattle.meter.specs.declared.step.Meter.{Meter}
-use Rattle.meter.specs.Feed.{Scale, ceiling, isBegun, feedOf, beginOf, resetOf}
+use Rattle.meter.specs.Feed.{Scale, isBegun, feedOf, beginOf, resetOf}
 use Rattle.meter.specs.Model.{Call, begin, feed, reset, Model, emptyModel, modelAfter, modelAnswers, hasWord, lastOr0, weightSince}
 
 -- the meter after a call, by the definitions that the contracts of `begin`, `feed` and `reset` cite
@@ -44,4 +44,4 @@ module _ (s : Scale) (m : Meter) (calls : List Call) where
     -- "words since service count from the word its last serving step leads to (all of them if none serves, 0 if empty)", by weight
     pub count : shown .count ≡ weightSince (s .graph) (s .weight) (model .path)
     -- "services are those at the start plus the tally, at most 4,294,967,295"
-    pub services : shown .services ≡ min (m .services + model .tally) ceiling
+    pub services : shown .services ≡ min (m .services + model .tally) 4294967295

@@ -4,13 +4,13 @@
 -- Assumes nothing.
 use mathlib.Core.Path.{_≡_}
 use mathlib.Core.List.{List}
-use Prim.Native.Nat.{ℕ, _≤_}
+use Prim.Native.Nat.{ℕ, _≤_, _<_}
 use Rattle.common.specs.Numbers.{«ACCEPTED»}
 use Rattle.runs.specs.Script.{Script}
 use Rattle.runs.specs.Demand.{Demand}
 use Rattle.runs.specs.Run.{runOf, numberOf, longestOf}
 use Rattle.meter.specs.declared.step.Meter.{Meter}
-use Rattle.meter.specs.Feed.{scaleOf, ceiling}
+use Rattle.meter.specs.Feed.{scaleOf}
 use Rattle.meter.specs.Model.{Call}
 use Rattle.meter.specs.Calls.{FollowsModel}
 use Rattle.meter.specs.Highest.{HighestAfter}
@@ -29,14 +29,14 @@ pub record Demand3 (ws : Script) (weights : List ℕ) : Type 0 where
   -- writes its word down, and after the list the meter shows the [weight of the] words since the last service on the book's course, and the
   -- services held at the start plus all those passed by the book, up to its ceiling." (A meter's services are 32 bits.) Request C-19:
   -- "Demand 3's lists may hold resets, which its book passes over."
-  pub meter : (m : Meter) → m .services ≤ ceiling → (calls : List Call) → FollowsModel (scaleOf ws weights) m calls
+  pub meter : (m : Meter) → m .services < 4294967296 → (calls : List Call) → FollowsModel (scaleOf ws weights) m calls
   -- both together, what owners read first: if accepted, a meter just begun, fed a course and lent the run's weights, never shows a count above
   -- L, and on some course it shows L
-  pub bound : (marks lengths : ℕ) → numberOf (runOf ws weights marks lengths) ≡ «ACCEPTED» → (m : Meter) → m .services ≤ ceiling
+  pub bound : (marks lengths : ℕ) → numberOf (runOf ws weights marks lengths) ≡ «ACCEPTED» → (m : Meter) → m .services < 4294967296
       → Bound (scaleOf ws weights) m (longestOf (runOf ws weights marks lengths))
   -- request C-19: "On an accepted function, a meter begun, then reset, then fed a course shows as highest the largest count it showed, never
   -- above L."
-  pub worst : (marks lengths : ℕ) → numberOf (runOf ws weights marks lengths) ≡ «ACCEPTED» → (m : Meter) → m .services ≤ ceiling
+  pub worst : (marks lengths : ℕ) → numberOf (runOf ws weights marks lengths) ≡ «ACCEPTED» → (m : Meter) → m .services < 4294967296
       → Worst (scaleOf ws weights) m (longestOf (runOf ws weights marks lengths))
   -- and what the highest is after any list of calls, on any meter
   pub highest : (m : Meter) (calls : List Call) → HighestAfter (scaleOf ws weights) m calls

@@ -4,7 +4,7 @@
 -- "longest run, meter and C-22's questions take either version, and demand 3 holds by its steps".
 -- Assumes nothing.
 use mathlib.Core.List.{List}
-use Prim.Native.Nat.{ℕ, _≤_}
+use Prim.Native.Nat.{ℕ, _≤_, _<_}
 use lib.ListN.{length}
 use Rattle.common.specs.Limits.{mostWords}
 use Rattle.fields.specs.declared.version.Version.{Version}
@@ -16,6 +16,8 @@ use Rattle.meter.specs.Model.{Call}
 use Rattle.meter.specs.Highest.{HighestAfter}
 use Rattle.meter.specs.Demand3.{Demand3}
 use Rattle.meter.specs.Earlier.{EarlierFeed}
+use Rattle.meter.specs.Changing as changing
+use Rattle.meter.specs.Order.{Order}
 
 pub record Laws : Type 0 where
   -- demand 3, whole: "For one function of at most 32,768 words", and "weights that 18 accepts"
@@ -27,3 +29,12 @@ pub record Laws : Type 0 where
   -- request C-19, of the highest: by any scale, of any number of words and whatever the weights are
   pub highest : (s : Scale) (m : Meter) (calls : List Call) → HighestAfter s m calls
   pub highest-of : (version : Version) (ws weights : List ℕ) (m : Meter) (calls : List Call) → HighestAfter (scaleOf (scriptOf version ws) weights) m calls
+  -- "Checks run in this order": 1, 18, 11 and 10, each exactly
+  pub order : (s : Scale) (m : Meter) (q : ℕ) → Order s m q
+  -- a meter fed by changing weights: "nothing is lost or wraps". A meter's services are 32 bits, and weights are bytes
+  pub follows-book :
+      (ws : Script) → Sound ws → ws .size ≤ mostWords → (m : Meter) → m .services < 4294967296
+      → (calls : List changing.Call) → changing.Bytes calls → changing.FollowsBook ws m calls
+  pub follows-book-of :
+      (version : Version) (ws : List ℕ) → length ws ≤ mostWords → (m : Meter) → m .services < 4294967296
+      → (calls : List changing.Call) → changing.Bytes calls → changing.FollowsBook (scriptOf version ws) m calls

@@ -6,4 +6,6 @@ pub mod Highest
 pub mod Bound
 pub mod Demand3
 pub mod Earlier
+pub mod Changing
+pub mod Order
 pub mod Laws

@@ -6,7 +6,7 @@ use mathlib.Core.Bool.{Bool, true, false, cond, not, _&&_, _||_, Bool·beq, true
 use mathlib.Core.List.{List, [], _∷_}
 use native.Mathlib.Omega.{arith}
 use lib.Dec.{T, ltb, eqb, eqb→eq}
-use lib.IntN.{ℤ, pos, negsuc, _+ℤ_}
+use lib.IntN.{ℤ, pos, _+ℤ_}
 use lib.ListN.{length, getD, List·getD-eq-default}
 use borrow.Author.Tests.{lt-ltb, ltb-false, eqb-true}
 use Rattle.fields.specs.Opcodes53.{«OP_JMP», «OP_TFORLOOP», «OP_EXTRAARG»}
@@ -15,34 +15,16 @@ use Rattle.fields.specs.Table53.{StepClass, following, returning, branching, co
 use Rattle.fields.specs.Laws.{all}
 use Rattle.fields.proofs.Laws.{laws}
 use Rattle.runs.specs.declared.edges.Successors.{Successors}
-use Rattle.runs.specs.declared.edges.Successors.the-variants.{Invalid, Stop, One, Two}
+use Rattle.runs.specs.declared.edges.Successors.the-variants.{Invalid}
 use Rattle.runs.specs.Columns53.{classFrom}
-use Rattle.runs.specs.Steps.{unless, one, two, isInvalid, listOf, ordered}
+use Rattle.runs.specs.Steps.{unless, isInvalid, listOf}
 use Rattle.runs.specs.Successors53.{opcodeAt, nextOf, standsAt, companionPresent, successorsOf}
 use Rattle.runs.specs.Lvm.{integers}
-use Rattle.runs.specs.Bad53.{opcode, aboveOne, zeroC, sbx, between, nextIs, returns, skips, jumps, loops, tests, nextWords, outside, anyOutside, unknown, lacksJump, lacksExtra, lacksLoop, isBad, ByNumber}
+use Rattle.runs.specs.Bad53.{opcode, aboveOne, zeroC, sbx, between, nextIs, returns, skips, jumps, loops, tests, nextWords, anyOutside, unknown, lacksJump, lacksExtra, lacksLoop, isBad, ByNumber}
 use Rattle.runs.proofs.Columns53.{class-back}
 use Rattle.runs.proofs.Steps.{let-through}
 use Rattle.runs.proofs.NextWords.{Same, itself, one-by, two-same}
-
--- A test of a Boolean either way, which antt computes.
-
-abbrev both : (Bool → Bool) → Bool
-both f = cond (f true) (f false) false
-
-both-parts : (a b : Bool) → T (cond a b false) → T a × T b
-both-parts true b h = (tt, h)
-both-parts false b h = absurd h
-
-either : (f : Bool → Bool) → T (both f) → (t : Bool) → T (f t)
-either f h true = both-parts (f true) (f false) h .0
-either f h false = both-parts (f true) (f false) h .1
-
-agreed : (a b : Bool) → T (Bool·beq a b) → a ≡ b
-agreed true true h = refl
-agreed true false h = absurd h
-agreed false true h = absurd h
-agreed false false h = refl
+use Rattle.runs.proofs.ByNumber.{both, either, agreed, stepsTo, nothing, one-outside, two-outside, refused, let-on}
 
 -- The companion column.
 
@@ -126,12 +108,6 @@ place-is o h e c a =
     (either (λ a. cond (isNone (classOf o)) true (eqb (placeBy (classOf o) c a) (place o c a)))
     (either (λ c. both λ a. cond (isNone (classOf o)) true (eqb (placeBy (classOf o) c a) (place o c a)))
     (laws .each-below class-right 64 classes-right o h) c) a))
-
--- the steps to given words
-abbrev stepsTo : ℕ → List ℤ → Successors
-stepsTo n [] = Stop
-stepsTo n (z ∷ []) = one n z
-stepsTo n (z ∷ y ∷ zs) = two n z y
 
 module _ (n w p : ℕ) where
   abbrev away : ℤ
@@ -222,11 +198,6 @@ module _ (ws : List ℕ) (p : ℕ) where
       class-steps n w p (classOf (opcode w)) e
       ∙ ap (stepsTo n) (ap (listAt n w p) (place-is (opcode w) fits e (zeroC w) (aboveOne w)) ∙ list-is n w p (returns w) (skips w) (jumps w) (loops w) (tests w))
 
-  nothing : (t : Bool) → unless t Invalid ≡ Invalid
-  unfolding unless
-  nothing true = refl
-  nothing false = refl
-
   by-class : (t : Bool) → isNone (classOf (opcode w)) ≡ t
       → unless (standsAt (companionOf (opcode w)) ws p) (nextOf (classOf (opcode w)) n w p) ≡ unless (not wrong) (stepsTo n (nextWords w p))
   unfolding unless
@@ -247,59 +218,15 @@ module _ (ws : List ℕ) (p : ℕ) where
 -- Bad words.
 
 module _ (n : ℕ) where
-  one-outside : (z : ℤ) → isInvalid (one n z) ≡ outside n z || false
-  unfolding one unless
-  one-outside (pos q) = go (ltb q n)
-    where
-      go : (t : Bool) → isInvalid (cond t (One q) Invalid) ≡ not t || false
-      go true = refl
-      go false = refl
-  one-outside (negsuc q) = refl
-
-  ordered-valid : (q r : ℕ) → isInvalid (ordered q r) ≡ false
-  unfolding ordered
-  ordered-valid q r = go (ltb q r) (ltb r q)
-    where
-      go : (t u : Bool) → isInvalid (cond t (Two q r) (cond u (Two r q) (One q))) ≡ false
-      go true u = refl
-      go false true = refl
-      go false false = refl
-
-  two-outside : (z y : ℤ) → isInvalid (two n z y) ≡ outside n z || (outside n y || false)
-  unfolding two unless
-  two-outside (pos q) (pos r) = go (ltb q n) (ltb r n)
-    where
-      go : (t u : Bool) → isInvalid (cond t (cond u (ordered q r) Invalid) Invalid) ≡ not t || (not u || false)
-      go true true = ordered-valid q r
-      go true false = refl
-      go false u = refl
-  two-outside (pos q) (negsuc r) = go (ltb q n)
-    where
-      go : (t : Bool) → true ≡ not t || true
-      go true = refl
-      go false = refl
-  two-outside (negsuc q) y = refl
-
   some-outside : (w p : ℕ) → isInvalid (stepsTo n (nextWords w p)) ≡ anyOutside n (nextWords w p)
   some-outside w p =
       first-holds (λ zs. isInvalid (stepsTo n zs) ≡ anyOutside n zs) (returns w) (skips w) (jumps w) (loops w) (tests w)
-      refl (one-outside _) (one-outside _) (two-outside _ _) (two-outside _ _) (one-outside _)
+      refl (one-outside n _) (one-outside n _) (two-outside n _ _) (two-outside n _ _) (one-outside n _)
 
   same-words : (w p : ℕ) → isInvalid (stepsTo n (nextWords w p)) ≡ false → Same (nextWords w p) (integers (listOf (stepsTo n (nextWords w p))))
   same-words w p =
       first-holds (λ zs. isInvalid (stepsTo n zs) ≡ false → Same zs (integers (listOf (stepsTo n zs)))) (returns w) (skips w) (jumps w) (loops w) (tests w)
       (λ e. itself []) (one-by n _ _ refl) (one-by n _ _ refl) (two-same n _ _) (two-same n _ _) (one-by n _ _ refl)
-
-module _ (s : Successors) where
-  refused : (t : Bool) → isInvalid (unless (not t) s) ≡ t || isInvalid s
-  unfolding unless
-  refused true = refl
-  refused false = refl
-
-  let-on : (t b : Bool) → t || b ≡ false → isInvalid s ≡ b → (unless (not t) s ≡ s) × (isInvalid s ≡ false)
-  unfolding unless
-  let-on true b e d = absurd (true≢false e)
-  let-on false b e d = (refl, d ∙ e)
 
 bad : (ws : List ℕ) (p : ℕ) → p < length ws → isInvalid (successorsOf ws p) ≡ isBad ws p
 bad ws p h =

@@ -15,6 +15,9 @@ use Rattle.runs.proofs.Lawful.{lawful, sound}
 use Rattle.runs.proofs.Lvm as lvm54
 use Rattle.runs.proofs.Lvm53 as lvm53
 use Rattle.runs.proofs.Bad53 as bad53
+use Rattle.runs.proofs.Bad54 as bad54
+use Rattle.runs.proofs.Nine.{never-given, within-words, counted}
+use Rattle.runs.proofs.Order.{order, weights-refused}
 use Rattle.runs.proofs.Between.{ends, table-refused}
 use Rattle.runs.proofs.Counted.{earlier-run, ones-accepted, ones-weigh}
 use Rattle.runs.proofs.Demand as first-half
@@ -55,6 +58,11 @@ laws =
       weights = weight-laws;
       ends = ends;
       table-refused = table-refused;
+      order = order;
+      weights-refused = weights-refused;
+      never-given = never-given;
+      within-words = within-words;
+      counted = counted;
       lawful-of = λ version ws. lawful (scriptOf version ws) (sound version ws);
       demand-of = λ version ws. demand (scriptOf version ws) (sound version ws);
       slices-of = λ version ws. slices (scriptOf version ws) (sound version ws);
@@ -63,6 +71,7 @@ laws =
       weights-of = λ version ws weights e. weight-laws weights e .some (scriptOf version ws) (sound version ws);
       ends-of = λ version ws. ends (scriptOf version ws) (sound version ws);
       table-refused-of = λ version ws. table-refused (scriptOf version ws);
+      by-numbers54 = bad54.by-numbers;
       by-numbers53 = bad53.by-numbers;
       entry-laws = entry-laws;
     }

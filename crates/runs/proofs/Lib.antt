@@ -1,4 +1,6 @@
+pub mod ByNumber
 pub mod Bad53
+pub mod Bad54
 pub mod Between
 pub mod BothTables
 pub mod Columns
@@ -10,6 +12,8 @@ pub mod Entries
 pub mod EntryLaws
 pub mod Held
 pub mod Lawful
+pub mod Nine
+pub mod Order
 pub mod Laws
 pub mod Lvm
 pub mod Lvm53

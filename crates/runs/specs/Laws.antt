@@ -1,4 +1,4 @@
--- What callers go by. proofs/Laws.antt has the one value of `Laws`, and a crate above cites it and no other proof of this one.
+-- What callers go by: of the proofs here crates above cite `laws` of Laws.antt and `cut-laws` of Cut.antt alone.
 -- Assumes nothing.
 use Prim.Native.Nat.{ℕ, _%_, _≤_, _<_}
 use mathlib.Core.Path.{_≡_}
@@ -8,7 +8,7 @@ use mathlib.Core.List.{List}
 use lib.ListN.{length, getD}
 use Rattle.common.specs.Limits.{mostWords}
 use Rattle.common.specs.Numbers.{«ACCEPTED»}
-use Rattle.graph.specs.Graph.{Lawful}
+use Rattle.graph.specs.Graph.{Lawful, weigh}
 use Rattle.fields.specs.declared.version.Version.{Version}
 use Rattle.fields.specs.declared.version.Version.the-variants.{Lua54, Lua53}
 use Rattle.runs.specs.Steps.{servesOf, unitWeight}
@@ -16,12 +16,14 @@ use Rattle.runs.specs.Script.{Script, scriptOf, graphOf, weightOf, Sound
 use Rattle.runs.specs.Lvm as lvm54
 use Rattle.runs.specs.Lvm53 as lvm53
 use Rattle.runs.specs.Bad53 as bad53
-use Rattle.runs.specs.Run.{runOf, numberOf}
+use Rattle.runs.specs.Bad54 as bad54
+use Rattle.runs.specs.Run.{runOf, numberOf, longestOf}
 use Rattle.runs.specs.Weights.{weightCount, heaviestWeight, refusesWeights}
 use Rattle.runs.specs.Counted.{ones, EarlierRun}
 use Rattle.runs.specs.Range.{refusesRange}
 use Rattle.runs.specs.Between.{Ends, TableRefused}
 use Rattle.runs.specs.Demand.{Demand}
+use Rattle.runs.specs.Order.{Order, WeightsRefused}
 use Rattle.runs.specs.Slices.{Slices}
 use Rattle.runs.specs.EntryLaws.{EntryLaws}
 
@@ -80,6 +82,14 @@ pub record Laws : Type 0 where
       → Ends ws low high marks lengths
   pub table-refused :
       (ws : Script) (low high : List ℕ) (marks lengths : ℕ) → TableRefused ws low high marks lengths
+  -- "Checks run in this order", and what number 18 is
+  pub order : (ws : Script) (weights : List ℕ) (marks lengths : ℕ) → Order ws weights marks lengths
+  pub weights-refused : (weights : List ℕ) → WeightsRefused weights
+  -- request C-13: "number 9 is never given"
+  pub never-given : (ws : Script) (weights : List ℕ) (marks lengths : ℕ) → numberOf (runOf ws weights marks lengths) ≡ 9 → ⊥
+  -- ".. so L cannot pass the number of words", each counting 1, and with all weights 1 a weight counts words
+  pub within-words : (ws : Script) → Sound ws → (marks lengths : ℕ) → longestOf (runOf ws ones marks lengths) ≤ ws .size
+  pub counted : (ws : Script) → Sound ws → (ps : List ℕ) → weigh (weightOf ws ones) ps ≡ length ps
   -- The same for the words of either version, where nothing is left to suppose of their steps.
   pub lawful-of : (version : Version) (ws : List ℕ) → Lawful (graphOf (scriptOf version ws))
   pub demand-of :
@@ -101,6 +111,8 @@ pub record Laws : Type 0 where
   pub table-refused-of :
       (version : Version) (ws low high : List ℕ) (marks lengths : ℕ)
       → TableRefused (scriptOf version ws) low high marks lengths
+  -- document 01's table of steps, by its own numbers
+  pub by-numbers54 : bad54.ByNumber
   -- request C-24: the bad words and the next words of 5.3, by its own numbers
   pub by-numbers53 : bad53.ByNumber
   -- for crates that go by settled entries

@@ -7,6 +7,7 @@ pub mod Lvm
 pub mod Successors53
 pub mod Lvm53
 pub mod Bad53
+pub mod Bad54
 pub mod Weights
 pub mod Script
 pub mod Run
@@ -14,6 +15,7 @@ pub mod Range
 pub mod Between
 pub mod Counted
 pub mod Demand
+pub mod Order
 pub mod Slices
 pub mod Entries
 pub mod SearchInvariants

@@ -366,8 +366,8 @@ switch =
     ∷ [])
     ∷ vmcase «OP_CALL» (straight («ra» ∷ arguments ∷ []) (results ∷ []))
     ∷ vmcase «OP_TAILCALL» (way leave (run («ra» ∷ arguments ∷ []) [] ∷ []) ∷ [])
-    -- what returns store, RETURN1 to base - 1, is the result of the caller's CALL, and no register of this function; so
-    -- RETURN0 and RETURN1
+    -- returns store at base - 1 and on, the same slots, but as the results of the caller's CALL, whose formula lists
+    -- them: `L->ci` is the caller's by then in RETURN0 and RETURN1, and so it is when luaD_poscall, by RETURN, is done
     ∷ vmcase «OP_RETURN» (way leave (run (returned ∷ []) [] ∷ []) ∷ [])
     ∷ vmcase «OP_RETURN0» (way leave (run [] [] ∷ []) ∷ [])
     -- no result asked for, or setobjs2s(L, base - 1, ra)

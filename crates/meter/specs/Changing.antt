@@ -1,0 +1,124 @@
+-- A meter whose feeds are each lent weights of their own: "Its count is then still what the words since the last service weighed, each by the weights of
+-- its own feed, and nothing is lost or wraps" (include/lawendeb.h; request C-17 asks for the same weights only of a meter compared with a run).
+-- The book keeps with each word what it weighed when it was fed. proofs/Changing.antt proves `FollowsBook` for any sound script of at most 32,768
+-- words, any meter just begun and any list of calls; a table that 18 refuses is answered 18, and changes nothing.
+-- Assumes nothing.
+use mathlib.Core.Path.{_≡_}
+use mathlib.Core.Bool.{Bool, cond, _||_}
+use mathlib.Core.List.{List, [], _∷_, _++_}
+use Prim.Native.Nat.{ℕ, _+_, _≤_, min}
+use lib.ListN.{getD}
+use Rattle.common.specs.Numbers.{«ACCEPTED», «NO_STEP», «WEIGHTS_REFUSED»}
+use Rattle.graph.specs.Graph.{Graph}
+use Rattle.runs.specs.Script.{Script, graphOf, weightOf}
+use Rattle.runs.specs.Weights.{refusesWeights, heaviestWeight}
+use Rattle.meter.specs.declared.step.Meter.{Meter}
+use Rattle.meter.specs.Feed.{scaleOf, isBegun, beginOf, resetOf, feedOf}
+use Rattle.meter.specs.Model.{writes, servesTo, hasWord, lastOr0, anyServes}
+
+-- a call, of which a feed has its own weights
+pub data Call : Type 0 where
+  begin : Call
+  feed : List ℕ → ℕ → Call
+  reset : Call
+
+-- a word that was written down, and what it weighed then
+pub record Entry : Type 0 where
+  pub word : ℕ
+  pub weight : ℕ
+
+pub record Book : Type 0 where
+  pub path : List Entry
+  pub tally : ℕ
+
+abbrev pub empty : Book
+empty = record { path = []; tally = 0 }
+
+abbrev pub wordsOf : List Entry → List ℕ
+wordsOf [] = []
+wordsOf (e ∷ es) = e .word ∷ wordsOf es
+
+abbrev pub sumOf : List Entry → ℕ
+sumOf [] = 0
+sumOf (e ∷ es) = e .weight + sumOf es
+
+-- those "from the word its last serving step leads to (all of them if none serves ..)"
+abbrev pub sinceService : Graph → Entry → List Entry → List Entry
+sinceService g e [] = e ∷ []
+sinceService g e (f ∷ fs) = cond (anyServes g (e .word) (wordsOf (f ∷ fs))) (sinceService g f fs) (e ∷ f ∷ fs)
+
+-- what they weighed, each at its own feed
+abbrev pub weighedSince : Graph → List Entry → ℕ
+weighedSince g [] = 0
+weighedSince g (e ∷ es) = sumOf (sinceService g e es)
+
+module _ (ws : Script) where
+  -- a feed whose table is not refused writes as the reference model does
+  abbrev pub written : Book → List ℕ → ℕ → Bool → Book
+  written b weights q t =
+      cond t
+      (record {
+        path = b .path ++ (record { word = q; weight = weightOf ws weights q } ∷ []);
+        tally = cond (servesTo (graphOf ws) (wordsOf (b .path)) q) (b .tally + 1) (b .tally);
+      })
+      b
+
+  abbrev pub bookFed : Book → List ℕ → ℕ → Book
+  bookFed b weights q = cond (refusesWeights weights) b (written b weights q (writes (graphOf ws) (wordsOf (b .path)) q))
+
+  abbrev pub bookCalled : Book → Call → Book
+  bookCalled b begin = record { path = []; tally = b .tally }
+  bookCalled b (feed weights q) = bookFed b weights q
+  bookCalled b reset = b
+
+  abbrev pub bookAfter : Book → List Call → Book
+  bookAfter b [] = b
+  bookAfter b (c ∷ cs) = bookAfter (bookCalled b c) cs
+
+  abbrev pub bookAnswer : Book → List ℕ → ℕ → ℕ
+  bookAnswer b weights q = cond (refusesWeights weights) «WEIGHTS_REFUSED» (cond (writes (graphOf ws) (wordsOf (b .path)) q) «ACCEPTED» «NO_STEP»)
+
+  abbrev pub bookAnswers : Book → List Call → List ℕ
+  bookAnswers b [] = []
+  bookAnswers b (begin ∷ cs) = bookAnswers (bookCalled b begin) cs
+  bookAnswers b (feed weights q ∷ cs) = bookAnswer b weights q ∷ bookAnswers (bookFed b weights q) cs
+  bookAnswers b (reset ∷ cs) = bookAnswers b cs
+
+  -- the meter, by the definitions that the contracts cite
+  abbrev pub meterCalled : Meter → Call → Meter
+  meterCalled m begin = beginOf m
+  meterCalled m (feed weights q) = feedOf (scaleOf ws weights) m q .meter
+  meterCalled m reset = resetOf m
+
+  abbrev pub meterAfter : Meter → List Call → Meter
+  meterAfter m [] = m
+  meterAfter m (c ∷ cs) = meterAfter (meterCalled m c) cs
+
+  abbrev pub meterAnswers : Meter → List Call → List ℕ
+  meterAnswers m [] = []
+  meterAnswers m (begin ∷ cs) = meterAnswers (beginOf m) cs
+  meterAnswers m (feed weights q ∷ cs) = feedOf (scaleOf ws weights) m q .answer .number ∷ meterAnswers (feedOf (scaleOf ws weights) m q .meter) cs
+  meterAnswers m (reset ∷ cs) = meterAnswers (resetOf m) cs
+
+-- the weights are bytes, as those of every lent table are
+abbrev pub Bytes : List Call → Type 0
+Bytes [] = Unit {0}
+Bytes (begin ∷ cs) = Bytes cs
+Bytes (feed weights q ∷ cs) = ((i : ℕ) → getD weights i 0 ≤ heaviestWeight) × Bytes cs
+Bytes (reset ∷ cs) = Bytes cs
+
+module _ (ws : Script) (m : Meter) (calls : List Call) where
+  abbrev pub shown : Meter
+  shown = meterAfter ws (beginOf m) calls
+
+  abbrev pub book : Book
+  book = bookAfter ws empty calls
+
+  pub record FollowsBook : Type 0 where
+    -- answer by answer
+    pub answers : meterAnswers ws (beginOf m) calls ≡ bookAnswers ws empty calls
+    pub begun : isBegun shown ≡ hasWord (wordsOf (book .path))
+    pub last : shown .last ≡ lastOr0 (wordsOf (book .path))
+    -- count by count: every beginning of a list is a list
+    pub count : shown .count ≡ weighedSince (graphOf ws) (book .path)
+    pub services : shown .services ≡ min (m .services + book .tally) 4294967295
