@@ -127,6 +127,21 @@ LAWENDEB_ASSERT(sizeof(struct lawendeb_meter) == 20 && offsetof(struct lawendeb_
                     offsetof(struct lawendeb_meter, highest) == 16,
                 "the layout that crates/meter has");
 
+/* A script of several functions. A feed takes one function's words, so each activation of a
+   function has a meter of its own: begun when the function is entered, fed each of its words, and
+   dropped when it returns; the caller's goes on at the word after. So with recursion there are as
+   many meters of a function as it has activations, and a coroutine keeps its own. A call is no step
+   of the caller: its meter is fed nothing meanwhile. A tail call takes its caller's place, and an
+   error that is caught drops the meters of all that it leaves.
+   No meter sees the services and the words of the others. Where the firmware serves whenever a Lua
+   function is entered, also by a metamethod, from a C function or by a first resume, keep one
+   number more, `left`: 0 at each service, an entry or a step that does not go forward, and grown by
+   a meter's count when its activation leaves. What has run since the last service weighs at most
+   `left` plus the count of the running meter, and that at most the sum of the longest runs of the
+   activations on the way back: with calls nested d deep, d times the largest. The sum of the meters
+   that are alive is no bound: a callee's share leaves with its meter. Where an entry does not
+   serve, nothing bounds a script. (Coroutines: `left` plus the counts of all that are alive.) */
+
 /* The script starts anew: not begun, 0, 0; the services and the highest stay. Nobody else writes
    `m` meanwhile. */
 void lawendeb_begin(struct lawendeb_meter *m);

@@ -8,6 +8,7 @@ use Rattle.meter.proofs.Demand3.{demand3}
 use Rattle.meter.proofs.Earlier.{earlier-feed}
 use Rattle.meter.proofs.Changing.{follows-book}
 use Rattle.meter.proofs.Order.{order}
+use Rattle.meter.proofs.Paths.{last-more, weight-more}
 
 pub laws : Laws
 laws =
@@ -21,4 +22,6 @@ laws =
       order = order;
       follows-book = follows-book;
       follows-book-of = λ version ws. follows-book (scriptOf version ws) (runs.laws .sound version ws);
+      last-more = last-more;
+      weight-more = weight-more;
     }

@@ -3,16 +3,19 @@
 -- forward"), and for every list of words of either version, where nothing of a script is left to suppose:
 -- "longest run, meter and C-22's questions take either version, and demand 3 holds by its steps".
 -- Assumes nothing.
-use mathlib.Core.List.{List}
-use Prim.Native.Nat.{ℕ, _≤_, _<_}
+use mathlib.Core.Path.{_≡_}
+use mathlib.Core.Bool.{cond}
+use mathlib.Core.List.{List, [], _∷_, _++_}
+use Prim.Native.Nat.{ℕ, _+_, _≤_, _<_}
 use lib.ListN.{length}
 use Rattle.common.specs.Limits.{mostWords}
 use Rattle.fields.specs.declared.version.Version.{Version}
+use Rattle.graph.specs.Graph.{Graph}
 use Rattle.runs.specs.Script.{Script, Sound, scriptOf}
 use Rattle.runs.specs.Weights.{Weighs}
 use Rattle.meter.specs.declared.step.Meter.{Meter}
 use Rattle.meter.specs.Feed.{Scale, scaleOf}
-use Rattle.meter.specs.Model.{Call}
+use Rattle.meter.specs.Model.{Call, lastFrom, weightSince}
 use Rattle.meter.specs.Highest.{HighestAfter}
 use Rattle.meter.specs.Demand3.{Demand3}
 use Rattle.meter.specs.Earlier.{EarlierFeed}
@@ -38,3 +41,10 @@ pub record Laws : Type 0 where
   pub follows-book-of :
       (version : Version) (ws : List ℕ) → length ws ≤ mostWords → (m : Meter) → m .services < 4294967296
       → (calls : List changing.Call) → changing.Bytes calls → changing.FollowsBook (scriptOf version ws) m calls
+  -- of a course that goes on by one word: its last word, and the weight since the last service, which a serving
+  -- step makes that word's alone
+  pub last-more : (p : ℕ) (ps : List ℕ) (q : ℕ) → lastFrom p (ps ++ (q ∷ [])) ≡ q
+  pub weight-more :
+      (g : Graph) (w : ℕ → ℕ) (p : ℕ) (ps : List ℕ) (q : ℕ)
+      → weightSince g w (p ∷ (ps ++ (q ∷ [])))
+      ≡ cond (g .serves (lastFrom p ps) q) (w q) (weightSince g w (p ∷ ps) + w q)
