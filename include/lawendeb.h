@@ -74,7 +74,7 @@ extern "C" {
 #define LAWENDEB_HEADER_DIFFERS 14   /* a byte of a chunk's header */
 #define LAWENDEB_MALFORMED_CHUNK 15  /* it ends early; a count or number is over its limit; .. */
 #define LAWENDEB_TOO_DEEP 16         /* functions within functions, more than 32 levels */
-#define LAWENDEB_UNSET_REGISTER 17   /* one is read that some path has not set; place: the lowest */
+#define LAWENDEB_UNSET_REGISTER 17   /* named as read, not set on some path; place: the lowest */
 #define LAWENDEB_WEIGHTS_REFUSED 18  /* not 128 weights; or one is 0, place: the lowest such */
 #define LAWENDEB_LOW_ABOVE_HIGH 19   /* a low weight above its high one; place: the opcode */
 #define LAWENDEB_NO_SCRIPT 20        /* a script number above LAWENDEB_GUIDER */
