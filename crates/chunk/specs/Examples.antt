@@ -70,7 +70,8 @@ pub record NestedRead : Type 0 where
   pub within-words : after wordsOf (chosen 2 nested) (9 ∷ 9 ∷ []) ≡ 65604 ∷ 9 ∷ []
   pub second-words : after wordsOf (chosen 3 nested) (9 ∷ 9 ∷ []) ≡ 65606 ∷ 9 ∷ []
   pub no-fifth : countsOf (chosen 4 nested) ≡ turnedAway 15
-  -- "trailing bytes are ignored", whatever they are
+  -- "trailing bytes are ignored", whatever they are: 15 for one, in definition and code alike, is refused
+  -- here
   pub trailing : (byte : ℕ) → countsOf (chosen 3 (nested ++ (byte ∷ []))) ≡ needs 1 0 0
   -- "16 a level 33, met at the count that needs it", with nothing behind that count. A level 32 is read, and there the bytes end early
   pub deep : countsOf (chosen 0 (header ++ (0 ∷ levels 32))) ≡ turnedAway 16

@@ -36,6 +36,8 @@ module _ (s : Scale) (m : Meter) (q : ℕ) where
   abbrev pub Weighed : Type 0
   Weighed = (s .graph .size ≤ 32768) × (refusesWeights (s .table) ≡ false)
 
+  -- 10 before 11, 11 before 18, 18 before 1, a highest that 11 leaves out, in definition and code alike, is refused
+  -- here
   pub record Order : Type 0 where
     pub one : (number ≡ 1) ↔ (32768 < s .graph .size)
     pub eighteen : (number ≡ 18) ↔ ((s .graph .size ≤ 32768) × (refusesWeights (s .table) ≡ true))

@@ -2,6 +2,7 @@ pub mod ElementWise
 pub mod Fallbacks
 pub mod Laws
 pub mod Lent
+pub mod Order
 pub mod Sources
 pub mod Turns
 pub mod Wrap

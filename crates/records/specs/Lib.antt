@@ -2,5 +2,6 @@
 pub mod Laws
 pub mod Lift
 pub mod Refusals
+pub mod Order
 pub mod Sources
 pub mod Walk

@@ -13,15 +13,15 @@ use Rattle.rehearsal.specs.Machine.{Event}
 use Rattle.rehearsal.specs.Waits.{longestWait, WaitIn, Waits, turnsOf}
 use Rattle.rehearsal.specs.Schedule.{Scheduled}
 use Rattle.rehearsal.specs.Paths.{OnPath, Proper}
-use Rattle.rehearsal.specs.Rehearse.{mostScripts, mostQuantum, outOfRange, scriptAt, graphsOf, rehearsed, rehearseOf, marksLeft, lengthsLeft, numberOf, placeOf, waitOf}
+use Rattle.rehearsal.specs.Rehearse.{outOfRange, scriptAt, graphsOf, rehearsed, rehearseOf, marksLeft, lengthsLeft, numberOf, placeOf, waitOf}
 use Rattle.rehearsal.specs.Accepting.{runNumber, LowestRefused, LastTried}
 
 -- "1 to 4 accepted scripts", "q from 1 to 1,000", "a lent list of 0s and 1s"
 pub record InRange (k q : ℕ) (choices : List ℕ) : Type 0 where
   pub some : 0 < k
-  pub few : k ≤ mostScripts
+  pub few : k ≤ 4
   pub word : 0 < q
-  pub short : q ≤ mostQuantum
+  pub short : q ≤ 1000
   pub bits : (c : ℕ) → In c choices → c ≤ 1
 
 module _ (w0 w1 w2 w3 : List ℕ) (k q : ℕ) (choices : List ℕ) (limit : ℕ) (marks lengths : List ℕ) where
@@ -44,7 +44,7 @@ module _ (w0 w1 w2 w3 : List ℕ) (k q : ℕ) (choices : List ℕ) (limit : ℕ)
     pub proper : (e : Event) → In e events → Proper (scriptAt w0 w1 w2 w3 (e .script)) (e .word)
     -- "It reports the longest wait of each script"
     pub reports :
-        (i : ℕ) → i < mostScripts
+        (i : ℕ) → i < 4
         → waitOf (rehearseOf w0 w1 w2 w3 k q choices limit marks lengths) i ≡ longestWait i events
     pub waits : (i : ℕ) → Waits i events
     -- "a script with fewer than two turns reports 0"

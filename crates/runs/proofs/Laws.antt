@@ -18,6 +18,7 @@ use Rattle.runs.proofs.Bad53 as bad53
 use Rattle.runs.proofs.Bad54 as bad54
 use Rattle.runs.proofs.Nine.{never-given, within-words, counted}
 use Rattle.runs.proofs.Order.{order, weights-refused}
+use Rattle.runs.proofs.RangeOrder.{range-order, range-kept}
 use Rattle.runs.proofs.Between.{ends, table-refused}
 use Rattle.runs.proofs.Counted.{earlier-run, ones-accepted, ones-weigh}
 use Rattle.runs.proofs.Demand as first-half
@@ -60,6 +61,8 @@ laws =
       table-refused = table-refused;
       order = order;
       weights-refused = weights-refused;
+      range-order = range-order;
+      range-kept = range-kept;
       never-given = never-given;
       within-words = within-words;
       counted = counted;
@@ -71,6 +74,7 @@ laws =
       weights-of = λ version ws weights e. weight-laws weights e .some (scriptOf version ws) (sound version ws);
       ends-of = λ version ws. ends (scriptOf version ws) (sound version ws);
       table-refused-of = λ version ws. table-refused (scriptOf version ws);
+      range-kept-of = λ version ws. range-kept (scriptOf version ws) (sound version ws);
       by-numbers54 = bad54.by-numbers;
       by-numbers53 = bad53.by-numbers;
       entry-laws = entry-laws;

@@ -14,6 +14,7 @@ pub mod Held
 pub mod Lawful
 pub mod Nine
 pub mod Order
+pub mod RangeOrder
 pub mod Laws
 pub mod Lvm
 pub mod Lvm53

@@ -86,7 +86,9 @@ module _ (ws : List ℕ) (p : ℕ) where
   abbrev pub isBad : Bool
   isBad = lacks || anyOutside (length ws) (nextWords word p)
 
--- a table in which 24 of the 25 arithmetic rows ask for nothing after them, or 46 to 49 may follow, in fields' definition and code alike, is refused here
+-- a table in which 24 of the 25 arithmetic rows ask for nothing after them, or 46 to 49 may follow, in fields'
+-- definition and code alike, is refused here; so are ADD that falls straight through, and FORPREP that goes on by its
+-- target alone
 pub record ByNumber : Type 0 where
   -- these words are bad, and no others
   pub bad : (ws : List ℕ) (p : ℕ) → p < length ws → isInvalid (successorsOf ws p) ≡ isBad ws p

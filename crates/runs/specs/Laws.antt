@@ -23,7 +23,7 @@ use Rattle.runs.specs.Counted.{ones, EarlierRun}
 use Rattle.runs.specs.Range.{refusesRange}
 use Rattle.runs.specs.Between.{Ends, TableRefused}
 use Rattle.runs.specs.Demand.{Demand}
-use Rattle.runs.specs.Order.{Order, WeightsRefused}
+use Rattle.runs.specs.Order.{Order, WeightsRefused, RangeOrder, RangeKept}
 use Rattle.runs.specs.Slices.{Slices}
 use Rattle.runs.specs.EntryLaws.{EntryLaws}
 
@@ -85,7 +85,13 @@ pub record Laws : Type 0 where
   -- "Checks run in this order", and what number 18 is
   pub order : (ws : Script) (weights : List ℕ) (marks lengths : ℕ) → Order ws weights marks lengths
   pub weights-refused : (weights : List ℕ) → WeightsRefused weights
-  -- request C-13: "number 9 is never given"
+  -- the same of two tables, and "Nothing lent is altered" where they are refused
+  pub range-order :
+      (ws : Script) (low high : List ℕ) (marks lengths : ℕ) → RangeOrder ws low high marks lengths
+  pub range-kept :
+      (ws : Script) → Sound ws → (low high marks lengths : List ℕ) → RangeKept ws low high marks lengths
+  -- request C-13: "number 9 is never given". 9 for a run above some length, in definition and code alike, is refused
+  -- here and in `demand`
   pub never-given : (ws : Script) (weights : List ℕ) (marks lengths : ℕ) → numberOf (runOf ws weights marks lengths) ≡ 9 → ⊥
   -- ".. so L cannot pass the number of words", each counting 1, and with all weights 1 a weight counts words
   pub within-words : (ws : Script) → Sound ws → (marks lengths : ℕ) → longestOf (runOf ws ones marks lengths) ≤ ws .size
@@ -111,6 +117,8 @@ pub record Laws : Type 0 where
   pub table-refused-of :
       (version : Version) (ws low high : List ℕ) (marks lengths : ℕ)
       → TableRefused (scriptOf version ws) low high marks lengths
+  pub range-kept-of :
+      (version : Version) (ws low high marks lengths : List ℕ) → RangeKept (scriptOf version ws) low high marks lengths
   -- document 01's table of steps, by its own numbers
   pub by-numbers54 : bad54.ByNumber
   -- request C-24: the bad words and the next words of 5.3, by its own numbers

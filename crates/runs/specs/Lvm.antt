@@ -96,8 +96,9 @@ waysOf ws tforprep pc i = along tforcall (pc +ℤ pos («GETARG_Bx» i)) ∷ []
 waysOf ws tforcall pc i = along tforloop pc ∷ []
 waysOf ws tforloop pc i = fetch (pc -ℤ pos («GETARG_Bx» i)) ∷ fetch pc ∷ []
 waysOf ws setlist pc i = cond (eqb («TESTARG_k» i) 0) (fetch pc ∷ []) (fetch (pc +ℤ pos 1) ∷ [])
-waysOf ws assert0 pc i = fetch pc ∷ []
-waysOf ws absent pc i = fetch pc ∷ []
+-- no word goes on from these: the C asserts at the one and has no case for the other
+waysOf ws assert0 pc i = []
+waysOf ws absent pc i = []
 
 pub data Case : Type 0 where
   vmcase : ℕ → Body → Case

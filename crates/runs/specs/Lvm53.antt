@@ -91,7 +91,7 @@ waysOf ws forprep pc i = fetch (pc +ℤ «GETARG_sBx» i) ∷ []
 waysOf ws tforcall pc i = along tforloop pc ∷ []
 waysOf ws tforloop pc i = fetch (pc +ℤ «GETARG_sBx» i) ∷ fetch pc ∷ []
 waysOf ws setlist pc i = cond (eqb («GETARG_C» i) 0) (fetch (pc +ℤ pos 1) ∷ []) (fetch pc ∷ [])
--- no word goes on from these
+-- no word goes on from these: the C asserts at the one and has no case for the other
 waysOf ws assert0 pc i = []
 waysOf ws absent pc i = []
 

@@ -1,6 +1,6 @@
 -- The steps of words, whatever instruction set gives them, and the graph that they make. No word is read here, and nothing of crate
 -- `fields` is named: a search or a pass over such a graph holds for any instruction set (request C-24), and specs/Successors.antt
--- supplies the steps of Lua 5.4.
+-- supplies the steps of Lua 5.4, specs/Successors53.antt those of 5.3.
 -- Assumes nothing.
 use Prim.Native.Nat.{ℕ, _<_}
 use mathlib.Core.Bool.{Bool, true, false, cond}

@@ -53,8 +53,8 @@ gosBy lvm.tforprep = l_tforcall ∷ []
 gosBy lvm.tforcall = l_tforloop ∷ []
 gosBy lvm.tforloop = «pc-=Bx» ∷ vmbreak ∷ []
 gosBy lvm.setlist = «pc++-if-k» ∷ []
-gosBy lvm.assert0 = vmbreak ∷ []
-gosBy lvm.absent = vmbreak ∷ []
+gosBy lvm.assert0 = []
+gosBy lvm.absent = []
 
 body-nexts : (ws : List ℕ) (body : lvm.Body) (pc : ℤ) (i : ℕ) → nextsBy Lua54 (gosBy body) pc i ≡ lvm.targetsOf (lvm.waysOf ws body pc i)
 body-nexts ws lvm.still pc i = refl

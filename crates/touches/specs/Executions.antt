@@ -407,11 +407,11 @@ switch =
     ∷ vmcase «OP_CLOSURE» (straight [] («ra» ∷ []))
     ∷ vmcase «OP_VARARG» (straight [] (results ∷ []))
     ∷ vmcase «OP_VARARGPREP» (straight [] [])
-    -- lua_assert(0)
-    ∷ vmcase «OP_EXTRAARG» (straight [] [])
+    -- lua_assert(0): it goes on nowhere
+    ∷ vmcase «OP_EXTRAARG» []
     ∷ []
 
 abbrev pub vmdispatch : List Case → ℕ → List Way
--- the switch has no such case, and no default
-vmdispatch [] o = straight [] []
+-- nor does a word for which the switch has no case, having no default
+vmdispatch [] o = []
 vmdispatch (vmcase opcode ways ∷ cases) o = cond (eqb o opcode) ways (vmdispatch cases o)

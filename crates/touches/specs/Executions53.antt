@@ -3,10 +3,7 @@
 -- 5.3.6 notes "if (B == 0) then B = top", and lvm.c leaves L->top where it is, and takes L->top - ra - 1. L->top is a
 -- pointer where 5.4.8 has L->top.p. "CALL, TAILCALL, TFORCALL and CONCAT go by their formulas in lopcodes.h".
 -- Assumes nothing.
-use Prim.Native.Nat.{ℕ}
-use mathlib.Core.Bool.{cond}
 use mathlib.Core.List.{List, [], _∷_}
-use lib.Dec.{eqb}
 use Rattle.fields.specs.Opcodes53.{«OP_MOVE», «OP_LOADK», «OP_LOADKX», «OP_LOADBOOL», «OP_LOADNIL», «OP_GETUPVAL», «OP_GETTABUP», «OP_GETTABLE», «OP_SETTABUP», «OP_SETUPVAL», «OP_SETTABLE», «OP_NEWTABLE», «OP_SELF», «OP_ADD», «OP_SUB», «OP_MUL», «OP_DIV», «OP_BAND», «OP_BOR», «OP_BXOR», «OP_SHL», «OP_SHR», «OP_MOD», «OP_IDIV», «OP_POW», «OP_UNM», «OP_BNOT», «OP_NOT», «OP_LEN», «OP_CONCAT», «OP_JMP», «OP_EQ», «OP_LT», «OP_LE», «OP_TEST», «OP_TESTSET», «OP_CALL», «OP_TAILCALL», «OP_RETURN», «OP_FORLOOP», «OP_FORPREP», «OP_TFORCALL», «OP_TFORLOOP», «OP_SETLIST», «OP_CLOSURE», «OP_VARARG», «OP_EXTRAARG»}
 use Rattle.touches.specs.Executions.{«ra», «ra+1», «ra+2», «ra+3», vRB, «k+Bx», «k+Ax», «upvals[A]», «upvals[B]», nils, arguments, results, returned, elements, RKB-isk, RKC-isk, concatenated, called, varargs, vmbreak, «pc++», donextjump, l_tforloop, leave, «pc++-if-C», «pc++-if-not-C», «pc+=sBx», dojump-sBx, compared-0, compared-1, run, Way, way, straight, skipping, docondjump, Case, vmcase}
 
@@ -102,8 +99,3 @@ switch =
     -- lua_assert(0): it goes on nowhere
     ∷ vmcase «OP_EXTRAARG» []
     ∷ []
-
-abbrev pub vmdispatch : List Case → ℕ → List Way
--- nor does a word for which the switch has no case, having no default
-vmdispatch [] o = []
-vmdispatch (vmcase opcode ways ∷ cases) o = cond (eqb o opcode) ways (vmdispatch cases o)
