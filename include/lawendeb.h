@@ -1,7 +1,7 @@
 /* Lawendeb for C and C++, on x86-64 Linux (System V calls). What the functions do is proved; what
    is asked of the caller stands here.
 
-   Ten archives, to be linked alone or side by side; all are made in target/staticlib/:
+   Twelve archives, to be linked alone or side by side; all are made in target/staticlib/:
      libmeter.a     begin, feed and reset, for controllers: `rt staticlib meter`. It needs no
                     symbol.
      libexports.a   fields, steps, the longest run, records: `rt staticlib exports`. It needs
@@ -16,7 +16,10 @@
      libchunk.a     compiled scripts: `rt staticlib chunk`. It needs memset.
      liblua53.a     scripts of Lua 5.3, for older controllers: `rt staticlib lua53`. It needs
                     memset.
-   All but the last are for scripts of Lua 5.4; the last part of this header says which to use.
+     libmeter53.a   the feed of a script of Lua 5.3: `rt staticlib meter53`. It needs no symbol.
+     libbudget53.a  the same of one of four: `rt staticlib budget53`. It needs no symbol.
+   All but the last three are for scripts of Lua 5.4; the last part of this header says which to
+   use.
    They write nothing but what a call is lent: no heap, no static data, and as measured less than
    1 kB of stack, but less than 2 kB for what a word touches, for a question about services and for
    a rehearsal, less than 13 kB for a pass over a chunk, which goes down with its functions, 32
@@ -461,7 +464,7 @@ struct lawendeb_name lawendeb_upvalue_name(const uint8_t *chunk, size_t n, const
                                            size_t own_n, const uint8_t *list, size_t list_n,
                                            const uint64_t *other, size_t other_n, size_t index);
 
-/* ---- scripts for older controllers: liblua53.a
+/* ---- scripts for older controllers: liblua53.a, its feeds in libmeter53.a and libbudget53.a
 
    A mount whose controller runs Lua 5.3 uses the functions that end in _53, every other mount those
    above. The words are those of Lua 5.3.6: opcodes 0 to 46, its own fields and its own steps. What

@@ -39,7 +39,7 @@ fn main() {
     let folder = std::env::var("RATTLE_LIBS").expect("RATTLE_LIBS, which compare/run and compare/benchmarks set");
     println!("cargo:rerun-if-changed={folder}");
     println!("cargo:rustc-link-search=native={folder}");
-    let archives: &[&str] = if lua53 { &["lua53", "meter", "budget"] } else { &["exports", "meter", "budget", "ranges", "service"] };
+    let archives: &[&str] = if lua53 { &["lua53", "meter53", "budget53", "meter", "budget"] } else { &["exports", "meter", "budget", "ranges", "service"] };
     for name in archives {
         println!("cargo:rustc-link-lib=static={name}");
     }

@@ -3,8 +3,8 @@ ghost use mathlib.Core.Path.{_≡_};
 ghost use lib.ListN.{length};
 use crate::meters::fresh;
 use crate::print;
-use lua53::feed::feed_step_53;
 use lua53::steps::lawendeb_longest_run_53;
+use meter53::feed_step_53;
 
 pub fn moves() -> [u32; 32769]
     ensures { λ r. ⌜ 32769 ≡ length r ⌝ }

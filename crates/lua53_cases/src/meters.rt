@@ -3,8 +3,8 @@ use crate::print::*;
 use crate::runs_of::but_one;
 use crate::words::*;
 use fields::opcodes53::*;
-use lua53::feed::feed_step_53;
 use meter::Meter;
+use meter53::feed_step_53;
 
 fn show(m: Meter) {
     text(b";");

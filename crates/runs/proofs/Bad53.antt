@@ -19,7 +19,7 @@ use Rattle.runs.specs.declared.edges.Successors.the-variants.{Invalid}
 use Rattle.runs.specs.Columns53.{classFrom}
 use Rattle.runs.specs.Steps.{unless, isInvalid, listOf}
 use Rattle.runs.specs.Successors53.{opcodeAt, nextOf, standsAt, companionPresent, successorsOf}
-use Rattle.runs.specs.Lvm.{integers}
+use Rattle.runs.specs.Ways.{integers}
 use Rattle.runs.specs.Bad53.{opcode, aboveOne, zeroC, sbx, between, nextIs, returns, skips, jumps, loops, tests, nextWords, anyOutside, unknown, lacksJump, lacksExtra, lacksLoop, isBad, ByNumber}
 use Rattle.runs.proofs.Columns53.{class-back}
 use Rattle.runs.proofs.Steps.{let-through}

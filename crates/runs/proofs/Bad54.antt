@@ -17,7 +17,7 @@ use Rattle.runs.specs.declared.edges.Successors.the-variants.{Invalid}
 use Rattle.runs.specs.Columns.{classFrom, companionFrom}
 use Rattle.runs.specs.Steps.{unless, isInvalid, listOf}
 use Rattle.runs.specs.Successors.{opcodeAt, isBetween, nextOf, standsAt, companionPresent, successorsOf}
-use Rattle.runs.specs.Lvm.{integers}
+use Rattle.runs.specs.Ways.{integers}
 use Rattle.runs.specs.Bad53.{between, anyOutside}
 use Rattle.runs.specs.Bad54.{opcode, kIsOne, bx, sj, nextWords, isAt, is, lacks, isBad, ByNumber}
 use Rattle.runs.proofs.Columns.{class-back, companion-back}

@@ -27,6 +27,7 @@ pub mod Searched
 pub mod Slices
 pub mod Steps
 pub mod Turn
+pub mod Ways
 pub mod Weights
 pub mod Words
 pub mod Words53

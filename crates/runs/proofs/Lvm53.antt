@@ -2,11 +2,11 @@
 -- test, and then a case of the switch at a time.
 -- Assumes nothing.
 use Prim.Native.Nat.{ℕ, _+_, _<_}
-use mathlib.Core.Path.{_≡_, refl, ap, sym, _∙_}
+use mathlib.Core.Path.{_≡_, refl, ap, _∙_}
 use mathlib.Core.Bool.{Bool, true, false, cond, true≢false}
 use mathlib.Core.List.{List, [], _∷_}
 use native.Mathlib.Omega.{arith}
-use lib.Dec.{T, ltb, eqb, eqb→eq}
+use lib.Dec.{T, ltb, eqb}
 use lib.IntN.{ℤ, pos, _+ℤ_, +ℤ-idr}
 use lib.ListN.{length, getD}
 use borrow.Author.Tests.{ltb-true, ltb-false, eqb-true, eqb-false}
@@ -17,14 +17,14 @@ use Rattle.fields.specs.Lopcodes53.{«GET_OPCODE», «GETARG_A», «GETARG_C»,
 use Rattle.fields.specs.Table53.{StepClass, following, returning, branching, comparing, skipping, skippingIfC, skippingUnlessC, jumping, looping, invalid, classNumber, classOf, Companion, alone, jumpAfter, loopAfter, companionNumber, companionOf}
 use Rattle.fields.specs.Laws.{all}
 use Rattle.fields.proofs.Laws.{laws}
-use Rattle.runs.specs.declared.edges.Successors.{Successors}
 use Rattle.runs.specs.Columns53.{classFrom, companionFrom}
-use Rattle.runs.specs.Steps.{unless, one, two, isInvalid, listOf}
+use Rattle.runs.specs.Steps.{one, two, isInvalid, listOf}
 use Rattle.runs.specs.Successors53.{opcodeAt, nextOf, standsAt, companionPresent, successorsOf}
-use Rattle.runs.specs.Lvm.{integers}
-use Rattle.runs.specs.Lvm53.{Body, still, loadkx, loadbool, jmp, compare, test, call, tailcall, leave, forloop, forprep, tforcall, tforloop, setlist, assert0, absent, Way, fetch, dojump, donextjump, compared, waysOf, switch, vmdispatch, targetsOf, bodyAt, waysAt, goesOn, Alike, Agreement}
+use Rattle.runs.specs.Lvm53.{Body, still, loadkx, loadbool, jmp, compare, test, call, tailcall, leave, forloop, forprep, tforcall, tforloop, setlist, assert0, absent, dojump, donextjump, compared, waysOf, bodyOf, bodyAt, waysAt, goesOn, Agreement}
+use Rattle.runs.specs.Ways.{Way, fetch, targetsOf, integers, Alike}
 use Rattle.runs.proofs.Columns53.{class-back, companion-back}
-use Rattle.runs.proofs.NextWords.{Same, itself, passed, held, one-by, twice-by, two-by, two-back, one-later}
+use Rattle.runs.proofs.NextWords.{Same, itself, one-by, twice-by, two-by, two-back}
+use Rattle.runs.proofs.Ways.{sameAt, same-below, leansAt, leans-below, both-passed, second-held, found-same, fetched, at-once}
 
 -- The two classifications.
 
@@ -47,18 +47,12 @@ classBy setlist = skippingUnlessC
 classBy assert0 = invalid
 classBy absent = invalid
 
-alike-at : ℕ → Bool
-alike-at o = eqb (classNumber (classOf o)) (classNumber (classBy (vmdispatch switch o)))
-
-alike-below : T (all alike-at 64)
-unfolding alike-at classOf
+alike-below : T (all (sameAt classNumber classFrom class-back classOf (λ o. classBy (bodyOf o))) 64)
+unfolding classOf
 alike-below = tt
 
-class-by : (o : ℕ) → o < 64 → classOf o ≡ classBy (vmdispatch switch o)
-unfolding alike-at
-class-by o h =
-    sym (class-back (classOf o))
-    ∙ (ap classFrom (eqb→eq _ _ (laws .each-below alike-at 64 alike-below o h)) ∙ class-back (classBy (vmdispatch switch o)))
+class-by : (o : ℕ) → o < 64 → classOf o ≡ classBy (bodyOf o)
+class-by o h = same-below classNumber classFrom class-back classOf (λ o. classBy (bodyOf o)) 64 alike-below o h
 
 -- A word's fields, by the header's macros.
 module _ (w : ℕ) where
@@ -78,7 +72,7 @@ module _ (w : ℕ) where
 module _ (ws : List ℕ) (n w p : ℕ) where
   -- C decides between two words
   either-same : (t : Bool) (x y x′ y′ : ℤ) → x ≡ x′ → y ≡ y′ → isInvalid (cond t (one n x′) (one n y′)) ≡ false
-      → Same (targetsOf (cond t (fetch x ∷ []) (fetch y ∷ []))) (integers (listOf (cond t (one n x′) (one n y′))))
+      → Same (targetsOf {Body = Body} (cond t (fetch x ∷ []) (fetch y ∷ []))) (integers (listOf (cond t (one n x′) (one n y′))))
   either-same true x y x′ y′ c d e = one-by n x x′ c e
   either-same false x y x′ y′ c d e = one-by n y y′ d e
 
@@ -86,7 +80,7 @@ module _ (ws : List ℕ) (n w p : ℕ) where
   later = ap pos (omega arith)
 
   -- where a comparison goes on, by whether its result is A
-  abbrev compared-by : Bool → Way
+  abbrev compared-by : Bool → Way Body
   compared-by t = cond t (donextjump ws (pos (p + 1))) (fetch (pos (p + 1) +ℤ pos 1))
 
   -- A is 0, it is 1, or it is above and no result
@@ -131,26 +125,21 @@ module _ (ws : List ℕ) (n w p : ℕ) where
   body-same assert0 e = absurd (true≢false e)
   body-same absent e = absurd (true≢false e)
 
-  found-same : (b : Body) (s : Successors) (targets : List ℤ) → targets ≡ targetsOf (waysOf ws b (pos (p + 1)) w)
-      → s ≡ nextOf (classBy b) n w p → isInvalid s ≡ false → Same targets (integers (listOf s))
-  found-same b s targets d c e = rw (d, c) (body-same b (sym (ap isInvalid c) ∙ e))
-
 -- the steps of a word that is not bad are those of its class
 steps-by : (ws : List ℕ) (p : ℕ) → isInvalid (successorsOf ws p) ≡ false
     → successorsOf ws p ≡ nextOf (classOf (opcodeAt ws p)) (length ws) (getD ws p 0) p
 unfolding successorsOf
-steps-by ws p e =
-    let steps : Successors = nextOf (classOf (opcodeAt ws p)) (length ws) (getD ws p 0) p in
-    let first = passed (ltb p (length ws)) (unless (companionPresent ws p) steps) e in
-    first ∙ passed (companionPresent ws p) steps (sym (ap isInvalid first) ∙ e)
+steps-by ws p e = both-passed (ltb p (length ws)) (companionPresent ws p) (nextOf (classOf (opcodeAt ws p)) (length ws) (getD ws p 0) p) e
 
 same : (ws : List ℕ) (p : ℕ) → isInvalid (successorsOf ws p) ≡ false → Same (goesOn ws p) (integers (listOf (successorsOf ws p)))
 unfolding waysAt bodyAt opcodeAt
 same ws p e =
-    found-same ws (length ws) (getD ws p 0) p (vmdispatch switch (opcodeOf (getD ws p 0))) (successorsOf ws p) (goesOn ws p)
-    (ap (λ (o : ℕ). targetsOf (waysOf ws (vmdispatch switch o) (pos (p + 1)) (getD ws p 0))) (opcode-is (getD ws p 0)))
-    (steps-by ws p e
-    ∙ ap (λ (x : StepClass). nextOf x (length ws) (getD ws p 0) p) (class-by (opcodeOf (getD ws p 0)) (omega arith)))
+    let w : ℕ = getD ws p 0 in
+    let b : Body = bodyOf (opcodeOf w) in
+    found-same (goesOn ws p) (targetsOf (waysOf ws b (pos (p + 1)) w)) (successorsOf ws p) (nextOf (classBy b) (length ws) w p)
+    (ap (λ (o : ℕ). targetsOf (waysOf ws (bodyOf o) (pos (p + 1)) w)) (opcode-is w))
+    (steps-by ws p e ∙ ap (λ (x : StepClass). nextOf x (length ws) w p) (class-by (opcodeOf w) (omega arith)))
+    (body-same ws (length ws) w p b)
     e
 
 -- Words that are run without a dispatch of their own.
@@ -175,79 +164,58 @@ wantedBy assert0 = alone
 wantedBy absent = alone
 
 -- it is the companion that the table wants
-abbrev wants : Body → Companion → Bool
-wants b c = cond (eqb (companionNumber (wantedBy b)) 0) true (eqb (companionNumber c) (companionNumber (wantedBy b)))
-
-wants-right : ℕ → Bool
-wants-right o = wants (vmdispatch switch o) (companionOf o)
-
-wants-below : T (all wants-right 64)
-unfolding wants-right companionOf
+wants-below : T (all (leansAt companionNumber companionFrom companion-back (λ o. wantedBy (bodyOf o)) companionOf) 64)
+unfolding companionOf
 wants-below = tt
-
-same-companion : (c d : Companion) → companionNumber c ≡ companionNumber d → c ≡ d
-same-companion c d e = sym (companion-back c) ∙ (ap companionFrom e ∙ companion-back d)
 
 opcode-fits : (ws : List ℕ) (p : ℕ) → opcodeAt ws p < 64
 unfolding opcodeAt
 opcode-fits ws p = omega arith
 
 -- the body of a word
-body-by : (ws : List ℕ) (q o : ℕ) → opcodeAt ws q ≡ o → bodyAt ws q ≡ vmdispatch switch o
+body-by : (ws : List ℕ) (q o : ℕ) → opcodeAt ws q ≡ o → bodyAt ws q ≡ bodyOf o
 unfolding bodyAt opcodeAt
-body-by ws q o e = ap (vmdispatch switch) (opcode-is (getD ws q 0) ∙ e)
+body-by ws q o e = ap bodyOf (opcode-is (getD ws q 0) ∙ e)
 
 -- the companion that a word that is not bad wants is there
 present : (ws : List ℕ) (p : ℕ) → isInvalid (successorsOf ws p) ≡ false → standsAt (companionOf (opcodeAt ws p)) ws p ≡ true
 unfolding successorsOf companionPresent
-present ws p e =
-    let steps : Successors = nextOf (classOf (opcodeAt ws p)) (length ws) (getD ws p 0) p in
-    let first = passed (ltb p (length ws)) (unless (companionPresent ws p) steps) e in
-    held (companionPresent ws p) steps (sym (ap isInvalid first) ∙ e)
+present ws p e = second-held (ltb p (length ws)) (companionPresent ws p) (nextOf (classOf (opcodeAt ws p)) (length ws) (getD ws p 0) p) e
 
 -- and so is the one that its body leans on
-module _ (ws : List ℕ) (p : ℕ) where
-  leaned : (b : Body) (c : Companion) (t : Bool) → eqb (companionNumber (wantedBy b)) 0 ≡ t
-      → T (cond t true (eqb (companionNumber c) (companionNumber (wantedBy b)))) → standsAt c ws p ≡ true → standsAt (wantedBy b) ws p ≡ true
-  leaned b c true e r there = ap (λ (d : Companion). standsAt d ws p) (same-companion (wantedBy b) alone (eqb-true _ _ e))
-  leaned b c false e r there = ap (λ (d : Companion). standsAt d ws p) (sym (same-companion c (wantedBy b) (eqb→eq _ _ r))) ∙ there
-
-  lean : isInvalid (successorsOf ws p) ≡ false → standsAt (wantedBy (bodyAt ws p)) ws p ≡ true
-  unfolding wants-right
-  lean e =
-      let o : ℕ = opcodeAt ws p in
-      let b : Body = vmdispatch switch o in
-      ap (λ (b : Body). standsAt (wantedBy b) ws p) (body-by ws p o refl)
-      ∙ leaned b (companionOf o) (eqb (companionNumber (wantedBy b)) 0) refl (laws .each-below wants-right 64 wants-below o (opcode-fits ws p)) (present ws p e)
+lean : (ws : List ℕ) (p : ℕ) → isInvalid (successorsOf ws p) ≡ false → standsAt (wantedBy (bodyAt ws p)) ws p ≡ true
+lean ws p e =
+    let o : ℕ = opcodeAt ws p in
+    ap (λ (b : Body). standsAt (wantedBy b) ws p) (body-by ws p o refl)
+    ∙ leans-below companionNumber companionFrom companion-back (λ c. standsAt c ws p) alone refl refl (λ o. wantedBy (bodyOf o)) companionOf 64 wants-below o (opcode-fits ws p) (present ws p e)
 
 -- where the case of a JMP leads
-jump-ways : (ws : List ℕ) (q : ℕ) → bodyAt ws q ≡ jmp → waysAt ws q ≡ fetch (dojump (pos q) (getD ws q 0) (pos 1)) ∷ []
+jump-ways : (ws : List ℕ) (q : ℕ) → bodyAt ws q ≡ jmp → waysAt ws q ≡ fetch (dojump (pos (q + 1)) (getD ws q 0) (pos 0)) ∷ []
 unfolding waysAt
-jump-ways ws q e =
-    ap (λ (b : Body). waysOf ws b (pos (q + 1)) (getD ws q 0)) e
-    ∙ ap (λ (z : ℤ). fetch z ∷ []) (sym (one-later q («GETARG_sBx» (getD ws q 0))))
+jump-ways ws q e = ap (λ (b : Body). waysOf ws b (pos (q + 1)) (getD ws q 0)) e
 
 module _ (ws : List ℕ) (p : ℕ) where
-  fetched : (t : Bool) (x y : ℤ) → Alike ws (cond t (fetch x ∷ []) (fetch y ∷ []))
-  fetched true x y = tt
-  fetched false x y = tt
+  abbrev AlikeTo : List (Way Body) → Type 0
+  AlikeTo ways = Alike jmp (bodyAt ws) (waysAt ws) ways
+
+  either : (t : Bool) (x y : ℤ) → AlikeTo (cond t (fetch x ∷ []) (fetch y ∷ []))
+  either t x y = fetched jmp (bodyAt ws) (waysAt ws) t x y
 
   -- a JMP that is done at once, where it is done
-  at-once : (t : Bool) → standsAt jumpAfter ws p ≡ true → (ways : List Way) → Alike ws ways
-      → Alike ws (cond t (donextjump ws (pos (p + 1))) (fetch (pos (p + 1) +ℤ pos 1)) ∷ ways)
-  at-once true h ways rest =
+  test-alike : (t : Bool) → standsAt jumpAfter ws p ≡ true → (ways : List (Way Body)) → AlikeTo ways
+      → AlikeTo (cond t (donextjump ws (pos (p + 1))) (fetch (pos (p + 1) +ℤ pos 1)) ∷ ways)
+  test-alike t h ways rest =
       let b : bodyAt ws (p + 1) ≡ jmp = body-by ws (p + 1) «OP_JMP» (eqb-true _ _ h) in
-      (b, jump-ways ws (p + 1) b, rest)
-  at-once false h ways rest = rest
+      at-once jmp (bodyAt ws) (waysAt ws) (p + 1) («GETARG_sBx» (getD ws (p + 1) 0)) (pos (p + 1) +ℤ pos 1) b (jump-ways ws (p + 1) b) t ways rest
 
-  body-alike : (b : Body) → standsAt (wantedBy b) ws p ≡ true → Alike ws (waysOf ws b (pos (p + 1)) (getD ws p 0))
+  body-alike : (b : Body) → standsAt (wantedBy b) ws p ≡ true → AlikeTo (waysOf ws b (pos (p + 1)) (getD ws p 0))
   body-alike compare h =
       let a : ℕ = «GETARG_A» (getD ws p 0) in
-      at-once (eqb 0 a) h (compared ws (pos (p + 1)) (getD ws p 0) 1 ∷ []) (at-once (eqb 1 a) h [] tt)
-  body-alike test h = at-once true h [] tt
+      test-alike (eqb 0 a) h (compared ws (pos (p + 1)) (getD ws p 0) 1 ∷ []) (test-alike (eqb 1 a) h [] tt)
+  body-alike test h = test-alike true h [] tt
   body-alike tforcall h = (body-by ws (p + 1) «OP_TFORLOOP» (eqb-true _ _ h), tt)
-  body-alike loadbool h = fetched (eqb («GETARG_C» (getD ws p 0)) 0) (pos (p + 1)) (pos (p + 1) +ℤ pos 1)
-  body-alike setlist h = fetched (eqb («GETARG_C» (getD ws p 0)) 0) (pos (p + 1) +ℤ pos 1) (pos (p + 1))
+  body-alike loadbool h = either (eqb («GETARG_C» (getD ws p 0)) 0) (pos (p + 1)) (pos (p + 1) +ℤ pos 1)
+  body-alike setlist h = either (eqb («GETARG_C» (getD ws p 0)) 0) (pos (p + 1) +ℤ pos 1) (pos (p + 1))
   body-alike still h = tt
   body-alike loadkx h = tt
   body-alike jmp h = tt
@@ -260,7 +228,7 @@ module _ (ws : List ℕ) (p : ℕ) where
   body-alike assert0 h = tt
   body-alike absent h = tt
 
-alike : (ws : List ℕ) (p : ℕ) → isInvalid (successorsOf ws p) ≡ false → Alike ws (waysAt ws p)
+alike : (ws : List ℕ) (p : ℕ) → isInvalid (successorsOf ws p) ≡ false → AlikeTo ws p (waysAt ws p)
 unfolding waysAt
 alike ws p e = body-alike ws p (bodyAt ws p) (lean ws p e)
 

@@ -12,7 +12,7 @@ use Rattle.runs.specs.declared.edges.Successors.{Successors}
 use Rattle.runs.specs.declared.edges.Successors.the-variants.{One, Two}
 use Rattle.graph.specs.Graph.{In}
 use Rattle.runs.specs.Steps.{unless, one, ordered, two, isInvalid, listOf}
-use Rattle.runs.specs.Lvm.{integers}
+use Rattle.runs.specs.Ways.{integers}
 
 -- Sets of next words.
 

@@ -11,7 +11,7 @@ use lib.IntN.{ℤ, pos, negsuc, _+ℤ_, _-ℤ_}
 use lib.ListN.{length, getD}
 use Rattle.graph.specs.Graph.{In}
 use Rattle.runs.specs.Steps.{isInvalid, listOf}
-use Rattle.runs.specs.Lvm.{integers}
+use Rattle.runs.specs.Ways.{integers}
 use Rattle.runs.specs.Successors53.{successorsOf}
 
 -- a word by its bits: the opcode is bits 0 to 5, A 6 to 13, C 14 to 22, Bx 14 to 31, and sBx is Bx - 131,071

@@ -11,7 +11,7 @@ use lib.IntN.{ℤ, pos, _+ℤ_, _-ℤ_}
 use lib.ListN.{length, getD}
 use Rattle.graph.specs.Graph.{In}
 use Rattle.runs.specs.Steps.{isInvalid, listOf}
-use Rattle.runs.specs.Lvm.{integers}
+use Rattle.runs.specs.Ways.{integers}
 use Rattle.runs.specs.Successors.{successorsOf}
 use Rattle.runs.specs.Bad53.{between, anyOutside}
 

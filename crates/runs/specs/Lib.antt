@@ -2,6 +2,7 @@
 pub mod Columns
 pub mod Columns53
 pub mod Steps
+pub mod Ways
 pub mod Successors
 pub mod Lvm
 pub mod Successors53

@@ -4,18 +4,15 @@
 -- these are the next words of document 01's table of steps.
 -- Assumes nothing.
 use Prim.Native.Nat.{ℕ, _+_}
-use mathlib.Core.Path.{_≡_}
-use mathlib.Core.Logic.{_↔_}
-use mathlib.Core.Bool.{false, cond}
+use mathlib.Core.Bool.{cond}
 use mathlib.Core.List.{List, [], _∷_}
 use lib.Dec.{eqb}
-use lib.IntN.{ℤ, pos, negsuc, _+ℤ_, _-ℤ_}
+use lib.IntN.{ℤ, pos, _+ℤ_, _-ℤ_}
 use lib.ListN.{getD}
 use Rattle.fields.specs.Opcodes.{«OP_MOVE», «OP_LOADI», «OP_LOADF», «OP_LOADK», «OP_LOADKX», «OP_LOADFALSE», «OP_LFALSESKIP», «OP_LOADTRUE», «OP_LOADNIL», «OP_GETUPVAL», «OP_SETUPVAL», «OP_GETTABUP», «OP_GETTABLE», «OP_GETI», «OP_GETFIELD», «OP_SETTABUP», «OP_SETTABLE», «OP_SETI», «OP_SETFIELD», «OP_NEWTABLE», «OP_SELF», «OP_ADDI», «OP_ADDK», «OP_SUBK», «OP_MULK», «OP_MODK», «OP_POWK», «OP_DIVK», «OP_IDIVK», «OP_BANDK», «OP_BORK», «OP_BXORK», «OP_SHRI», «OP_SHLI», «OP_ADD», «OP_SUB», «OP_MUL», «OP_MOD», «OP_POW», «OP_DIV», «OP_IDIV», «OP_BAND», «OP_BOR», «OP_BXOR», «OP_SHR», «OP_SHL», «OP_MMBIN», «OP_MMBINI», «OP_MMBINK», «OP_UNM», «OP_BNOT», «OP_NOT», «OP_LEN», «OP_CONCAT», «OP_CLOSE», «OP_TBC», «OP_JMP», «OP_EQ», «OP_LT», «OP_LE», «OP_EQK», «OP_EQI», «OP_LTI», «OP_LEI», «OP_GTI», «OP_GEI», «OP_TEST», «OP_TESTSET», «OP_CALL», «OP_TAILCALL», «OP_RETURN», «OP_RETURN0», «OP_RETURN1», «OP_FORLOOP», «OP_FORPREP», «OP_TFORPREP», «OP_TFORCALL», «OP_TFORLOOP», «OP_SETLIST», «OP_CLOSURE», «OP_VARARG», «OP_VARARGPREP», «OP_EXTRAARG»}
 use Rattle.fields.specs.Lopcodes.{«GET_OPCODE», «GETARG_Bx», «GETARG_sJ», «TESTARG_k»}
-use Rattle.graph.specs.Graph.{In}
-use Rattle.runs.specs.Steps.{isInvalid, listOf}
 use Rattle.runs.specs.Successors.{successorsOf}
+use Rattle.runs.specs.Ways.{Way, fetch, along, jumped, wordAt, Case, vmcase, vmdispatch, targetsOf, Agree}
 
 -- what the cases of the switch do to pc
 pub data Body : Type 0 where
@@ -53,35 +50,19 @@ pub data Body : Type 0 where
   -- the switch has no such case, and no default
   absent : Body
 
--- how a case goes on
-pub data Way : Type 0 where
-  -- `vmbreak`: the loop fetches the word at pc
-  fetch : ℤ → Way
-  -- `goto l_tforcall`, `goto l_tforloop`: the word at pc is run by the body at that label, whatever its opcode is, without a fetch and a
-  -- dispatch of its own. Document 01 takes going there for a step of its own
-  along : Body → ℤ → Way
-  -- the word at the first pc is run as a JMP at once, whatever its opcode is, and leaves pc at the second. Document 01 takes going there
-  -- for a step of its own, too
-  jumped : ℤ → ℤ → Way
-
--- *pc
-abbrev pub wordAt : List ℕ → ℤ → ℕ
-wordAt ws (pos q) = getD ws q 0
-wordAt ws (negsuc q) = 0
-
 -- #define dojump(ci,i,e)  { pc += GETARG_sJ(i) + e; .. }
 abbrev pub dojump : ℤ → ℕ → ℤ → ℤ
 dojump pc i e = pc +ℤ («GETARG_sJ» i +ℤ e)
 
 -- #define donextjump(ci)  { Instruction ni = *pc; dojump(ci, ni, 1); }
-abbrev pub donextjump : List ℕ → ℤ → Way
+abbrev pub donextjump : List ℕ → ℤ → Way Body
 donextjump ws pc = jumped pc (dojump pc (wordAt ws pc) (pos 1))
 
 -- #define docondjump()  if (cond != GETARG_k(i)) pc++; else donextjump(ci);
-abbrev pub docondjump : List ℕ → ℤ → List Way
+abbrev pub docondjump : List ℕ → ℤ → List (Way Body)
 docondjump ws pc = fetch (pc +ℤ pos 1) ∷ donextjump ws pc ∷ []
 
-abbrev pub waysOf : List ℕ → Body → ℤ → ℕ → List Way
+abbrev pub waysOf : List ℕ → Body → ℤ → ℕ → List (Way Body)
 waysOf ws still pc i = fetch pc ∷ []
 waysOf ws skip pc i = fetch (pc +ℤ pos 1) ∷ []
 waysOf ws arith pc i = fetch (pc +ℤ pos 1) ∷ fetch pc ∷ []
@@ -100,11 +81,8 @@ waysOf ws setlist pc i = cond (eqb («TESTARG_k» i) 0) (fetch pc ∷ []) (fetch
 waysOf ws assert0 pc i = []
 waysOf ws absent pc i = []
 
-pub data Case : Type 0 where
-  vmcase : ℕ → Body → Case
-
 -- the cases, in the C's order
-abbrev pub switch : List Case
+abbrev pub switch : List (Case Body)
 switch =
     vmcase «OP_MOVE» still
     ∷ vmcase «OP_LOADI» still
@@ -191,51 +169,21 @@ switch =
     ∷ vmcase «OP_EXTRAARG» assert0
     ∷ []
 
-abbrev pub vmdispatch : List Case → ℕ → Body
-vmdispatch [] o = absent
-vmdispatch (vmcase opcode body ∷ cases) o = cond (eqb o opcode) body (vmdispatch cases o)
-
--- the word that is executed next
-abbrev pub targetOf : Way → ℤ
-targetOf (fetch pc) = pc
-targetOf (along body pc) = pc
-targetOf (jumped pc after) = pc
-
-abbrev pub targetsOf : List Way → List ℤ
-targetsOf [] = []
-targetsOf (way ∷ ways) = targetOf way ∷ targetsOf ways
+abbrev pub bodyOf : ℕ → Body
+bodyOf opcode = vmdispatch switch absent opcode
 
 -- the body to which the switch sends word p
 unfoldable pub bodyAt : List ℕ → ℕ → Body
-bodyAt ws p = vmdispatch switch («GET_OPCODE» (getD ws p 0))
+bodyAt ws p = bodyOf («GET_OPCODE» (getD ws p 0))
 
 -- how luaV_execute can go on after word p, `i = *(pc++)`
-unfoldable pub waysAt : List ℕ → ℕ → List Way
+unfoldable pub waysAt : List ℕ → ℕ → List (Way Body)
 waysAt ws p = waysOf ws (bodyAt ws p) (pos (p + 1)) (getD ws p 0)
 
 -- the words at which it can go on
 abbrev pub goesOn : List ℕ → ℕ → List ℤ
 goesOn ws p = targetsOf (waysAt ws p)
 
-abbrev pub integers : List ℕ → List ℤ
-integers [] = []
-integers (q ∷ qs) = pos q ∷ integers qs
-
--- each word that is run without a dispatch of its own is run as the switch would run it: by the body to which its opcode leads, or as the
--- JMP that it is, which leaves pc where that case would
-abbrev pub Alike : List ℕ → List Way → Type 0
-Alike ws [] = Unit {0}
-Alike ws (fetch pc ∷ ways) = Alike ws ways
-Alike ws (along body (pos q) ∷ ways) = (bodyAt ws q ≡ body) × Alike ws ways
-Alike ws (along body (negsuc q) ∷ ways) = ⊥
-Alike ws (jumped (pos q) after ∷ ways) = (bodyAt ws q ≡ jmp) × (waysAt ws q ≡ fetch after ∷ []) × Alike ws ways
-Alike ws (jumped (negsuc q) after ∷ ways) = ⊥
-
-pub record Agreement : Type 0 where
-  -- "for a word that is not bad, the set of next words is the same"
-  pub same :
-      (ws : List ℕ) (p : ℕ) → isInvalid (successorsOf ws p) ≡ false →
-      (z : ℤ) → In z (goesOn ws p) ↔ In z (integers (listOf (successorsOf ws p)))
-  -- "Where lvm.c takes the next word along without fetching it anew (JMP after a test, TFORCALL after TFORPREP, TFORLOOP after TFORCALL),
-  -- going to that word is a step of its own": what is run there, and where it leads, is what a fetch of that word would run
-  pub alike : (ws : List ℕ) (p : ℕ) → isInvalid (successorsOf ws p) ≡ false → Alike ws (waysAt ws p)
+-- for a word that is not bad these are the next words of document 01's table of steps
+abbrev pub Agreement : Type 0
+Agreement = Agree jmp bodyAt waysAt successorsOf

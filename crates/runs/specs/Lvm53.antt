@@ -3,19 +3,15 @@
 -- left out. `Agreement` says that for a word that is not bad these are the successors of specs/Successors53.antt.
 -- Assumes nothing.
 use Prim.Native.Nat.{ℕ, _+_}
-use mathlib.Core.Path.{_≡_}
-use mathlib.Core.Logic.{_↔_}
-use mathlib.Core.Bool.{false, cond}
+use mathlib.Core.Bool.{cond}
 use mathlib.Core.List.{List, [], _∷_}
 use lib.Dec.{eqb}
-use lib.IntN.{ℤ, pos, negsuc, _+ℤ_}
+use lib.IntN.{ℤ, pos, _+ℤ_}
 use lib.ListN.{getD}
 use Rattle.fields.specs.Opcodes53.{«OP_MOVE», «OP_LOADK», «OP_LOADKX», «OP_LOADBOOL», «OP_LOADNIL», «OP_GETUPVAL», «OP_GETTABUP», «OP_GETTABLE», «OP_SETTABUP», «OP_SETUPVAL», «OP_SETTABLE», «OP_NEWTABLE», «OP_SELF», «OP_ADD», «OP_SUB», «OP_MUL», «OP_MOD», «OP_POW», «OP_DIV», «OP_IDIV», «OP_BAND», «OP_BOR», «OP_BXOR», «OP_SHL», «OP_SHR», «OP_UNM», «OP_BNOT», «OP_NOT», «OP_LEN», «OP_CONCAT», «OP_JMP», «OP_EQ», «OP_LT», «OP_LE», «OP_TEST», «OP_TESTSET», «OP_CALL», «OP_TAILCALL», «OP_RETURN», «OP_FORLOOP», «OP_FORPREP», «OP_TFORCALL», «OP_TFORLOOP», «OP_SETLIST», «OP_CLOSURE», «OP_VARARG», «OP_EXTRAARG»}
 use Rattle.fields.specs.Lopcodes53.{«GET_OPCODE», «GETARG_A», «GETARG_C», «GETARG_sBx»}
-use Rattle.graph.specs.Graph.{In}
-use Rattle.runs.specs.Steps.{isInvalid, listOf}
-use Rattle.runs.specs.Lvm.{wordAt, integers}
 use Rattle.runs.specs.Successors53.{successorsOf}
+use Rattle.runs.specs.Ways.{Way, fetch, along, jumped, wordAt, Case, vmcase, vmdispatch, targetsOf, Agree}
 
 -- what the cases of the switch do to pc
 pub data Body : Type 0 where
@@ -53,29 +49,19 @@ pub data Body : Type 0 where
   -- the switch has no such case, and no default
   absent : Body
 
--- how a case goes on
-pub data Way : Type 0 where
-  -- `vmbreak`: the loop fetches the word at pc
-  fetch : ℤ → Way
-  -- `goto l_tforloop`: the word at pc is run by the body at that label, whatever its opcode is, without a fetch and a dispatch of its own. Going there
-  -- is a step of its own
-  along : Body → ℤ → Way
-  -- the word at the first pc is run as a JMP at once, whatever its opcode is, and leaves pc at the second. Going there is a step of its own, too
-  jumped : ℤ → ℤ → Way
-
 -- #define dojump(ci,i,e)  { ..; ci->u.l.savedpc += GETARG_sBx(i) + e; }
 abbrev pub dojump : ℤ → ℕ → ℤ → ℤ
 dojump pc i e = pc +ℤ («GETARG_sBx» i +ℤ e)
 
 -- #define donextjump(ci)  { i = *ci->u.l.savedpc; dojump(ci, i, 1); }
-abbrev pub donextjump : List ℕ → ℤ → Way
+abbrev pub donextjump : List ℕ → ℤ → Way Body
 donextjump ws pc = jumped pc (dojump pc (wordAt ws pc) (pos 1))
 
 -- a comparison, luaV_equalobj, luaV_lessthan or luaV_lessequal, that came out as this number
-abbrev pub compared : List ℕ → ℤ → ℕ → ℕ → Way
+abbrev pub compared : List ℕ → ℤ → ℕ → ℕ → Way Body
 compared ws pc i result = cond (eqb result («GETARG_A» i)) (donextjump ws pc) (fetch (pc +ℤ pos 1))
 
-abbrev pub waysOf : List ℕ → Body → ℤ → ℕ → List Way
+abbrev pub waysOf : List ℕ → Body → ℤ → ℕ → List (Way Body)
 waysOf ws still pc i = fetch pc ∷ []
 waysOf ws loadkx pc i = fetch (pc +ℤ pos 1) ∷ []
 waysOf ws loadbool pc i = cond (eqb («GETARG_C» i) 0) (fetch pc ∷ []) (fetch (pc +ℤ pos 1) ∷ [])
@@ -95,11 +81,8 @@ waysOf ws setlist pc i = cond (eqb («GETARG_C» i) 0) (fetch (pc +ℤ pos 1) �
 waysOf ws assert0 pc i = []
 waysOf ws absent pc i = []
 
-pub data Case : Type 0 where
-  vmcase : ℕ → Body → Case
-
 -- the cases, in the C's order
-abbrev pub switch : List Case
+abbrev pub switch : List (Case Body)
 switch =
     vmcase «OP_MOVE» still
     ∷ vmcase «OP_LOADK» still
@@ -150,46 +133,21 @@ switch =
     ∷ vmcase «OP_EXTRAARG» assert0
     ∷ []
 
-abbrev pub vmdispatch : List Case → ℕ → Body
-vmdispatch [] o = absent
-vmdispatch (vmcase opcode body ∷ cases) o = cond (eqb o opcode) body (vmdispatch cases o)
-
--- the word that is executed next
-abbrev pub targetOf : Way → ℤ
-targetOf (fetch pc) = pc
-targetOf (along body pc) = pc
-targetOf (jumped pc after) = pc
-
-abbrev pub targetsOf : List Way → List ℤ
-targetsOf [] = []
-targetsOf (way ∷ ways) = targetOf way ∷ targetsOf ways
+abbrev pub bodyOf : ℕ → Body
+bodyOf opcode = vmdispatch switch absent opcode
 
 -- the body to which the switch sends word p
 unfoldable pub bodyAt : List ℕ → ℕ → Body
-bodyAt ws p = vmdispatch switch («GET_OPCODE» (getD ws p 0))
+bodyAt ws p = bodyOf («GET_OPCODE» (getD ws p 0))
 
 -- how luaV_execute can go on after word p, `i = *(ci->u.l.savedpc++)`
-unfoldable pub waysAt : List ℕ → ℕ → List Way
+unfoldable pub waysAt : List ℕ → ℕ → List (Way Body)
 waysAt ws p = waysOf ws (bodyAt ws p) (pos (p + 1)) (getD ws p 0)
 
 -- the words at which it can go on
 abbrev pub goesOn : List ℕ → ℕ → List ℤ
 goesOn ws p = targetsOf (waysAt ws p)
 
--- each word that is run without a dispatch of its own is run as the switch would run it: by the body to which its opcode leads, or as the JMP that it
--- is, which leaves pc where that case would
-abbrev pub Alike : List ℕ → List Way → Type 0
-Alike ws [] = Unit {0}
-Alike ws (fetch pc ∷ ways) = Alike ws ways
-Alike ws (along body (pos q) ∷ ways) = (bodyAt ws q ≡ body) × Alike ws ways
-Alike ws (along body (negsuc q) ∷ ways) = ⊥
-Alike ws (jumped (pos q) after ∷ ways) = (bodyAt ws q ≡ jmp) × (waysAt ws q ≡ fetch after ∷ []) × Alike ws ways
-Alike ws (jumped (negsuc q) after ∷ ways) = ⊥
-
-pub record Agreement : Type 0 where
-  -- the set of next words is the same
-  pub same :
-      (ws : List ℕ) (p : ℕ) → isInvalid (successorsOf ws p) ≡ false →
-      (z : ℤ) → In z (goesOn ws p) ↔ In z (integers (listOf (successorsOf ws p)))
-  -- what is run without a fetch of its own is what a fetch of that word would run
-  pub alike : (ws : List ℕ) (p : ℕ) → isInvalid (successorsOf ws p) ≡ false → Alike ws (waysAt ws p)
+-- for a word that is not bad these are its successors
+abbrev pub Agreement : Type 0
+Agreement = Agree jmp bodyAt waysAt successorsOf

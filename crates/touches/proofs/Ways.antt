@@ -18,6 +18,7 @@ use Rattle.fields.proofs.Laws.{laws}
 use Rattle.graph.specs.Graph.{In}
 use Rattle.graph.proofs.Laws as graph
 use Rattle.runs.specs.Steps.{isInvalid, listOf}
+use Rattle.runs.specs.Ways.{fetch, jumped, targetOf, targetsOf, integers}
 use Rattle.runs.specs.Lvm as lvm
 use Rattle.runs.proofs.Laws as runs
 use Rattle.fields.specs.declared.version.Version.{Version}
@@ -56,7 +57,12 @@ gosBy lvm.setlist = «pc++-if-k» ∷ []
 gosBy lvm.assert0 = []
 gosBy lvm.absent = []
 
-body-nexts : (ws : List ℕ) (body : lvm.Body) (pc : ℤ) (i : ℕ) → nextsBy Lua54 (gosBy body) pc i ≡ lvm.targetsOf (lvm.waysOf ws body pc i)
+-- a test of a field, and where it leads
+either : (Body : Type 0) (t : Bool) (x y : ℤ) → cond t x y ∷ [] ≡ targetsOf {Body = Body} (cond t (fetch x ∷ []) (fetch y ∷ []))
+either Body true x y = refl
+either Body false x y = refl
+
+body-nexts : (ws : List ℕ) (body : lvm.Body) (pc : ℤ) (i : ℕ) → nextsBy Lua54 (gosBy body) pc i ≡ targetsOf (lvm.waysOf ws body pc i)
 body-nexts ws lvm.still pc i = refl
 body-nexts ws lvm.skip pc i = refl
 body-nexts ws lvm.arith pc i = refl
@@ -70,38 +76,9 @@ body-nexts ws lvm.forprep pc i = refl
 body-nexts ws lvm.tforprep pc i = refl
 body-nexts ws lvm.tforcall pc i = refl
 body-nexts ws lvm.tforloop pc i = refl
-body-nexts ws lvm.setlist pc i = go (eqb («TESTARG_k» i) 0)
-  where
-    go : (t : Bool) → cond t pc (pc +ℤ pos 1) ∷ [] ≡ lvm.targetsOf (cond t (lvm.fetch pc ∷ []) (lvm.fetch (pc +ℤ pos 1) ∷ []))
-    go true = refl
-    go false = refl
+body-nexts ws lvm.setlist pc i = either lvm.Body (eqb («TESTARG_k» i) 0) pc (pc +ℤ pos 1)
 body-nexts ws lvm.assert0 pc i = refl
 body-nexts ws lvm.absent pc i = refl
-
--- The two switches go on alike: a test that antt computes
-
-alike-at : ℕ → Bool
-alike-at o = same (goNumbers (gosOf (waysOf Lua54 o))) (goNumbers (gosBy (lvm.vmdispatch lvm.switch o)))
-
-alike-below : T (all alike-at 128)
-unfolding alike-at waysOf
-alike-below = tt
-
-gos-alike : (o : ℕ) → o < 128 → gosOf (waysOf Lua54 o) ≡ gosBy (lvm.vmdispatch lvm.switch o)
-unfolding alike-at
-gos-alike o h =
-    sym (gos-back (gosOf (waysOf Lua54 o)))
-    ∙ (ap gosFrom
-    (by-test (goNumbers (gosOf (waysOf Lua54 o))) (goNumbers (gosBy (lvm.vmdispatch lvm.switch o))) (laws .each-below alike-at 128 alike-below o h))
-    ∙ gos-back (gosBy (lvm.vmdispatch lvm.switch o)))
-
-pub opcode-is : (v : Version) (w : ℕ) → «GET_OPCODE-of» v w ≡ opcodeBy v w
-opcode-is Lua54 w = ap (λ (i : RawInstruction54). i .«opcode_num») (laws .lopcodes w)
-opcode-is Lua53 w = ap (λ (i : RawInstruction53). i .«opcode_num») (laws .lua53 .lopcodes w)
-
-pub opcode-fits : (v : Version) (w : ℕ) → «GET_OPCODE-of» v w < opcodesOf v
-opcode-fits Lua54 w = rw (opcode-is Lua54 w) (omega arith)
-opcode-fits Lua53 w = rw (opcode-is Lua53 w) (omega arith)
 
 -- the same of 5.3
 abbrev gosBy53 : lvm53.Body → List Go
@@ -122,18 +99,14 @@ gosBy53 lvm53.setlist = «pc++-if-not-C» ∷ []
 gosBy53 lvm53.assert0 = []
 gosBy53 lvm53.absent = []
 
-either53 : (t : Bool) (x y : ℤ) → cond t x y ∷ [] ≡ lvm53.targetsOf (cond t (lvm53.fetch x ∷ []) (lvm53.fetch y ∷ []))
-either53 true x y = refl
-either53 false x y = refl
-
-jumps53 : (t : Bool) (x after y : ℤ) → cond t x y ≡ lvm53.targetOf (cond t (lvm53.jumped x after) (lvm53.fetch y))
+jumps53 : (t : Bool) (x after y : ℤ) → cond t x y ≡ targetOf {Body = lvm53.Body} (cond t (jumped x after) (fetch y))
 jumps53 true x after y = refl
 jumps53 false x after y = refl
 
-body-nexts53 : (ws : List ℕ) (body : lvm53.Body) (pc : ℤ) (i : ℕ) → nextsBy Lua53 (gosBy53 body) pc i ≡ lvm53.targetsOf (lvm53.waysOf ws body pc i)
+body-nexts53 : (ws : List ℕ) (body : lvm53.Body) (pc : ℤ) (i : ℕ) → nextsBy Lua53 (gosBy53 body) pc i ≡ targetsOf (lvm53.waysOf ws body pc i)
 body-nexts53 ws lvm53.still pc i = refl
 body-nexts53 ws lvm53.loadkx pc i = refl
-body-nexts53 ws lvm53.loadbool pc i = either53 (eqb (lopcodes53.«GETARG_C» i) 0) pc (pc +ℤ pos 1)
+body-nexts53 ws lvm53.loadbool pc i = either lvm53.Body (eqb (lopcodes53.«GETARG_C» i) 0) pc (pc +ℤ pos 1)
 body-nexts53 ws lvm53.jmp pc i = refl
 body-nexts53 ws lvm53.compare pc i =
     ap₂ (λ (x y : ℤ). x ∷ y ∷ []) (jumps53 (eqb 0 (lopcodes53.«GETARG_A» i)) pc _ (pc +ℤ pos 1)) (jumps53 (eqb 1 (lopcodes53.«GETARG_A» i)) pc _ (pc +ℤ pos 1))
@@ -145,42 +118,54 @@ body-nexts53 ws lvm53.forloop pc i = refl
 body-nexts53 ws lvm53.forprep pc i = refl
 body-nexts53 ws lvm53.tforcall pc i = refl
 body-nexts53 ws lvm53.tforloop pc i = refl
-body-nexts53 ws lvm53.setlist pc i = either53 (eqb (lopcodes53.«GETARG_C» i) 0) (pc +ℤ pos 1) pc
+body-nexts53 ws lvm53.setlist pc i = either lvm53.Body (eqb (lopcodes53.«GETARG_C» i) 0) (pc +ℤ pos 1) pc
 body-nexts53 ws lvm53.assert0 pc i = refl
 body-nexts53 ws lvm53.absent pc i = refl
 
-alike53-at : ℕ → Bool
-alike53-at o = same (goNumbers (gosOf (waysOf Lua53 o))) (goNumbers (gosBy53 (lvm53.vmdispatch lvm53.switch o)))
+-- The two switches go on alike: a test that antt computes
 
-alike53-below : T (all alike53-at 64)
-unfolding alike53-at waysOf
-alike53-below = tt
+abbrev gosAt : Version → ℕ → List Go
+gosAt Lua54 o = gosBy (lvm.bodyOf o)
+gosAt Lua53 o = gosBy53 (lvm53.bodyOf o)
 
-gos-alike53 : (o : ℕ) → o < 64 → gosOf (waysOf Lua53 o) ≡ gosBy53 (lvm53.vmdispatch lvm53.switch o)
-unfolding alike53-at
-gos-alike53 o h =
-    sym (gos-back (gosOf (waysOf Lua53 o)))
-    ∙ (ap gosFrom
-    (by-test (goNumbers (gosOf (waysOf Lua53 o))) (goNumbers (gosBy53 (lvm53.vmdispatch lvm53.switch o))) (laws .each-below alike53-at 64 alike53-below o h))
-    ∙ gos-back (gosBy53 (lvm53.vmdispatch lvm53.switch o)))
+alike-at : Version → ℕ → Bool
+alike-at v o = same (goNumbers (gosOf (waysOf v o))) (goNumbers (gosAt v o))
+
+alike-below : (v : Version) → T (all (alike-at v) (opcodesOf v))
+unfolding alike-at waysOf
+alike-below Lua54 = tt
+alike-below Lua53 = tt
+
+gos-alike : (v : Version) (o : ℕ) → o < opcodesOf v → gosOf (waysOf v o) ≡ gosAt v o
+unfolding alike-at
+gos-alike v o h =
+    sym (gos-back (gosOf (waysOf v o)))
+    ∙ (ap gosFrom (by-test (goNumbers (gosOf (waysOf v o))) (goNumbers (gosAt v o)) (laws .each-below (alike-at v) (opcodesOf v) (alike-below v) o h))
+    ∙ gos-back (gosAt v o))
+
+pub opcode-is : (v : Version) (w : ℕ) → «GET_OPCODE-of» v w ≡ opcodeBy v w
+opcode-is Lua54 w = ap (λ (i : RawInstruction54). i .«opcode_num») (laws .lopcodes w)
+opcode-is Lua53 w = ap (λ (i : RawInstruction53). i .«opcode_num») (laws .lua53 .lopcodes w)
+
+pub opcode-fits : (v : Version) (w : ℕ) → «GET_OPCODE-of» v w < opcodesOf v
+opcode-fits Lua54 w = rw (opcode-is Lua54 w) (omega arith)
+opcode-fits Lua53 w = rw (opcode-is Lua53 w) (omega arith)
+
+bodies-alike : (v : Version) (ws : List ℕ) (p : ℕ) → nextsBy v (gosAt v («GET_OPCODE-of» v (getD ws p 0))) (pos (p + 1)) (getD ws p 0) ≡ goesOn v ws p
+unfolding lvm.waysAt lvm.bodyAt lvm53.waysAt lvm53.bodyAt
+bodies-alike Lua54 ws p = body-nexts ws (lvm.bodyOf («GET_OPCODE» (getD ws p 0))) (pos (p + 1)) (getD ws p 0)
+bodies-alike Lua53 ws p = body-nexts53 ws (lvm53.bodyOf (lopcodes53.«GET_OPCODE» (getD ws p 0))) (pos (p + 1)) (getD ws p 0)
 
 pub same-ways : (v : Version) (ws : List ℕ) (p : ℕ) → nexts v (waysAt v ws p) (pos (p + 1)) (getD ws p 0) ≡ goesOn v ws p
-unfolding lvm.waysAt lvm.bodyAt lvm53.waysAt lvm53.bodyAt
-same-ways Lua54 ws p =
+same-ways v ws p =
     let w = getD ws p 0 in
-    nexts-by Lua54 (waysAt Lua54 ws p) (pos (p + 1)) w
-    ∙ (ap (λ (gos : List Go). nextsBy Lua54 gos (pos (p + 1)) w) (gos-alike («GET_OPCODE» w) (opcode-fits Lua54 w))
-    ∙ body-nexts ws (lvm.vmdispatch lvm.switch («GET_OPCODE» w)) (pos (p + 1)) w)
-same-ways Lua53 ws p =
-    let w = getD ws p 0 in
-    nexts-by Lua53 (waysAt Lua53 ws p) (pos (p + 1)) w
-    ∙ (ap (λ (gos : List Go). nextsBy Lua53 gos (pos (p + 1)) w) (gos-alike53 (lopcodes53.«GET_OPCODE» w) (opcode-fits Lua53 w))
-    ∙ body-nexts53 ws (lvm53.vmdispatch lvm53.switch (lopcodes53.«GET_OPCODE» w)) (pos (p + 1)) w)
+    nexts-by v (waysAt v ws p) (pos (p + 1)) w
+    ∙ (ap (λ (gos : List Go). nextsBy v gos (pos (p + 1)) w) (gos-alike v («GET_OPCODE-of» v w) (opcode-fits v w)) ∙ bodies-alike v ws p)
 
 -- the ways of either version are the word's steps
 ways-are :
     (v : Version) (ws : List ℕ) (p : ℕ) → isInvalid (stepsOf v ws p) ≡ false → (z : ℤ) →
-    In z (nexts v (waysAt v ws p) (pos (p + 1)) (getD ws p 0)) ↔ In z (lvm.integers (listOf (stepsOf v ws p)))
+    In z (nexts v (waysAt v ws p) (pos (p + 1)) (getD ws p 0)) ↔ In z (integers (listOf (stepsOf v ws p)))
 ways-are Lua54 ws p valid z = rw (same-ways Lua54 ws p) (runs.laws .agreement .same ws p valid z)
 ways-are Lua53 ws p valid z = rw (same-ways Lua53 ws p) (runs.laws .agreement53 .same ws p valid z)
 
@@ -193,11 +178,11 @@ same-number q r e = ap magnitude e
     magnitude (pos n) = n
     magnitude (negsuc n) = n
 
-in-numbers : (q : ℕ) (xs : List ℕ) → In (pos q) (lvm.integers xs) → In q xs
+in-numbers : (q : ℕ) (xs : List ℕ) → In (pos q) (integers xs) → In q xs
 in-numbers q [] a = a
 in-numbers q (x ∷ xs) a = ⊎-elim (λ e. inl (same-number q x e)) (λ b. inr (in-numbers q xs b)) a
 
-none-below : (n : ℕ) (xs : List ℕ) → In (negsuc n) (lvm.integers xs) → ⊥
+none-below : (n : ℕ) (xs : List ℕ) → In (negsuc n) (integers xs) → ⊥
 none-below n [] a = absurd a
 none-below n (x ∷ xs) a = ⊎-elim (λ e. signs e) (λ b. none-below n xs b) a
   where
@@ -215,7 +200,7 @@ module _ (v : Version) (ws : List ℕ) (p : ℕ) (valid : isInvalid (stepsOf v w
   abbrev Reached : ℤ → Type 0
   Reached z = In z (nexts v (waysAt v ws p) (pos (p + 1)) word)
 
-  reached : (z : ℤ) → Reached z → In z (lvm.integers (listOf (stepsOf v ws p)))
+  reached : (z : ℤ) → Reached z → In z (integers (listOf (stepsOf v ws p)))
   reached z a = ways-are v ws p valid z .0 a
 
   pub to-successor : (q : ℕ) → Reached (pos q) → isStep v ws p q ≡ true

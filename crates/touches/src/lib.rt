@@ -14,4 +14,4 @@ pub mod word;
 
 pub use answer::Touches;
 pub use word::touches;
-pub use word::touches_for;
+pub use word::touches_53;

@@ -3,17 +3,17 @@ ghost use mathlib.Core.Path.{_≡_};
 ghost use mathlib.Core.List.{[], _∷_};
 ghost use Prim.Native.Nat.{_+_, _-_, _/_, _%_, _^_, _<_};
 ghost use lib.ListN.{length, getD};
+ghost use Rattle.fields.specs.declared.version.Version.the-variants.{Lua54, Lua53};
 ghost use Rattle.runs.specs.Steps.{isInvalid};
 ghost use Rattle.touches.specs.Words.{opcodeBy, argumentsOf};
 ghost use Rattle.touches.specs.Cases.{edgeOf};
-ghost use Rattle.runs.specs.Script.{stepsOf};
 ghost use Rattle.touches.specs.Operands.{locationOf};
 ghost use Rattle.touches.specs.Table.{tableOf, accessTable, operandFrom, edgeFrom, touchesFrom, touchesLent, touchesWith};
 ghost use Rattle.touches.specs.Touches.{touchesBy, touchesFor, touchesOf};
 use crate::answer::Touches;
 use crate::arguments::Arguments;
 use crate::arguments::arguments_of;
-use crate::arguments::opcode_of;
+use crate::arguments::arguments_of_53;
 use crate::indices::constants_in;
 use crate::indices::upvalues_in;
 use crate::intervals::ranges_in;
@@ -23,7 +23,6 @@ use crate::operands::*;
 use crate::table::TABLE;
 use crate::table53::TABLE_53;
 use crate::tops::top_in;
-use fields::version::Version;
 use fields::word53::OFFSET_SBX;
 use runs::edges::Successors;
 
@@ -35,15 +34,9 @@ pub fn table() -> [u64; 128]
 }
 
 fn table_53() -> [u64; 64]
-    ensures { λ r. ⌜ r ≡ tableOf Version.Lua53 ⌝ }
+    ensures { λ r. ⌜ r ≡ tableOf Lua53 ⌝ }
 {
     TABLE_53
-}
-
-fn row_at(rows: &[u64], i: usize) -> u64
-    ensures { λ r. ⌜ r ≡ getD (now (rows .entry)) i 0 ⌝ }
-{
-    if i < rows.len() { rows[i] } else { 0 }
 }
 
 fn word_at(words: &[u32], i: usize) -> u32
@@ -158,27 +151,10 @@ fn previous(p: usize) -> usize
     if p == 0 { 0 } else { p - 1 }
 }
 
-// The answer for a word that is not bad.
-fn touches_at(version: Version, rows: &[u64], words: &[u32], p: usize) -> Touches
-    requires { ⌜ p < length (now words) ⌝ }
-    ensures { λ r. ⌜ r ≡ touchesFrom (getD (now (rows .entry)) (opcodeBy version (getD (now (words .entry)) p 0)) 0) (argumentsOf version (getD (now (words .entry)) p 0)) (argumentsOf version (getD (now (words .entry)) (p - 1) 0) .a) (argumentsOf version (getD (now (words .entry)) (p + 1) 0) .ax) p ⌝ }
+fn is_bad(steps: Successors) -> bool
+    ensures { λ r. ⌜ r ≡ isInvalid steps ⌝ }
 {
-    let word = words[p];
-    let before = arguments_of(version, word_at(words, previous(p)));
-    let after = arguments_of(version, word_at(words, p + 1));
-    touched_by(
-        row_at(rows, opcode_of(version, word)),
-        arguments_of(version, word),
-        before.a,
-        after.ax,
-        p,
-    )
-}
-
-fn is_bad(version: Version, words: &[u32], p: usize) -> bool
-    ensures { λ r. ⌜ r ≡ isInvalid (stepsOf version (now (words .entry)) p) ⌝ }
-{
-    match runs::script::successors(version, words, p) {
+    match steps {
         Successors::Invalid => true,
         Successors::Stop => false,
         Successors::One(_) => false,
@@ -186,30 +162,26 @@ fn is_bad(version: Version, words: &[u32], p: usize) -> bool
     }
 }
 
-// By a table that the caller lends: what loops call, with the one of that version.
-pub fn touches_lent(version: Version, rows: &[u64], words: &[u32], p: usize) -> Touches
-    ensures { λ r. ⌜ r ≡ touchesLent version (now (rows .entry)) (now (words .entry)) p ⌝ }
+// Words of 5.4. First the answer for a word that is not bad.
+fn touches_at(rows: &[u64; 128], words: &[u32], p: usize) -> Touches
+    requires { ⌜ p < length (now words) ⌝ }
+    ensures { λ r. ⌜ r ≡ touchesFrom (getD (now (rows .entry)) (opcodeBy Lua54 (getD (now (words .entry)) p 0)) 0) (argumentsOf Lua54 (getD (now (words .entry)) p 0)) (argumentsOf Lua54 (getD (now (words .entry)) (p - 1) 0) .a) (argumentsOf Lua54 (getD (now (words .entry)) (p + 1) 0) .ax) p ⌝ }
 {
-    if is_bad(version, words, p) {
-        return nothing();
-    }
-    touches_at(version, rows, words, p)
+    let word = words[p];
+    let before = arguments_of(word_at(words, previous(p)));
+    let after = arguments_of(word_at(words, p + 1));
+    let row = rows[(word % 128) as usize];
+    touched_by(row, arguments_of(word), before.a, after.ax, p)
 }
 
-pub fn touches_for(version: Version, words: &[u32], p: usize) -> Touches
-    ensures { λ r. ⌜ r ≡ touchesFor version (now (words .entry)) p ⌝ }
-{
-    match version {
-        Version::Lua54 => touches(words, p),
-        Version::Lua53 => touches_53(words, p),
-    }
-}
-
-// For 5.4, by a lent table and by the code's own.
+// By a table that the caller lends: what loops call.
 pub fn touches_in(rows: &[u64; 128], words: &[u32], p: usize) -> Touches
     ensures { λ r. ⌜ r ≡ touchesWith (now (rows .entry)) (now (words .entry)) p ⌝ }
 {
-    touches_lent(Version::Lua54, rows, words, p)
+    if is_bad(runs::successors::successors(words, p)) {
+        return nothing();
+    }
+    touches_at(rows, words, p)
 }
 
 pub fn touches(words: &[u32], p: usize) -> Touches
@@ -219,9 +191,30 @@ pub fn touches(words: &[u32], p: usize) -> Touches
     touches_in(&rows, words, p)
 }
 
-fn touches_53(words: &[u32], p: usize) -> Touches
-    ensures { λ r. ⌜ r ≡ touchesFor Version.Lua53 (now (words .entry)) p ⌝ }
+// The same of 5.3.
+fn touches_at_53(rows: &[u64; 64], words: &[u32], p: usize) -> Touches
+    requires { ⌜ p < length (now words) ⌝ }
+    ensures { λ r. ⌜ r ≡ touchesFrom (getD (now (rows .entry)) (opcodeBy Lua53 (getD (now (words .entry)) p 0)) 0) (argumentsOf Lua53 (getD (now (words .entry)) p 0)) (argumentsOf Lua53 (getD (now (words .entry)) (p - 1) 0) .a) (argumentsOf Lua53 (getD (now (words .entry)) (p + 1) 0) .ax) p ⌝ }
+{
+    let word = words[p];
+    let before = arguments_of_53(word_at(words, previous(p)));
+    let after = arguments_of_53(word_at(words, p + 1));
+    let row = rows[(word % 64) as usize];
+    touched_by(row, arguments_of_53(word), before.a, after.ax, p)
+}
+
+fn touches_in_53(rows: &[u64; 64], words: &[u32], p: usize) -> Touches
+    ensures { λ r. ⌜ r ≡ touchesLent Lua53 (now (rows .entry)) (now (words .entry)) p ⌝ }
+{
+    if is_bad(runs::successors53::successors(words, p)) {
+        return nothing();
+    }
+    touches_at_53(rows, words, p)
+}
+
+pub fn touches_53(words: &[u32], p: usize) -> Touches
+    ensures { λ r. ⌜ r ≡ touchesFor Lua53 (now (words .entry)) p ⌝ }
 {
     let rows = table_53();
-    touches_lent(Version::Lua53, &rows, words, p)
+    touches_in_53(&rows, words, p)
 }

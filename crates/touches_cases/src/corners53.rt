@@ -2,7 +2,6 @@
 use crate::print;
 use crate::words53::*;
 use fields::opcodes53::*;
-use fields::version::Version;
 use fields::word53::OFFSET_SBX;
 
 // The second of four words; the others are MOVE.
@@ -17,7 +16,7 @@ fn show_before(label: &[u8], word: u32, after: u32) {
 
 fn show_at(label: &[u8], words: &[u32], p: usize) {
     print::case_53(label);
-    print::touches(touches::touches_for(Version::Lua53, words, p));
+    print::touches(touches::touches_53(words, p));
 }
 
 fn jmp() -> u32 {

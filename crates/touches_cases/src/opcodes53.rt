@@ -3,7 +3,6 @@
 use crate::print;
 use crate::words53::*;
 use fields::opcodes53::*;
-use fields::version::Version;
 use fields::word53::OFFSET_SBX;
 
 fn has_sbx(opcode: u8) -> bool {
@@ -37,7 +36,7 @@ fn show(opcode: u8, bit: u32) {
         plain(OP_MOVE),
     ];
     print::opcode_53(opcode, bit);
-    print::touches(touches::touches_for(Version::Lua53, &words, 1));
+    print::touches(touches::touches_53(&words, 1));
 }
 
 pub fn all() {

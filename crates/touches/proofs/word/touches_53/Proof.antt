@@ -9,7 +9,9 @@ use Rattle.touches.proofs.word.touches_53.Statement.{statement}
 use Rattle.touches.proofs.word.touches_53.Tie as tie
 
 returns : tie.Need-returns
-returns c = c .touches-lent .ensures ∙ rw (c .before .before .table-53 .ensures) (by-table Lua53 (now (c .before .before .before .before .args .words)) (c .before .before .before .before .args .p))
+returns c =
+    let start = c .before .before .before .before in
+    c .touches-in-53 .ensures ∙ rw (c .before .before .table-53 .ensures) (by-table Lua53 (now (start .args .words)) (start .args .p))
 
 pub touches-53-spec : {M : Type 1} → statement M
-touches-53-spec = tie.close (tie.spec (λ c κs. search needs) (λ c. search needs) (λ c κs. search needs) returns)
+touches-53-spec = tie.close (tie.spec (λ c κs. search needs) (λ c κs. search needs) returns)
