@@ -5,7 +5,7 @@
 
 #include "lawendeb.h"
 
-enum { N = LAWENDEB_RECORD_NUMBERS, MANY = LAWENDEB_MOST_WORDS + 1 };
+enum { N = LAWENDEB_RECORD_NUMBERS, MANY = LAWENDEB_MOST_WORDS + 1, ROOM = 12 };
 
 static int checks, wrong;
 
@@ -71,7 +71,7 @@ static void fields(void) {
 
 /* ---- steps */
 
-static int has(struct lawendeb_successors s, uint64_t kind, uint64_t first, uint64_t second) {
+static int has(struct lawendeb_steps s, uint64_t kind, uint64_t first, uint64_t second) {
     return s.kind == kind && s.first == first && s.second == second;
 }
 
@@ -529,7 +529,6 @@ static void worst(void) {
 
 /* ---- records */
 
-enum { ROOM = 12 };
 static uint64_t numbers[ROOM * N];
 
 static uint64_t lent_number(size_t i) {
@@ -584,9 +583,7 @@ static uint64_t number(size_t i, size_t at) {
 enum { TARGET = 4, COMPANION = 6, FALLBACK = 8, EFFECT = 10 };
 enum { OPERANDS = 14, READS = 31, WRITES = 44 };
 
-static const uint8_t no_tags[1] = {0}, no_bytes[1] = {0};
-static const uint64_t no_payloads[1] = {0}, no_names[1] = {0};
-static const struct tables empty = {no_tags, 0, no_payloads, 0, no_names, 0, no_bytes, 0};
+static const struct tables empty = {NULL, 0, NULL, 0, NULL, 0, NULL, 0};
 
 /* The P cases on records. */
 static void records(void) {
@@ -708,7 +705,7 @@ static int indexed(struct lawendeb_indices r, unsigned count, uint32_t first, ui
 }
 
 /* What a test does not name is empty. */
-static int nothing_else(struct lawendeb_touches t, int reads, int tops, int indices, int writes,
+static int nothing_else(struct lawendeb_touched t, int reads, int tops, int indices, int writes,
                         int on_edge) {
     return (reads || ranged(t.reads, 0, 0, 0)) &&
            (tops || (topped(t.reads_to_top, 0, 0) && topped(t.writes_to_top, 0, 0))) &&
@@ -730,7 +727,7 @@ static void touches(void) {
         EXTRAARG + 128 * 33554431u,      word_abc(SETUPVAL, 8, 2, 0),
         word_abx(FORPREP, 10, 0),        word_abx(FORLOOP, 10, 0),
         word_abc(ADD, 1, 2, 3),          word_abc(RETURN, 7, 0, 0)};
-    struct lawendeb_touches t;
+    struct lawendeb_touched t;
     size_t p;
     t = lawendeb_touches(words, 14, 0);
     CHECK(ranged(t.reads, 1, 2, 2) && ranged(t.writes, 1, 1, 1) && nothing_else(t, 1, 0, 0, 1, 0));
@@ -786,7 +783,8 @@ static void touches(void) {
 static struct lawendeb_meters four(struct lawendeb_meter axis, struct lawendeb_meter focuser,
                                    struct lawendeb_meter dome, struct lawendeb_meter guider) {
     struct lawendeb_meters ms;
-    ms.axis = axis, ms.focuser = focuser, ms.dome = dome, ms.guider = guider;
+    ms.of[LAWENDEB_AXIS] = axis, ms.of[LAWENDEB_FOCUSER] = focuser;
+    ms.of[LAWENDEB_DOME] = dome, ms.of[LAWENDEB_GUIDER] = guider;
     return ms;
 }
 
@@ -839,16 +837,17 @@ static void fours(void) {
     CHECK(same_four(ms, four(meter_of(0, 0, 0, 40, 7), meter_of(0, 0, 0, 50, 3),
                              meter_of(0, 0, 0, 6, 0), meter_of(0, 0, 0, 6, 0))));
     /* within the budget, at it, above it; a step that serves is at it */
-    CHECK(feeds_four(&ms, LAWENDEB_AXIS, 1, 0) && shows(ms.axis, 1, 0, 1, 40));
+    CHECK(feeds_four(&ms, LAWENDEB_AXIS, 1, 0) && shows(ms.of[LAWENDEB_AXIS], 1, 0, 1, 40));
     CHECK(four_refuse(ms, LAWENDEB_FOCUSER, 1, 0, LAWENDEB_OVER_BUDGET));
-    CHECK(feeds_four(&ms, LAWENDEB_FOCUSER, 2, 0) && shows(ms.focuser, 1, 0, 1, 50));
+    CHECK(feeds_four(&ms, LAWENDEB_FOCUSER, 2, 0) && shows(ms.of[LAWENDEB_FOCUSER], 1, 0, 1, 50));
     CHECK(feeds_four(&ms, LAWENDEB_AXIS, 3, 1) && feeds_four(&ms, LAWENDEB_AXIS, 4, 3));
     CHECK(four_refuse(ms, LAWENDEB_DOME, 4, 0, LAWENDEB_OVER_BUDGET));
     CHECK(four_refuse(ms, LAWENDEB_AXIS, 1, 1, LAWENDEB_OVER_BUDGET));
-    CHECK(feeds_four(&ms, LAWENDEB_AXIS, 2, 1) && shows(ms.axis, 1, 1, 1, 41));
-    CHECK(ms.axis.highest == 7 && shows(ms.focuser, 1, 0, 1, 50));
+    CHECK(feeds_four(&ms, LAWENDEB_AXIS, 2, 1) && shows(ms.of[LAWENDEB_AXIS], 1, 1, 1, 41));
+    CHECK(ms.of[LAWENDEB_AXIS].highest == 7 && shows(ms.of[LAWENDEB_FOCUSER], 1, 0, 1, 50));
     CHECK(answered(lawendeb_reset_four(&ms, LAWENDEB_AXIS), LAWENDEB_ACCEPTED, 0));
-    CHECK(ms.axis.highest == 1 && ms.focuser.highest == 3 && shows(ms.axis, 1, 1, 1, 41));
+    CHECK(ms.of[LAWENDEB_AXIS].highest == 1 && shows(ms.of[LAWENDEB_AXIS], 1, 1, 1, 41));
+    CHECK(ms.of[LAWENDEB_FOCUSER].highest == 3);
     /* the order: 20, 21, 1, 18, 11, 10, 22 */
     ms = four(meter_of(1, 0, 2, 40, 1), full, full, full);
     CHECK(four_refuse_by(zero, 128, ms, MANY, 4, 0, 9, LAWENDEB_NO_SCRIPT, 0));
@@ -859,13 +858,13 @@ static void fours(void) {
     CHECK(four_refuse_by(zero, 128, ms, 4, 0, 1, 9, LAWENDEB_WEIGHTS_REFUSED, 90));
     CHECK(four_refuse_by(ones, 127, ms, 4, 0, 1, 9, LAWENDEB_WEIGHTS_REFUSED, 0));
     CHECK(four_refuse(ms, 0, 1, 9, LAWENDEB_FOREIGN_METER));
-    ms.axis.highest = 2;
+    ms.of[LAWENDEB_AXIS].highest = 2;
     CHECK(four_refuse(ms, 0, 1, 9, LAWENDEB_NO_STEP));
     CHECK(four_refuse(ms, 0, most, 1, LAWENDEB_OVER_BUDGET));
     /* the others are asked for nothing but their counts, whose sum does not wrap */
     ms = four(meter(0, 0, 0, 40), full, meter(0, 0, 0, 6), meter_of(0, 9, 1, 6, 0));
     CHECK(four_refuse(ms, 0, most, 0, LAWENDEB_OVER_BUDGET));
-    ms.focuser.count = most - 2;
+    ms.of[LAWENDEB_FOCUSER].count = most - 2;
     CHECK(feeds_four(&ms, 0, most, 0) && four_refuse(ms, 0, most, 1, LAWENDEB_OVER_BUDGET));
 }
 
@@ -948,7 +947,7 @@ static void assignments(void) {
 enum { SCRIPTS = LAWENDEB_MOST_SCRIPTS, PLACES = 8 };
 
 /* What is lent to a rehearsal; marks and lengths of 9 before it. */
-struct lent {
+struct slices {
     const uint32_t *words[SCRIPTS];
     size_t n[SCRIPTS];
     uint8_t choices[4];
@@ -957,12 +956,12 @@ struct lent {
     uint32_t lengths[PLACES];
 };
 
-static struct lent lent(const uint32_t *first, size_t n, const uint32_t *others, size_t m) {
-    struct lent l;
+static struct slices lent(const uint32_t *first, size_t n, const uint32_t *rest, size_t m) {
+    struct slices l;
     int i;
     memset(&l, 0, sizeof l);
     for (i = 0; i < SCRIPTS; i++) {
-        l.words[i] = i == 0 ? first : others;
+        l.words[i] = i == 0 ? first : rest;
         l.n[i] = i == 0 ? n : m;
     }
     for (i = 0; i < PLACES; i++) {
@@ -972,11 +971,25 @@ static struct lent lent(const uint32_t *first, size_t n, const uint32_t *others,
     return l;
 }
 
-static struct lawendeb_rehearsal rehearse(struct lent *l, size_t count, uint32_t q,
+/* By seventeen parameters, and by a struct, which must answer and leave the same. */
+static struct lawendeb_rehearsal rehearse(struct slices *l, size_t count, uint32_t q,
                                           uint32_t limit) {
-    return lawendeb_rehearse(l->words[0], l->n[0], l->words[1], l->n[1], l->words[2], l->n[2],
-                             l->words[3], l->n[3], count, q, l->choices, l->choices_n, limit,
-                             l->marks, PLACES, l->lengths, PLACES);
+    struct slices again = *l;
+    struct lawendeb_rotation r;
+    struct lawendeb_rehearsal a, b;
+    int i;
+    for (i = 0; i < SCRIPTS; i++)
+        r.scripts[i].at = l->words[i], r.scripts[i].n = l->n[i];
+    r.count = count, r.q = q, r.limit = limit;
+    r.choices = again.choices, r.choices_n = again.choices_n;
+    r.marks = again.marks, r.marks_n = PLACES, r.lengths = again.lengths, r.lengths_n = PLACES;
+    b = lawendeb_rehearse_rotation(&r);
+    a = lawendeb_rehearse(l->words[0], l->n[0], l->words[1], l->n[1], l->words[2], l->n[2],
+                          l->words[3], l->n[3], count, q, l->choices, l->choices_n, limit,
+                          l->marks, PLACES, l->lengths, PLACES);
+    CHECK(memcmp(&a, &b, sizeof a) == 0 && memcmp(l->marks, again.marks, sizeof l->marks) == 0 &&
+          memcmp(l->lengths, again.lengths, sizeof l->lengths) == 0);
+    return a;
 }
 
 static int waits(struct lawendeb_rehearsal r, uint64_t a, uint64_t b, uint64_t c, uint64_t d) {
@@ -990,7 +1003,7 @@ static int turned_away(struct lawendeb_rehearsal r, uint64_t number, uint64_t pl
 }
 
 /* The places after a run of n words in a row that ends with a return; those past n are 9. */
-static int left_by(const struct lent *l, uint32_t n) {
+static int left_by(const struct slices *l, uint32_t n) {
     uint32_t i;
     for (i = 0; i < PLACES; i++)
         if (l->marks[i] != (i < n ? 1 : 9) || l->lengths[i] != (i < n ? n - i : 9))
@@ -1003,7 +1016,7 @@ static void rehearsals(void) {
     const uint32_t six[6] = {0, 0, 0, 0, 0, RETURN0};
     const uint32_t loop0[2] = {word_abx(FORLOOP, 0, 0), RETURN0};
     const uint32_t loop1[4] = {word_abx(FORLOOP, 0, 1), 0, 0, RETURN0};
-    struct lent l = lent(three, 3, three, 3);
+    struct slices l = lent(three, 3, three, 3);
     CHECK(waits(rehearse(&l, 2, 1, 100), 1, 1, 0, 0) && left_by(&l, 3));
     CHECK(waits(rehearse(&l, 2, 2, UINT32_MAX), 2, 1, 0, 0));
     CHECK(waits(rehearse(&l, 2, 3, 100), 0, 0, 0, 0));
@@ -1083,10 +1096,21 @@ static int chunk_lent_from(size_t i) {
     return 1;
 }
 
+/* By eleven parameters, and by a struct, which must answer the same and fill as much. */
 static struct lawendeb_counts fill(const uint8_t *bytes, size_t n, size_t k, size_t words,
                                    size_t tags, size_t payloads, size_t names) {
-    return lawendeb_chunk_fill(bytes, n, k, chunk_words, words, chunk_tags, tags, chunk_payloads,
-                               payloads, chunk_names, names);
+    struct lawendeb_room r;
+    struct lawendeb_counts a, b;
+    r.words = chunk_words, r.words_n = words, r.tags = chunk_tags, r.tags_n = tags;
+    r.payloads = chunk_payloads, r.payloads_n = payloads;
+    r.names = chunk_names, r.names_n = names;
+    b = lawendeb_chunk_fill_room(bytes, n, k, &r);
+    CHECK(chunk_lent_from(b.words) && (b.words == 0 || !chunk_lent_from(0)));
+    lend_chunk();
+    a = lawendeb_chunk_fill(bytes, n, k, chunk_words, words, chunk_tags, tags, chunk_payloads,
+                            payloads, chunk_names, names);
+    CHECK(memcmp(&a, &b, sizeof a) == 0);
+    return a;
 }
 
 /* A chunk with the byte at an index changed. */
@@ -1152,7 +1176,7 @@ static int named(struct lawendeb_name s, uint64_t number, uint64_t place, uint64
 }
 
 static void shown(void) {
-    const uint8_t list[8] = {'o', 'u', 'r', ' ', 'l', 'i', 's', 't'};
+    const uint8_t ours[8] = {'o', 'u', 'r', ' ', 'l', 'i', 's', 't'};
     const uint64_t own[3] = {place_of(57, 4), place_of(3, 0), LAWENDEB_UNNAMED};
     const uint64_t other[3] = {place_of(0, 3), place_of(0, 3), place_of(4, 4)};
     const uint64_t past[2] = {LAWENDEB_UNNAMED, place_of(8, 1)};
@@ -1161,7 +1185,7 @@ static void shown(void) {
     for (i = 0; i <= LAWENDEB_MOST_NAMES; i++)
         full[i] = LAWENDEB_UNNAMED;
 #define NAME(own, own_n, other, other_n, i)                                                        \
-    lawendeb_upvalue_name(chunk, SIZE, own, own_n, list, sizeof list, other, other_n, i)
+    lawendeb_upvalue_name(chunk, SIZE, own, own_n, ours, sizeof ours, other, other_n, i)
     CHECK(named(NAME(own, 3, other, 3, 0), LAWENDEB_ACCEPTED, 0, 1, 57, 4));
     /* a name that is there and empty is a name */
     CHECK(named(NAME(own, 3, other, 3, 1), LAWENDEB_ACCEPTED, 0, 1, 3, 0));
@@ -1234,7 +1258,7 @@ static void fields_53(void) {
 }
 
 /* The steps of the second of four words, the others MOVE but for the one after it. */
-static struct lawendeb_successors second_53(uint32_t word, uint32_t after) {
+static struct lawendeb_steps second_53(uint32_t word, uint32_t after) {
     const uint32_t words[4] = {0, word, after, 0};
     return lawendeb_successors_53(words, 4, 1);
 }
@@ -1444,7 +1468,7 @@ static void touches_53(void) {
         jump_53(FORLOOP_53, 10, 2),     abc_53(SETLIST_53, 4, 0, 1),
         abc_53(EQ_53, 1, 6, k + 255),   jump_53(JMP_53, 3, 0),
         abc_53(EQ_53, 1, 6, k + 255),   abc_53(RETURN_53, 7, 3, 0)};
-    struct lawendeb_touches t;
+    struct lawendeb_touched t;
     t = lawendeb_touches_53(words, 14, 0);
     CHECK(ranged(t.reads, 1, 300, 300) && ranged(t.writes, 1, 1, 1));
     CHECK(nothing_else(t, 1, 0, 0, 1, 0));
@@ -1520,7 +1544,7 @@ static void siblings_53(void) {
     /* a script of each version, within one budget */
     CHECK(answered(lawendeb_feed_four_53(loop_53, 4, weights_53, W, &ms, LAWENDEB_DOME, 10, 0),
                    LAWENDEB_ACCEPTED, 0));
-    CHECK(shows(ms.dome, 1, 0, 10, 0) && shows(ms.axis, 0, 0, 0, 0));
+    CHECK(shows(ms.of[LAWENDEB_DOME], 1, 0, 10, 0) && shows(ms.of[LAWENDEB_AXIS], 0, 0, 0, 0));
     before = ms;
     CHECK(answered(lawendeb_feed_four(sheet, 4, ones, W, &ms, LAWENDEB_AXIS, 10, 0),
                    LAWENDEB_OVER_BUDGET, 0));
@@ -1542,12 +1566,191 @@ static void siblings_53(void) {
                    LAWENDEB_ACCEPTED, 0));
     CHECK(answered(lawendeb_feed_four_53(loop_53, 4, weights_53, W, &ms, LAWENDEB_DOME, 41, 2),
                    LAWENDEB_ACCEPTED, 0));
-    CHECK(shows(ms.axis, 1, 0, 1, 0) && shows(ms.dome, 1, 2, 40, 0));
-    ms.dome.last = 4;
+    CHECK(shows(ms.of[LAWENDEB_AXIS], 1, 0, 1, 0) && shows(ms.of[LAWENDEB_DOME], 1, 2, 40, 0));
+    ms.of[LAWENDEB_DOME].last = 4;
     before = ms;
     CHECK(answered(lawendeb_feed_four_53(loop_53, 4, ones, W, &ms, LAWENDEB_DOME, 1, 9),
                    LAWENDEB_FOREIGN_METER, 0));
     CHECK(same_four(ms, before));
+}
+
+/* ---- null, with a length of 0
+
+   An access through null stops the program, and what the archives clear comes here first:
+   examples/calls links with --wrap=memset. */
+
+static unsigned cleared, cleared_null;
+
+#ifdef __cplusplus
+extern "C" {
+#endif
+void *__real_memset(void *at, int byte, size_t n);
+void *__wrap_memset(void *at, int byte, size_t n);
+#ifdef __cplusplus
+}
+#endif
+
+void *__wrap_memset(void *at, int byte, size_t n) {
+    cleared++;
+    cleared_null += at == NULL;
+    return __real_memset(at, byte, n);
+}
+
+/* The functions that are there for both versions. */
+struct version {
+    const uint32_t *words; /* four, accepted */
+    struct lawendeb_steps (*successors)(const uint32_t *, size_t, size_t);
+    struct lawendeb_touched (*touches)(const uint32_t *, size_t, size_t);
+    struct lawendeb_run (*run)(const uint32_t *, size_t, const uint8_t *, size_t, uint8_t *, size_t,
+                               uint32_t *, size_t);
+    struct lawendeb_run_range (*runs)(const uint32_t *, size_t, const uint8_t *, size_t,
+                                      const uint8_t *, size_t, uint8_t *, size_t, uint32_t *,
+                                      size_t);
+    struct lawendeb_answer (*feed)(const uint32_t *, size_t, const uint8_t *, size_t,
+                                   struct lawendeb_meter *, size_t);
+    struct lawendeb_answer (*feed_four)(const uint32_t *, size_t, const uint8_t *, size_t,
+                                        struct lawendeb_meters *, uint32_t, uint32_t, size_t);
+    struct lawendeb_nearest (*nearest)(const uint32_t *, size_t, size_t, uint8_t *, size_t,
+                                       uint32_t *, size_t);
+    struct lawendeb_answer (*within)(const uint32_t *, size_t, size_t, uint8_t *, size_t,
+                                     uint32_t *, size_t, uint8_t *, size_t);
+    struct lawendeb_crossed (*crossed)(const uint32_t *, size_t, size_t, uint8_t *, size_t,
+                                       uint32_t *, size_t);
+};
+
+static void nulls_of(const struct version *v) {
+    enum { W = LAWENDEB_WEIGHTS };
+    const uint32_t *words = v->words;
+    struct lawendeb_meter m = meter(0, 0, 0, 0);
+    struct lawendeb_meters ms = four(m, m, m, m);
+    lend();
+    memset(list, 165, sizeof list);
+    CHECK(has(v->successors(NULL, 0, 0), LAWENDEB_KIND_INVALID, 0, 0));
+    CHECK(nothing_else(v->touches(NULL, 0, 0), 0, 0, 0, 0, 0));
+    /* nothing at all; words; weights; marks; lengths; all but the weights */
+    CHECK(ran(v->run(NULL, 0, NULL, 0, NULL, 0, NULL, 0), LAWENDEB_WEIGHTS_REFUSED, 0, 0, 0));
+    CHECK(ran(v->run(NULL, 0, ones, W, marks, 4, lengths, 4), LAWENDEB_NO_WORDS, 0, 0, 0));
+    CHECK(ran(v->run(words, 4, NULL, 0, marks, 4, lengths, 4), LAWENDEB_WEIGHTS_REFUSED, 0, 0, 0));
+    CHECK(ran(v->run(words, 4, ones, W, NULL, 0, lengths, 4), LAWENDEB_SHORT_SLICE, 0, 0, 0));
+    CHECK(ran(v->run(words, 4, ones, W, marks, 4, NULL, 0), LAWENDEB_SHORT_SLICE, 0, 0, 0));
+    CHECK(ran(v->run(NULL, 0, ones, W, NULL, 0, NULL, 0), LAWENDEB_NO_WORDS, 0, 0, 0));
+    CHECK(refused_both(v->runs(NULL, 0, NULL, 0, NULL, 0, NULL, 0, NULL, 0),
+                       LAWENDEB_WEIGHTS_REFUSED, 0));
+    CHECK(refused_both(v->runs(NULL, 0, ones, W, ones, W, NULL, 0, NULL, 0), LAWENDEB_NO_WORDS, 0));
+    CHECK(refused_both(v->runs(words, 4, NULL, 0, ones, W, marks, 4, lengths, 4),
+                       LAWENDEB_WEIGHTS_REFUSED, 0));
+    CHECK(refused_both(v->runs(words, 4, ones, W, NULL, 0, marks, 4, lengths, 4),
+                       LAWENDEB_WEIGHTS_REFUSED, 0));
+    CHECK(refused_both(v->runs(words, 4, ones, W, ones, W, NULL, 0, lengths, 4),
+                       LAWENDEB_SHORT_SLICE, 0));
+    CHECK(refused_both(v->runs(words, 4, ones, W, ones, W, marks, 4, NULL, 0),
+                       LAWENDEB_SHORT_SLICE, 0));
+    CHECK(answered(v->feed(NULL, 0, ones, W, &m, 0), LAWENDEB_NO_STEP, 0));
+    CHECK(answered(v->feed(words, 4, NULL, 0, &m, 0), LAWENDEB_WEIGHTS_REFUSED, 0));
+    CHECK(answered(v->feed(NULL, 0, NULL, 0, &m, 0), LAWENDEB_WEIGHTS_REFUSED, 0));
+    CHECK(answered(v->feed_four(NULL, 0, ones, W, &ms, 0, 9, 0), LAWENDEB_NO_STEP, 0));
+    CHECK(answered(v->feed_four(words, 4, NULL, 0, &ms, 0, 9, 0), LAWENDEB_WEIGHTS_REFUSED, 0));
+    CHECK(answered(v->feed_four(NULL, 0, NULL, 0, &ms, 0, 9, 0), LAWENDEB_WEIGHTS_REFUSED, 0));
+    CHECK(nearest_is(v->nearest(NULL, 0, 0, NULL, 0, NULL, 0), LAWENDEB_NO_WORDS, 0, 0, 0));
+    CHECK(nearest_is(v->nearest(words, 4, 0, NULL, 0, lengths, 4), LAWENDEB_SHORT_SLICE, 0, 0, 0));
+    CHECK(nearest_is(v->nearest(words, 4, 0, marks, 4, NULL, 0), LAWENDEB_SHORT_SLICE, 0, 0, 0));
+    CHECK(crossed_is(v->crossed(NULL, 0, 0, NULL, 0, NULL, 0), LAWENDEB_NO_WORDS, 0, 0));
+    CHECK(crossed_is(v->crossed(words, 4, 0, NULL, 0, lengths, 4), LAWENDEB_SHORT_SLICE, 0, 0));
+    CHECK(crossed_is(v->crossed(words, 4, 0, marks, 4, NULL, 0), LAWENDEB_SHORT_SLICE, 0, 0));
+    CHECK(answered(v->within(NULL, 0, 9, NULL, 0, NULL, 0, NULL, 0), LAWENDEB_NO_WORDS, 0));
+    CHECK(answered(v->within(words, 4, 9, NULL, 0, lengths, 4, list, 4), LAWENDEB_SHORT_SLICE, 0));
+    CHECK(answered(v->within(words, 4, 9, marks, 4, NULL, 0, list, 4), LAWENDEB_SHORT_SLICE, 0));
+    CHECK(answered(v->within(words, 4, 9, marks, 4, lengths, 4, NULL, 0), LAWENDEB_SHORT_SLICE, 0));
+    CHECK(lent_from(0) && list[0] == 165);
+}
+
+static void nulls(void) {
+    const struct version lua54 = {sheet,
+                                  lawendeb_successors,
+                                  lawendeb_touches,
+                                  lawendeb_longest_run,
+                                  lawendeb_longest_runs,
+                                  lawendeb_feed,
+                                  lawendeb_feed_four,
+                                  lawendeb_distance_to_service,
+                                  lawendeb_list_within,
+                                  lawendeb_crossing_edges};
+    const struct version lua53 = {loop_53,
+                                  lawendeb_successors_53,
+                                  lawendeb_touches_53,
+                                  lawendeb_longest_run_53,
+                                  lawendeb_longest_runs_53,
+                                  lawendeb_feed_53,
+                                  lawendeb_feed_four_53,
+                                  lawendeb_distance_to_service_53,
+                                  lawendeb_list_within_53,
+                                  lawendeb_crossing_edges_53};
+    const uint64_t none = LAWENDEB_UNNAMED;
+    static uint8_t bare[32 + 14];
+    struct tables t = empty;
+    struct lawendeb_rotation r;
+    struct lawendeb_room room;
+    uint8_t own_marks[4];
+    uint32_t own_lengths[4];
+    size_t n;
+    nulls_of(&lua54);
+    nulls_of(&lua53);
+
+    /* a lift: all; the numbers; the string bytes, with names and constants that need none */
+    CHECK(answered(lawendeb_lift(NULL, 0, NULL, 0, NULL, 0, NULL, 0, NULL, 0, NULL, 0),
+                   LAWENDEB_ACCEPTED, 0));
+    CHECK(answered(lawendeb_lift(sheet, 4, NULL, 0, NULL, 0, NULL, 0, NULL, 0, NULL, 0),
+                   LAWENDEB_SHORT_SLICE, 0));
+    t.tags = many_tags, t.tags_n = 4, t.payloads = many_payloads, t.payloads_n = 4;
+    CHECK(answered(lift(sheet, 4, &t, 4 * N), LAWENDEB_ACCEPTED, 0));
+    t.payloads = NULL, t.payloads_n = 0;
+    CHECK(lift_refuses(sheet, 4, &t, 4 * N, LAWENDEB_CONSTANT_COUNT, 0));
+    t = empty;
+    t.names = &none, t.names_n = 1;
+    CHECK(answered(lift(sheet, 4, &t, 4 * N), LAWENDEB_ACCEPTED, 0));
+
+    lend();
+    CHECK(answered(lawendeb_definite_assignment(NULL, 0, 0, NULL, 0), LAWENDEB_NO_WORDS, 0));
+    CHECK(answered(lawendeb_definite_assignment(NULL, 0, 0, marks, 4), LAWENDEB_NO_WORDS, 0));
+    CHECK(answered(lawendeb_definite_assignment(sheet, 4, 0, NULL, 0), LAWENDEB_SHORT_SLICE, 0));
+    CHECK(lent_from(0));
+
+    /* a rehearsal of one script, all that it does not need zeroed; then of none, and without room */
+    memset(&r, 0, sizeof r);
+    r.scripts[0].at = sheet, r.scripts[0].n = 4, r.count = 1, r.q = 1, r.limit = 100;
+    r.marks = own_marks, r.marks_n = 4, r.lengths = own_lengths, r.lengths_n = 4;
+    CHECK(waits(lawendeb_rehearse_rotation(&r), 0, 0, 0, 0));
+    r.count = 2;
+    CHECK(turned_away(lawendeb_rehearse_rotation(&r), LAWENDEB_NO_WORDS, 0));
+    r.count = 1, r.marks = NULL, r.marks_n = 0;
+    CHECK(turned_away(lawendeb_rehearse_rotation(&r), LAWENDEB_SHORT_SLICE, 0));
+    r.marks = own_marks, r.marks_n = 4, r.lengths = NULL, r.lengths_n = 0;
+    CHECK(turned_away(lawendeb_rehearse_rotation(&r), LAWENDEB_SHORT_SLICE, 0));
+    memset(&r, 0, sizeof r);
+    CHECK(turned_away(lawendeb_rehearse_rotation(&r), LAWENDEB_OUT_OF_RANGE, 0));
+    r.count = 4, r.q = 1;
+    CHECK(turned_away(lawendeb_rehearse_rotation(&r), LAWENDEB_NO_WORDS, 0));
+
+    /* a chunk; room for a function that has nothing; no room for one that has */
+    memset(&room, 0, sizeof room);
+    n = levels(bare, 1);
+    CHECK(counted(lawendeb_chunk_count(NULL, 0, 0), LAWENDEB_MALFORMED_CHUNK, 0, 0, 0, 0));
+    CHECK(counted(lawendeb_chunk_fill_room(NULL, 0, 0, &room), LAWENDEB_MALFORMED_CHUNK, 0, 0, 0,
+                  0));
+    CHECK(counted(lawendeb_chunk_fill_room(bare, n, 0, &room), LAWENDEB_ACCEPTED, 0, 0, 0, 0));
+    CHECK(counted(lawendeb_chunk_fill_room(chunk, SIZE, 0, &room), LAWENDEB_SHORT_SLICE, 0, 0, 0,
+                  0));
+    lend_chunk();
+    room.words = chunk_words, room.words_n = 2, room.tags = chunk_tags, room.tags_n = 2;
+    room.payloads = chunk_payloads, room.payloads_n = 2;
+    CHECK(counted(lawendeb_chunk_fill_room(chunk, SIZE, 0, &room), LAWENDEB_SHORT_SLICE, 0, 0, 0,
+                  0));
+    CHECK(chunk_lent_from(0));
+    CHECK(named(lawendeb_upvalue_name(NULL, 0, NULL, 0, NULL, 0, NULL, 0, 0), LAWENDEB_ACCEPTED, 0,
+                0, 0, 0));
+    CHECK(named(lawendeb_upvalue_name(NULL, 0, &none, 1, NULL, 0, &none, 1, 0), LAWENDEB_ACCEPTED,
+                0, 0, 0, 0));
+    CHECK(cleared > 0 && cleared_null == 0);
 }
 
 int main(void) {
@@ -1578,6 +1781,7 @@ int main(void) {
     services_53();
     touches_53();
     siblings_53();
+    nulls();
     printf("calls: %d checks, %d wrong\n", checks, wrong);
     return wrong != 0;
 }

@@ -36,11 +36,6 @@ static const struct script scripts[SCRIPTS] = {
 
 static uint8_t weights[LAWENDEB_WEIGHTS];
 
-static const struct lawendeb_meter *meter_of(const struct lawendeb_meters *ms, uint32_t i) {
-    const struct lawendeb_meter *each[SCRIPTS] = {&ms->axis, &ms->focuser, &ms->dome, &ms->guider};
-    return each[i];
-}
-
 /* Four times the largest longest run, 0 if a script is refused. */
 static uint32_t whole_budget(void) {
     uint32_t largest = 0;
@@ -84,8 +79,9 @@ static unsigned take_turns(struct lawendeb_meters *ms, uint32_t budget) {
                                    s->path[next[i]]);
             printf("  %s, word %zu: %" PRIu64 "; counts %" PRIu32 " %" PRIu32 " %" PRIu32 " %" PRIu32
                    "\n",
-                   s->name, s->path[next[i]], a.number, ms->axis.count, ms->focuser.count,
-                   ms->dome.count, ms->guider.count);
+                   s->name, s->path[next[i]], a.number, ms->of[LAWENDEB_AXIS].count,
+                   ms->of[LAWENDEB_FOCUSER].count, ms->of[LAWENDEB_DOME].count,
+                   ms->of[LAWENDEB_GUIDER].count);
             if (a.number == LAWENDEB_ACCEPTED)
                 next[i]++, moved = 1;
             else
@@ -94,8 +90,7 @@ static unsigned take_turns(struct lawendeb_meters *ms, uint32_t budget) {
     }
     for (uint32_t i = 0; i < SCRIPTS; i++)
         printf("  %s: %zu of %zu words, services %" PRIu32 ", worst %" PRIu32 "\n",
-               scripts[i].name, next[i], scripts[i].length, meter_of(ms, i)->services,
-               meter_of(ms, i)->highest);
+               scripts[i].name, next[i], scripts[i].length, ms->of[i].services, ms->of[i].highest);
     return back;
 }
 

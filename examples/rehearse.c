@@ -20,9 +20,21 @@ static const uint8_t choices[] = {0, 0, 0, 0, 0, 0, 1, 0, 0, 0, 0, 0, 1, 0, 0, 0
 static int rehearse(uint32_t q) {
     uint8_t marks[MOST];
     uint32_t lengths[MOST];
-    struct lawendeb_rehearsal r = lawendeb_rehearse(
-        axis, COUNT(axis), focuser, COUNT(focuser), dome, COUNT(dome), guider, COUNT(guider),
-        SCRIPTS, q, choices, COUNT(choices), LIMIT, marks, MOST, lengths, MOST);
+    const struct lawendeb_rotation rotation = {
+        .scripts = {{axis, COUNT(axis)},
+                    {focuser, COUNT(focuser)},
+                    {dome, COUNT(dome)},
+                    {guider, COUNT(guider)}},
+        .count = SCRIPTS,
+        .choices = choices,
+        .choices_n = COUNT(choices),
+        .q = q,
+        .limit = LIMIT,
+        .marks = marks,
+        .marks_n = MOST,
+        .lengths = lengths,
+        .lengths_n = MOST};
+    struct lawendeb_rehearsal r = lawendeb_rehearse_rotation(&rotation);
     printf("%4" PRIu32, q);
     if (r.number != LAWENDEB_ACCEPTED) {
         printf("  refused: number %" PRIu64 ", place %" PRIu64 "\n", r.number, r.place);

@@ -1,39 +1,48 @@
-/* Lawendeb for C and C++, on x86-64 Linux (System V calls). What the functions do is proved; what
-   is asked of the caller stands here.
+/* SPDX-License-Identifier: MIT OR Apache-2.0 (LICENSE-MIT, LICENSE-APACHE)
 
-   Twelve archives, to be linked alone or side by side; all are made in target/staticlib/:
-     libmeter.a     begin, feed and reset, for controllers: `rt staticlib meter`. It needs no
-                    symbol.
-     libexports.a   fields, steps, the longest run, records: `rt staticlib exports`. It needs
-                    memset.
-     libranges.a    the longest run by two tables: `rt staticlib ranges`. It needs memset.
-     libservice.a   nearest service, crossing steps: `rt staticlib service`. It needs memset.
-     libtouches.a   what a word reads and writes: `rt staticlib touches`. It needs memset.
-     libassignment.a  registers set before use: `rt staticlib assignment`. It needs memset.
-     libbudget.a    begin, feed and reset of four scripts: `rt staticlib budget`. It needs no
-                    symbol.
-     librehearsal.a scripts in rotation: `rt staticlib rehearsal`. It needs memset.
-     libchunk.a     compiled scripts: `rt staticlib chunk`. It needs memset.
-     liblua53.a     scripts of Lua 5.3, for older controllers: `rt staticlib lua53`. It needs
-                    memset.
-     libmeter53.a   the feed of a script of Lua 5.3: `rt staticlib meter53`. It needs no symbol.
-     libbudget53.a  the same of one of four: `rt staticlib budget53`. It needs no symbol.
+   Lawendeb for C from C99 on and C++ from C++11 on, on x86-64 Linux (System V calls). What the
+   functions do is proved; what is asked of the caller stands here.
+
+   Twelve archives, to be linked alone or side by side. `include/archives [NAME..]` makes them in
+   target/staticlib/, and `include/install PREFIX` puts them where pkg-config and CMake find them:
+     libmeter.a       begin, feed and reset, for controllers
+     libexports.a     fields, steps, the longest run, records
+     libranges.a      the longest run by two tables
+     libservice.a     nearest service, crossing steps
+     libtouches.a     what a word reads and writes
+     libassignment.a  registers set before use
+     libbudget.a      begin, feed and reset of four scripts
+     librehearsal.a   scripts in rotation
+     libchunk.a       compiled scripts
+     liblua53.a       scripts of Lua 5.3, for older controllers, but for the feeds
+     libmeter53.a     the feed of such a script
+     libbudget53.a    the feed of such a script as one of four
    All but the last three are for scripts of Lua 5.4; the last part of this header says which to
-   use.
-   They write nothing but what a call is lent: no heap, no static data, and as measured less than
-   1 kB of stack, but less than 2 kB for what a word touches, for a question about services and for
-   a rehearsal, less than 13 kB for a pass over a chunk, which goes down with its functions, 32
-   levels at most, and less than 400 kB for registers set before use, whose two tables of fixed size
-   lie there: no call for a small stack (docs/BENCHMARKS.md). So every call is reentrant, and calls
-   on different memory may run at once, in threads or interrupts. A begin, a feed, a reset and what
-   a word touches take a bounded time, whatever the number of words; a run and a question about
-   services take time in proportion to the words, registers set before use to the words times the
-   registers that are read, a lift to words, constants and names, a rehearsal to the words of its
-   scripts, its choices and the words that it runs, a pass to the chunk's bytes.
+   use. Those of meters and budgets need no symbol, the others memset. They write nothing but what a
+   call is lent: no heap, no static data, and as measured less than 1 kB of stack, but less than 2
+   kB for what a word touches, for a question about services and for a rehearsal, less than 13 kB
+   for a pass over a chunk, which goes down with its functions, 32 levels at most, and less than 400
+   kB for registers set before use, whose two tables of fixed size lie there: no call for a small
+   stack (docs/BENCHMARKS.md). So every call is reentrant, and calls on different memory may run at
+   once, in threads or interrupts. A begin, a feed, a reset and what a word touches take a bounded
+   time, whatever the number of words; a run and a question about services take time in proportion
+   to the words, registers set before use to the words times the registers that are read, a lift to
+   words, constants and names, a rehearsal to the words of its scripts, its choices and the words
+   that it runs, a pass to the chunk's bytes.
 
-   Each slice passes as a pointer and a length. The pointer is not null, even where the length is 0,
-   and nobody writes the slice meanwhile. Slices that are written lie apart from all others. Any
-   contents are allowed: what does not fit is refused by a number, and nothing is taken on trust. */
+   Each slice passes as a pointer and a length, and nobody writes it meanwhile.
+     - Null: a slice's pointer may be null if its length is 0, as an empty std::vector's data() is,
+       and only then. A meter is never null.
+     - Alignment: that of the type. Words, lengths and meters lie at multiples of 4 bytes, payloads,
+       names and the numbers of records at multiples of 8; weights, marks, lists, tags, choices,
+       string bytes and chunks lie anywhere. So the words within a chunk's bytes are no slice of
+       words: lawendeb_chunk_fill copies them.
+     - Apart: what is written, a slice or a meter, shares no byte with anything else that the call
+       is lent. Marks within the lengths give a longest run that is too short, and no refusal.
+   The compiler tells some of that where it sees it, with -Wall: what is written is `restrict`, what
+   may not be null `nonnull`, and gcc is told each slice's length.
+   Any contents are allowed: what does not fit is refused by a number, and nothing is taken on
+   trust. */
 #ifndef LAWENDEB_H
 #define LAWENDEB_H
 
@@ -41,20 +50,50 @@
 #include <stdint.h>
 
 #ifdef __cplusplus
-#define LAWENDEB_ASSERT static_assert
 extern "C" {
-#else
-#define LAWENDEB_ASSERT _Static_assert
 #endif
 
-/* The release of this header. It rises when a function's parameters, a struct or a meaning changes;
-   such a function has a new symbol behind its name then, so that an archive of another release
+/* C++ has no restrict; compilers have one of their own. */
+#ifndef __cplusplus
+#define LAWENDEB_APART restrict
+#elif defined(__GNUC__)
+#define LAWENDEB_APART __restrict__
+#else
+#define LAWENDEB_APART
+#endif
+
+/* Parameters by number: never null; a slice that is read, one that is written, and its length. */
+#ifdef __has_attribute
+#if __has_attribute(__nonnull__)
+#define LAWENDEB_NONNULL(at) __attribute__((__nonnull__(at)))
+#endif
+#if __has_attribute(__access__)
+#define LAWENDEB_READS(at, n) __attribute__((__access__(__read_only__, at, n)))
+#define LAWENDEB_WRITES(at, n) __attribute__((__access__(__write_only__, at, n)))
+#endif
+#endif
+#ifndef LAWENDEB_NONNULL
+#define LAWENDEB_NONNULL(at)
+#endif
+#ifndef LAWENDEB_READS
+#define LAWENDEB_READS(at, n)
+#define LAWENDEB_WRITES(at, n)
+#endif
+
+/* Layouts are held against the archives' in a form that C99 takes, too. */
+#define LAWENDEB_LAYOUT(what, holds) typedef char lawendeb_layout_of_##what[(holds) ? 1 : -1]
+
+/* The release of this header: CHANGELOG.md says what each changed for a caller, and what to do. It
+   rises when a function's parameters, a struct or a meaning changes. Where that changes what passes
+   in a call, the function has a new symbol behind its name, so that an archive of another release
    does not link. */
-#define LAWENDEB_RELEASE 4
+#define LAWENDEB_RELEASE 5
 
 /* Release 2: a call does not serve any more; only a step that does not go forward does.
    Release 3: a run and a feed are lent weights, and a feed's answer has a place.
-   Release 4: a meter holds the highest count that it has shown, and can be reset. */
+   Release 4: a meter holds the highest count that it has shown, and can be reset.
+   Release 5: no symbol is new. Names in C alone: struct lawendeb_steps is what lawendeb_successors
+   answers, struct lawendeb_touched what lawendeb_touches does; four meters are an array `of`. */
 #define lawendeb_begin lawendeb_begin_4
 #define lawendeb_feed lawendeb_feed_4
 #define lawendeb_longest_run lawendeb_longest_run_3
@@ -114,8 +153,8 @@ struct lawendeb_answer {
 
 /* One script's meter, held by the caller. Any five numbers are a meter. Zero a new one once: begin
    keeps the services and the highest, so that they go on from one start of the script to the next.
-   A meter stored by an older release must not be lent: it has four numbers, and what lies past them
-   would be read as its highest, and written. Zero a new one, and copy the services alone. */
+   A meter stored by a release before 4 must not be lent: it has four numbers, and what lies past
+   them would be read as its highest, and written. Zero a new one, and copy the services alone. */
 struct lawendeb_meter {
     uint32_t begun;    /* 0: not begun; any other number: begun */
     uint32_t last;     /* the last word number fed */
@@ -124,11 +163,11 @@ struct lawendeb_meter {
     uint32_t highest;  /* the highest count shown since the last reset */
 };
 
-LAWENDEB_ASSERT(sizeof(struct lawendeb_meter) == 20 && offsetof(struct lawendeb_meter, last) == 4 &&
-                    offsetof(struct lawendeb_meter, count) == 8 &&
-                    offsetof(struct lawendeb_meter, services) == 12 &&
-                    offsetof(struct lawendeb_meter, highest) == 16,
-                "the layout that crates/meter has");
+LAWENDEB_LAYOUT(meter, sizeof(struct lawendeb_meter) == 20 &&
+                           offsetof(struct lawendeb_meter, last) == 4 &&
+                           offsetof(struct lawendeb_meter, count) == 8 &&
+                           offsetof(struct lawendeb_meter, services) == 12 &&
+                           offsetof(struct lawendeb_meter, highest) == 16);
 
 /* A script of several functions. A feed takes one function's words, so each activation of a
    function has a meter of its own: begun when the function is entered, fed each of its words, and
@@ -143,11 +182,12 @@ LAWENDEB_ASSERT(sizeof(struct lawendeb_meter) == 20 && offsetof(struct lawendeb_
    `left` plus the count of the running meter, and that at most the sum of the longest runs of the
    activations on the way back: with calls nested d deep, d times the largest. The sum of the meters
    that are alive is no bound: a callee's share leaves with its meter. Where an entry does not
-   serve, nothing bounds a script. (Coroutines: `left` plus the counts of all that are alive.) */
+   serve, nothing bounds a script. (Coroutines: `left` plus the counts of all that are alive.)
+   examples/stack.c is such a controller. */
 
 /* The script starts anew: not begun, 0, 0; the services and the highest stay. Nobody else writes
    `m` meanwhile. */
-void lawendeb_begin(struct lawendeb_meter *m);
+void lawendeb_begin(struct lawendeb_meter *m) LAWENDEB_NONNULL(1);
 
 /* The script goes to word `q` of its `n` words. The first word fed makes the count its own weight,
    and so does a step that serves with the word it leads to; another step adds that word's weight.
@@ -157,13 +197,15 @@ void lawendeb_begin(struct lawendeb_meter *m);
    if last or count is not 0; and either if the highest is below the count. `m` lies apart from
    words and weights, and nobody else writes it meanwhile. */
 struct lawendeb_answer lawendeb_feed(const uint32_t *words, size_t n, const uint8_t *weights,
-                                     size_t weights_n, struct lawendeb_meter *m, size_t q);
+                                     size_t weights_n, struct lawendeb_meter *LAWENDEB_APART m,
+                                     size_t q)
+    LAWENDEB_READS(1, 2) LAWENDEB_READS(3, 4) LAWENDEB_NONNULL(5);
 
 /* The highest becomes the count of this moment, on any meter, begun or not; nothing else changes.
    On an accepted function, a meter that was begun, then reset, and is then lent the run's weights
    at each feed, holds as highest the largest count that it showed since, which is never above that
    run's longest. Nobody else writes `m` meanwhile. */
-void lawendeb_reset(struct lawendeb_meter *m);
+void lawendeb_reset(struct lawendeb_meter *m) LAWENDEB_NONNULL(1);
 
 /* ---- four scripts and one budget: libbudget.a */
 
@@ -173,23 +215,25 @@ void lawendeb_reset(struct lawendeb_meter *m);
 #define LAWENDEB_DOME 2
 #define LAWENDEB_GUIDER 3
 
-/* A meter for each, held by the caller and lent together. Each counts its own services. Any twenty
-   numbers are four meters. Zero new ones once. */
+/* A meter for each, by its number, held by the caller and lent together. Each counts its own
+   services. Any twenty numbers are four meters. Zero new ones once. */
 struct lawendeb_meters {
-    struct lawendeb_meter axis, focuser, dome, guider;
+    struct lawendeb_meter of[4];
 };
 
-LAWENDEB_ASSERT(sizeof(struct lawendeb_meters) == 80 &&
-                    offsetof(struct lawendeb_meters, focuser) == 20 &&
-                    offsetof(struct lawendeb_meters, dome) == 40 &&
-                    offsetof(struct lawendeb_meters, guider) == 60,
-                "the layout that crates/budget has");
+LAWENDEB_LAYOUT(meters, sizeof(struct lawendeb_meters) == 80 &&
+                            offsetof(struct lawendeb_meters, of[LAWENDEB_AXIS]) == 0 &&
+                            offsetof(struct lawendeb_meters, of[LAWENDEB_FOCUSER]) == 20 &&
+                            offsetof(struct lawendeb_meters, of[LAWENDEB_DOME]) == 40 &&
+                            offsetof(struct lawendeb_meters, of[LAWENDEB_GUIDER]) == 60);
 
 /* The functions above, of one of the four. The answer is 0, or 20 for a script number above 3: all
    four meters are then as they were, and so they are on every refusal. `ms` lies apart from words
    and weights, and nobody else writes it meanwhile. */
-struct lawendeb_answer lawendeb_begin_four(struct lawendeb_meters *ms, uint32_t script);
-struct lawendeb_answer lawendeb_reset_four(struct lawendeb_meters *ms, uint32_t script);
+struct lawendeb_answer lawendeb_begin_four(struct lawendeb_meters *ms, uint32_t script)
+    LAWENDEB_NONNULL(1);
+struct lawendeb_answer lawendeb_reset_four(struct lawendeb_meters *ms, uint32_t script)
+    LAWENDEB_NONNULL(1);
 
 /* The script goes to word `q` of its `n` words, within a budget of 1 to LAWENDEB_MOST_BUDGET on the
    sum of the four counts. Refusals are tried in this order: 20; 21; then 1, 18, 11 and 10 as at a
@@ -201,8 +245,10 @@ struct lawendeb_answer lawendeb_reset_four(struct lawendeb_meters *ms, uint32_t 
    rounded down, all four are begun before the first feed, and each is lent the words and weights of
    its run at every feed, then no feed with that budget is answered 22. */
 struct lawendeb_answer lawendeb_feed_four(const uint32_t *words, size_t n, const uint8_t *weights,
-                                          size_t weights_n, struct lawendeb_meters *ms,
-                                          uint32_t script, uint32_t budget, size_t q);
+                                          size_t weights_n,
+                                          struct lawendeb_meters *LAWENDEB_APART ms,
+                                          uint32_t script, uint32_t budget, size_t q)
+    LAWENDEB_READS(1, 2) LAWENDEB_READS(3, 4) LAWENDEB_NONNULL(5);
 
 /* ---- the fields of a word: libexports.a */
 
@@ -225,7 +271,7 @@ struct lawendeb_fields lawendeb_decode(uint32_t word);
 /* ---- steps and the longest run: libexports.a */
 
 /* The steps of a word: how many by its kind, the lower first. Places that a kind lacks are 0. */
-struct lawendeb_successors {
+struct lawendeb_steps {
     uint64_t kind, first, second;
 };
 
@@ -234,10 +280,12 @@ struct lawendeb_successors {
 #define LAWENDEB_KIND_ONE 2
 #define LAWENDEB_KIND_TWO 3
 
-struct lawendeb_successors lawendeb_successors(const uint32_t *words, size_t n, size_t p);
+struct lawendeb_steps lawendeb_successors(const uint32_t *words, size_t n, size_t p)
+    LAWENDEB_READS(1, 2);
 
 /* The longest run, which is the heaviest, and the lowest word at which it begins; or a refusal's
-   number and place. */
+   number and place. It is of each function by itself; in a script whose calls nest d deep, up to d
+   times as much may pass (see the meter). */
 struct lawendeb_run {
     uint64_t number, place, longest, first;
 };
@@ -247,8 +295,10 @@ struct lawendeb_run {
    reachable. What lies past n stays as it was. Refusals are 1, 6, 18, 7 and 8, tried in this order.
    They alter nothing, but that 8 leaves the marks and n zero lengths. */
 struct lawendeb_run lawendeb_longest_run(const uint32_t *words, size_t n, const uint8_t *weights,
-                                         size_t weights_n, uint8_t *marks, size_t marks_n,
-                                         uint32_t *lengths, size_t lengths_n);
+                                         size_t weights_n, uint8_t *LAWENDEB_APART marks,
+                                         size_t marks_n, uint32_t *LAWENDEB_APART lengths,
+                                         size_t lengths_n)
+    LAWENDEB_READS(1, 2) LAWENDEB_READS(3, 4) LAWENDEB_WRITES(5, 6) LAWENDEB_WRITES(7, 8);
 
 /* ---- the longest run by two tables of weights: libranges.a */
 
@@ -264,10 +314,13 @@ struct lawendeb_run_range {
    lengths end as the run by the high table leaves them. Refusals are 1, 6, 18 of the low table, 18
    of the high one, 19, 7 and 8, tried in this order; 8 leaves the marks and n zero lengths, the
    others alter nothing. */
-struct lawendeb_run_range lawendeb_longest_runs(const uint32_t *words, size_t n, const uint8_t *low,
-                                                size_t low_n, const uint8_t *high, size_t high_n,
-                                                uint8_t *marks, size_t marks_n, uint32_t *lengths,
-                                                size_t lengths_n);
+struct lawendeb_run_range lawendeb_longest_runs(const uint32_t *words, size_t n,
+                                                const uint8_t *low, size_t low_n,
+                                                const uint8_t *high, size_t high_n,
+                                                uint8_t *LAWENDEB_APART marks, size_t marks_n,
+                                                uint32_t *LAWENDEB_APART lengths, size_t lengths_n)
+    LAWENDEB_READS(1, 2) LAWENDEB_READS(3, 4) LAWENDEB_READS(5, 6) LAWENDEB_WRITES(7, 8)
+    LAWENDEB_WRITES(9, 10);
 
 /* ---- nearest service and crossing steps: libservice.a
 
@@ -282,16 +335,20 @@ struct lawendeb_nearest {
 };
 
 struct lawendeb_nearest lawendeb_distance_to_service(const uint32_t *words, size_t n, size_t w,
-                                                     uint8_t *marks, size_t marks_n,
-                                                     uint32_t *lengths, size_t lengths_n);
+                                                     uint8_t *LAWENDEB_APART marks, size_t marks_n,
+                                                     uint32_t *LAWENDEB_APART lengths,
+                                                     size_t lengths_n)
+    LAWENDEB_READS(1, 2) LAWENDEB_WRITES(4, 5) LAWENDEB_WRITES(6, 7);
 
 /* Lists the reachable words whose fewest is at most `d`: the list needs n places at least, too,
    and gets 1 for a listed word, else 0. What lies past n stays as it was, and all of it on a
    refusal. A list that is too short is refused by 6, which leaves marks and lengths as they
    were. */
 struct lawendeb_answer lawendeb_list_within(const uint32_t *words, size_t n, size_t d,
-                                            uint8_t *marks, size_t marks_n, uint32_t *lengths,
-                                            size_t lengths_n, uint8_t *list, size_t list_n);
+                                            uint8_t *LAWENDEB_APART marks, size_t marks_n,
+                                            uint32_t *LAWENDEB_APART lengths, size_t lengths_n,
+                                            uint8_t *LAWENDEB_APART list, size_t list_n)
+    LAWENDEB_READS(1, 2) LAWENDEB_WRITES(4, 5) LAWENDEB_WRITES(6, 7) LAWENDEB_WRITES(8, 9);
 
 /* How many steps from reachable words pass strictly over word `w`, forward or back; 0 if it is past
    the end. */
@@ -300,8 +357,9 @@ struct lawendeb_crossed {
 };
 
 struct lawendeb_crossed lawendeb_crossing_edges(const uint32_t *words, size_t n, size_t w,
-                                                uint8_t *marks, size_t marks_n, uint32_t *lengths,
-                                                size_t lengths_n);
+                                                uint8_t *LAWENDEB_APART marks, size_t marks_n,
+                                                uint32_t *LAWENDEB_APART lengths, size_t lengths_n)
+    LAWENDEB_READS(1, 2) LAWENDEB_WRITES(4, 5) LAWENDEB_WRITES(6, 7);
 
 /* ---- records: libexports.a */
 
@@ -326,7 +384,10 @@ struct lawendeb_crossed lawendeb_crossing_edges(const uint32_t *words, size_t n,
 struct lawendeb_answer lawendeb_lift(const uint32_t *words, size_t n, const uint8_t *tags,
                                      size_t tags_n, const uint64_t *payloads, size_t payloads_n,
                                      const uint64_t *names, size_t names_n, const uint8_t *bytes,
-                                     size_t bytes_n, uint64_t *numbers, size_t numbers_n);
+                                     size_t bytes_n, uint64_t *LAWENDEB_APART numbers,
+                                     size_t numbers_n)
+    LAWENDEB_READS(1, 2) LAWENDEB_READS(3, 4) LAWENDEB_READS(5, 6) LAWENDEB_READS(7, 8)
+    LAWENDEB_READS(9, 10) LAWENDEB_WRITES(11, 12);
 
 /* ---- what a word touches: libtouches.a */
 
@@ -357,7 +418,7 @@ struct lawendeb_indices {
    execution of a word; CALL, TAILCALL, TFORCALL and CONCAT by the formulas of lopcodes.h. What
    closing and VARARGPREP touch and CLOSURE captures is left out; an execution that ends in an error
    does not count. The reads and writes of a record are luad's, and differ. */
-struct lawendeb_touches {
+struct lawendeb_touched {
     struct lawendeb_ranges reads;
     struct lawendeb_top reads_to_top;
     struct lawendeb_indices constants, upvalues;
@@ -368,20 +429,21 @@ struct lawendeb_touches {
     size_t edge;                        /* 0 if nothing is written so */
 };
 
-LAWENDEB_ASSERT(sizeof(struct lawendeb_ranges) == 14 && sizeof(struct lawendeb_indices) == 16 &&
-                    offsetof(struct lawendeb_touches, reads_to_top) == 14 &&
-                    offsetof(struct lawendeb_touches, constants) == 20 &&
-                    offsetof(struct lawendeb_touches, upvalues) == 36 &&
-                    offsetof(struct lawendeb_touches, writes) == 52 &&
-                    offsetof(struct lawendeb_touches, writes_to_top) == 66 &&
-                    offsetof(struct lawendeb_touches, upvalue_writes) == 72 &&
-                    offsetof(struct lawendeb_touches, edge_writes) == 88 &&
-                    offsetof(struct lawendeb_touches, edge) == 104 &&
-                    sizeof(struct lawendeb_touches) == 112,
-                "the layout that crates/touches has");
+LAWENDEB_LAYOUT(touched, sizeof(struct lawendeb_ranges) == 14 &&
+                             sizeof(struct lawendeb_indices) == 16 &&
+                             offsetof(struct lawendeb_touched, reads_to_top) == 14 &&
+                             offsetof(struct lawendeb_touched, constants) == 20 &&
+                             offsetof(struct lawendeb_touched, upvalues) == 36 &&
+                             offsetof(struct lawendeb_touched, writes) == 52 &&
+                             offsetof(struct lawendeb_touched, writes_to_top) == 66 &&
+                             offsetof(struct lawendeb_touched, upvalue_writes) == 72 &&
+                             offsetof(struct lawendeb_touched, edge_writes) == 88 &&
+                             offsetof(struct lawendeb_touched, edge) == 104 &&
+                             sizeof(struct lawendeb_touched) == 112);
 
 /* What word p of the n words touches; a bad word, and a word number of n or more, nothing. */
-struct lawendeb_touches lawendeb_touches(const uint32_t *words, size_t n, size_t p);
+struct lawendeb_touched lawendeb_touches(const uint32_t *words, size_t n, size_t p)
+    LAWENDEB_READS(1, 2);
 
 /* ---- registers set before use: libassignment.a */
 
@@ -393,8 +455,9 @@ struct lawendeb_touches lawendeb_touches(const uint32_t *words, size_t n, size_t
    lowest word at which one does, in this order. `marks` gets, for each word, 1 if it is reachable
    and else 0, also at 8 and 17; at 1, 6 and 7 nothing is written, nor ever past n. */
 struct lawendeb_answer lawendeb_definite_assignment(const uint32_t *words, size_t n,
-                                                    uint8_t parameters, uint8_t *marks,
-                                                    size_t marks_n);
+                                                    uint8_t parameters,
+                                                    uint8_t *LAWENDEB_APART marks, size_t marks_n)
+    LAWENDEB_READS(1, 2) LAWENDEB_WRITES(4, 5);
 
 /* ---- rehearsing scripts: librehearsal.a */
 
@@ -410,16 +473,46 @@ struct lawendeb_rehearsal {
    without one the word has not run. It stops when all have returned, when a choice is missing, or
    when `limit` words have run. No wait is above (count - 1) * q.
 
-   Scripts past `count` are not looked at; their pointers are not null all the same. Marks and
-   lengths need a place for each word of the longest script, and keep what the last run tried left.
+   Scripts past `count` are not looked at, and may be null and 0. Marks and lengths need a place for
+   each word of the longest script, and keep what the last run tried left.
    Refusals: 23, before anything is touched; then what lawendeb_longest_run gives, by weights of 1,
    for the lowest script that it refuses. None after that one is tried. */
-struct lawendeb_rehearsal
-lawendeb_rehearse(const uint32_t *words0, size_t n0, const uint32_t *words1, size_t n1,
-                  const uint32_t *words2, size_t n2, const uint32_t *words3, size_t n3,
-                  size_t count, uint32_t q, const uint8_t *choices, size_t choices_n,
-                  uint32_t limit, uint8_t *marks, size_t marks_n, uint32_t *lengths,
-                  size_t lengths_n);
+struct lawendeb_rehearsal lawendeb_rehearse(const uint32_t *words0, size_t n0,
+                                            const uint32_t *words1, size_t n1,
+                                            const uint32_t *words2, size_t n2,
+                                            const uint32_t *words3, size_t n3, size_t count,
+                                            uint32_t q, const uint8_t *choices, size_t choices_n,
+                                            uint32_t limit, uint8_t *LAWENDEB_APART marks,
+                                            size_t marks_n, uint32_t *LAWENDEB_APART lengths,
+                                            size_t lengths_n)
+    LAWENDEB_READS(1, 2) LAWENDEB_READS(3, 4) LAWENDEB_READS(5, 6) LAWENDEB_READS(7, 8)
+    LAWENDEB_READS(11, 12) LAWENDEB_WRITES(14, 15) LAWENDEB_WRITES(16, 17);
+
+/* The same by a struct. What is zeroed is lent as null and 0. */
+struct lawendeb_words {
+    const uint32_t *at;
+    size_t n;
+};
+
+struct lawendeb_rotation {
+    struct lawendeb_words scripts[LAWENDEB_MOST_SCRIPTS];
+    size_t count;
+    const uint8_t *choices;
+    size_t choices_n;
+    uint32_t q, limit;
+    uint8_t *marks;
+    size_t marks_n;
+    uint32_t *lengths;
+    size_t lengths_n;
+};
+
+static inline LAWENDEB_NONNULL(1) struct lawendeb_rehearsal
+lawendeb_rehearse_rotation(const struct lawendeb_rotation *r) {
+    const struct lawendeb_words *s = r->scripts;
+    return lawendeb_rehearse(s[0].at, s[0].n, s[1].at, s[1].n, s[2].at, s[2].n, s[3].at, s[3].n,
+                             r->count, r->q, r->choices, r->choices_n, r->limit, r->marks,
+                             r->marks_n, r->lengths, r->lengths_n);
+}
 
 /* ---- compiled scripts: libchunk.a
 
@@ -439,7 +532,8 @@ struct lawendeb_counts {
 };
 
 /* The first pass: fills nothing. */
-struct lawendeb_counts lawendeb_chunk_count(const uint8_t *chunk, size_t n, size_t k);
+struct lawendeb_counts lawendeb_chunk_count(const uint8_t *chunk, size_t n, size_t k)
+    LAWENDEB_READS(1, 2);
 
 /* The second pass: the words, the tags and payloads of the constants, and the names. A string's tag
    goes by its length, 4 up to 40 bytes and 20 above; the payload of nil, false and true is 0. The
@@ -447,9 +541,30 @@ struct lawendeb_counts lawendeb_chunk_count(const uint8_t *chunk, size_t n, size
    LAWENDEB_UNNAMED. Last of all is tried 6: a slice with fewer places than counted. What lies past
    the counts stays as it was, and all of it on a refusal. */
 struct lawendeb_counts lawendeb_chunk_fill(const uint8_t *chunk, size_t n, size_t k,
-                                           uint32_t *words, size_t words_n, uint8_t *tags,
-                                           size_t tags_n, uint64_t *payloads, size_t payloads_n,
-                                           uint64_t *names, size_t names_n);
+                                           uint32_t *LAWENDEB_APART words, size_t words_n,
+                                           uint8_t *LAWENDEB_APART tags, size_t tags_n,
+                                           uint64_t *LAWENDEB_APART payloads, size_t payloads_n,
+                                           uint64_t *LAWENDEB_APART names, size_t names_n)
+    LAWENDEB_READS(1, 2) LAWENDEB_WRITES(4, 5) LAWENDEB_WRITES(6, 7) LAWENDEB_WRITES(8, 9)
+    LAWENDEB_WRITES(10, 11);
+
+/* The same by a struct. What is zeroed is lent as null and 0. */
+struct lawendeb_room {
+    uint32_t *words;
+    size_t words_n;
+    uint8_t *tags;
+    size_t tags_n;
+    uint64_t *payloads;
+    size_t payloads_n;
+    uint64_t *names;
+    size_t names_n;
+};
+
+static inline LAWENDEB_READS(1, 2) LAWENDEB_NONNULL(4) struct lawendeb_counts
+lawendeb_chunk_fill_room(const uint8_t *chunk, size_t n, size_t k, const struct lawendeb_room *r) {
+    return lawendeb_chunk_fill(chunk, n, k, r->words, r->words_n, r->tags, r->tags_n, r->payloads,
+                               r->payloads_n, r->names, r->names_n);
+}
 
 /* The name shown for an upvalue: `size` bytes from `start` on, of the chunk if in_chunk is 1, else
    of the list. With no name in either, and on a refusal, it is an empty part of the list. */
@@ -462,7 +577,8 @@ struct lawendeb_name {
    name. Both are tried by 5, `own` against the chunk's bytes first, `other` against the list's. */
 struct lawendeb_name lawendeb_upvalue_name(const uint8_t *chunk, size_t n, const uint64_t *own,
                                            size_t own_n, const uint8_t *list, size_t list_n,
-                                           const uint64_t *other, size_t other_n, size_t index);
+                                           const uint64_t *other, size_t other_n, size_t index)
+    LAWENDEB_READS(1, 2) LAWENDEB_READS(3, 4) LAWENDEB_READS(5, 6) LAWENDEB_READS(7, 8);
 
 /* ---- scripts for older controllers: liblua53.a, its feeds in libmeter53.a and libbudget53.a
 
@@ -493,43 +609,64 @@ struct lawendeb_fields_53 {
 
 struct lawendeb_fields_53 lawendeb_decode_53(uint32_t word);
 
-struct lawendeb_successors lawendeb_successors_53(const uint32_t *words, size_t n, size_t p);
+struct lawendeb_steps lawendeb_successors_53(const uint32_t *words, size_t n, size_t p)
+    LAWENDEB_READS(1, 2);
 
-struct lawendeb_run lawendeb_longest_run_53(const uint32_t *words, size_t n, const uint8_t *weights,
-                                            size_t weights_n, uint8_t *marks, size_t marks_n,
-                                            uint32_t *lengths, size_t lengths_n);
+struct lawendeb_run lawendeb_longest_run_53(const uint32_t *words, size_t n,
+                                            const uint8_t *weights, size_t weights_n,
+                                            uint8_t *LAWENDEB_APART marks, size_t marks_n,
+                                            uint32_t *LAWENDEB_APART lengths, size_t lengths_n)
+    LAWENDEB_READS(1, 2) LAWENDEB_READS(3, 4) LAWENDEB_WRITES(5, 6) LAWENDEB_WRITES(7, 8);
 
 struct lawendeb_run_range lawendeb_longest_runs_53(const uint32_t *words, size_t n,
                                                    const uint8_t *low, size_t low_n,
                                                    const uint8_t *high, size_t high_n,
-                                                   uint8_t *marks, size_t marks_n,
-                                                   uint32_t *lengths, size_t lengths_n);
+                                                   uint8_t *LAWENDEB_APART marks, size_t marks_n,
+                                                   uint32_t *LAWENDEB_APART lengths,
+                                                   size_t lengths_n)
+    LAWENDEB_READS(1, 2) LAWENDEB_READS(3, 4) LAWENDEB_READS(5, 6) LAWENDEB_WRITES(7, 8)
+    LAWENDEB_WRITES(9, 10);
 
 struct lawendeb_answer lawendeb_feed_53(const uint32_t *words, size_t n, const uint8_t *weights,
-                                        size_t weights_n, struct lawendeb_meter *m, size_t q);
+                                        size_t weights_n, struct lawendeb_meter *LAWENDEB_APART m,
+                                        size_t q)
+    LAWENDEB_READS(1, 2) LAWENDEB_READS(3, 4) LAWENDEB_NONNULL(5);
 
 struct lawendeb_answer lawendeb_feed_four_53(const uint32_t *words, size_t n,
                                              const uint8_t *weights, size_t weights_n,
-                                             struct lawendeb_meters *ms, uint32_t script,
-                                             uint32_t budget, size_t q);
+                                             struct lawendeb_meters *LAWENDEB_APART ms,
+                                             uint32_t script, uint32_t budget, size_t q)
+    LAWENDEB_READS(1, 2) LAWENDEB_READS(3, 4) LAWENDEB_NONNULL(5);
 
 struct lawendeb_nearest lawendeb_distance_to_service_53(const uint32_t *words, size_t n, size_t w,
-                                                        uint8_t *marks, size_t marks_n,
-                                                        uint32_t *lengths, size_t lengths_n);
+                                                        uint8_t *LAWENDEB_APART marks,
+                                                        size_t marks_n,
+                                                        uint32_t *LAWENDEB_APART lengths,
+                                                        size_t lengths_n)
+    LAWENDEB_READS(1, 2) LAWENDEB_WRITES(4, 5) LAWENDEB_WRITES(6, 7);
 
 struct lawendeb_answer lawendeb_list_within_53(const uint32_t *words, size_t n, size_t d,
-                                               uint8_t *marks, size_t marks_n, uint32_t *lengths,
-                                               size_t lengths_n, uint8_t *list, size_t list_n);
+                                               uint8_t *LAWENDEB_APART marks, size_t marks_n,
+                                               uint32_t *LAWENDEB_APART lengths, size_t lengths_n,
+                                               uint8_t *LAWENDEB_APART list, size_t list_n)
+    LAWENDEB_READS(1, 2) LAWENDEB_WRITES(4, 5) LAWENDEB_WRITES(6, 7) LAWENDEB_WRITES(8, 9);
 
 struct lawendeb_crossed lawendeb_crossing_edges_53(const uint32_t *words, size_t n, size_t w,
-                                                   uint8_t *marks, size_t marks_n,
-                                                   uint32_t *lengths, size_t lengths_n);
+                                                   uint8_t *LAWENDEB_APART marks, size_t marks_n,
+                                                   uint32_t *LAWENDEB_APART lengths,
+                                                   size_t lengths_n)
+    LAWENDEB_READS(1, 2) LAWENDEB_WRITES(4, 5) LAWENDEB_WRITES(6, 7);
 
-struct lawendeb_touches lawendeb_touches_53(const uint32_t *words, size_t n, size_t p);
+struct lawendeb_touched lawendeb_touches_53(const uint32_t *words, size_t n, size_t p)
+    LAWENDEB_READS(1, 2);
 
 #ifdef __cplusplus
 }
 #endif
-#undef LAWENDEB_ASSERT
+#undef LAWENDEB_APART
+#undef LAWENDEB_NONNULL
+#undef LAWENDEB_READS
+#undef LAWENDEB_WRITES
+#undef LAWENDEB_LAYOUT
 
 #endif

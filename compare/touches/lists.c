@@ -30,7 +30,7 @@ static uint32_t *put_indices(uint32_t *out, const struct lawendeb_indices *r) {
     return out;
 }
 
-static void put(const struct lawendeb_touches *t) {
+static void put(const struct lawendeb_touched *t) {
     uint32_t numbers[38], *out = numbers;
     out = put_ranges(out, &t->reads);
     out = put_top(out, &t->reads_to_top);
@@ -51,7 +51,7 @@ int main(void) {
         if (fread(words, 4, n, stdin) != n)
             return 1;
         for (size_t p = 0; p <= n; p++) {
-            struct lawendeb_touches t = TOUCHES(words, n, p);
+            struct lawendeb_touched t = TOUCHES(words, n, p);
             put(&t);
         }
         free(words);

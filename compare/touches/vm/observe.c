@@ -31,7 +31,7 @@ enum { OPCODE = 127, OP_LAST_RETURN = OP_RETURN1, OP_PREPARES = OP_VARARGPREP };
 
 /* What was seen of a word in all its executions: writes by step, the edge of the list apart. */
 struct seen {
-    struct lawendeb_touches listed;
+    struct lawendeb_touched listed;
     unsigned long times, over_edge, elsewhere;
     uint64_t reads[OBSERVED_REGISTERS / 64], writes[OBSERVED_REGISTERS / 64], edge_writes[OBSERVED_REGISTERS / 64];
     bool constants[3], upvalues[3], upvalue_writes[3];
@@ -95,7 +95,7 @@ static void close_word(struct observed *o, size_t step) {
     struct observed_function *f = o->function;
     size_t p = o->word;
     struct seen *s = &f->seen[p];
-    const struct lawendeb_touches *t = &s->listed;
+    const struct lawendeb_touched *t = &s->listed;
     bool edge = t->edge_writes.count && step == t->edge, loose = by_formula(opcode_of(f, p));
     o->open = false;
     words_run++;
@@ -192,7 +192,7 @@ static void mark(CallInfo *ci, const TValue *value, bool write) {
     StkId base = (StkId)((char *)AT(thread->stack) + o->base), at = (StkId)value;
     const LClosure *cl = o->closure;
     size_t most = cl->p->maxstacksize;
-    const struct lawendeb_touches *t = &o->function->seen[o->word].listed;
+    const struct lawendeb_touched *t = &o->function->seen[o->word].listed;
     if (t->reads_to_top.count || t->writes_to_top.count) most = OBSERVED_REGISTERS;
     if (base <= at && at < base + most && at < AT(thread->stack_last) + EXTRA_STACK) {
         set(write ? o->writes : o->reads, (size_t)(at - base));
