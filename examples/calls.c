@@ -579,9 +579,10 @@ static uint64_t number(size_t i, size_t at) {
     return numbers[i * N + at];
 }
 
-/* Where a record's parts start: include/RECORD.md. */
-enum { TARGET = 4, COMPANION = 6, FALLBACK = 8, EFFECT = 10 };
-enum { OPERANDS = 14, READS = 31, WRITES = 44 };
+enum { PC = LAWENDEB_RECORD_PC, SURE = LAWENDEB_RECORD_CONFIDENCE, TARGET = LAWENDEB_RECORD_JUMP };
+enum { COMPANION = LAWENDEB_RECORD_COMPANION, FALLBACK = LAWENDEB_RECORD_FALLBACK };
+enum { EFFECT = LAWENDEB_RECORD_EFFECT, SECOND = LAWENDEB_RECORD_OPERAND(1) };
+enum { READS = LAWENDEB_RECORD_READS, WRITES = LAWENDEB_RECORD_WRITES };
 
 static const struct tables empty = {NULL, 0, NULL, 0, NULL, 0, NULL, 0};
 
@@ -597,23 +598,25 @@ static void records(void) {
     const uint32_t prepare[3] = {74, 0, 0};
     CHECK(answered(lift(sheet, 4, &empty, 4 * N + 52), LAWENDEB_ACCEPTED, 0));
     CHECK(memcmp(numbers, loadi, sizeof loadi) == 0);
-    CHECK(number(3, 0) == 3 && number(3, TARGET) == 1 && number(3, TARGET + 1) == 1);
+    CHECK(number(3, PC) == 3 && number(3, TARGET) == 1 && number(3, TARGET + 1) == 1);
     CHECK(numbers_from(4 * N));
     CHECK(answered(lift(jump_back, 1, &empty, N), LAWENDEB_ACCEPTED, 0));
     CHECK(number(0, TARGET) == 1 && number(0, TARGET + 1) == 18446744073709551614u);
     CHECK(answered(lift(call, 2, &empty, 2 * N), LAWENDEB_ACCEPTED, 0));
     CHECK(number(0, READS) == 2 && number(0, WRITES) == 0);
-    CHECK(part(0, READS + 1, 0, 255, 0, 0) && part(0, READS + 5, 1, 255, 254, 0));
+    CHECK(part(0, LAWENDEB_RECORD_READ(0), LAWENDEB_TARGET_REGISTER, 255, 0, 0));
+    CHECK(part(0, LAWENDEB_RECORD_READ(1), LAWENDEB_TARGET_REGISTER_RANGE, 255, 254, 0));
     CHECK(answered(lift(loadkx, 1, &empty, N), LAWENDEB_ACCEPTED, 0));
     CHECK(number(0, COMPANION) == 1 && number(0, COMPANION + 1) == 1);
-    CHECK(part(0, OPERANDS + 5, 1, 0, 0, 0));
+    CHECK(part(0, SECOND, LAWENDEB_OPERAND_CONSTANT, 0, 0, 0));
     CHECK(answered(lift(mmbin, 1, &empty, N), LAWENDEB_ACCEPTED, 0));
-    CHECK(part(0, EFFECT, 7, 0, 1, 6) && number(0, FALLBACK) == 1 && number(0, FALLBACK + 1) == 6);
+    CHECK(part(0, EFFECT, LAWENDEB_EFFECT_COMPANION_PAIR, 0, 1, 6));
+    CHECK(number(0, FALLBACK) == 1 && number(0, FALLBACK + 1) == 6);
     CHECK(number(0, COMPANION) == 0);
     CHECK(answered(lift(unknown, 1, &empty, N), LAWENDEB_ACCEPTED, 0));
     CHECK(memcmp(numbers, blank, sizeof blank) == 0 && numbers_from(N));
     CHECK(answered(lift(two, 2, &empty, 2 * N), LAWENDEB_ACCEPTED, 0));
-    CHECK(number(0, 3) == 1 && number(1, TARGET) == 1 && number(1, TARGET + 1) == 0);
+    CHECK(number(0, SURE) == 1 && number(1, TARGET) == 1 && number(1, TARGET + 1) == 0);
     CHECK(answered(lift(prepare, 3, &empty, 3 * N), LAWENDEB_ACCEPTED, 0));
     CHECK(number(0, TARGET) == 1 && number(0, TARGET + 1) == 1);
     CHECK(answered(lift(sheet, 0, &empty, 0), LAWENDEB_ACCEPTED, 0) && numbers_from(0));
@@ -644,10 +647,10 @@ static void values(void) {
         words[9 + i] = word_abc(GETUPVAL, 1, i, 0);
     CHECK(answered(lift(words, ROOM, &t, ROOM * N), LAWENDEB_ACCEPTED, 0));
     for (i = 0; i < 9; i++)
-        CHECK(part(i, OPERANDS + 5, 1, i, kinds[i], shown[i]));
-    CHECK(part(9, OPERANDS + 5, 2, 0, 1, place_of(9, 0)));
-    CHECK(part(10, OPERANDS + 5, 2, 1, 0, 0));
-    CHECK(part(11, OPERANDS + 5, 2, 2, 0, 0));
+        CHECK(part(i, SECOND, LAWENDEB_OPERAND_CONSTANT, i, kinds[i], shown[i]));
+    CHECK(part(9, SECOND, LAWENDEB_OPERAND_UPVALUE, 0, 1, place_of(9, 0)));
+    CHECK(part(10, SECOND, LAWENDEB_OPERAND_UPVALUE, 1, 0, 0));
+    CHECK(part(11, SECOND, LAWENDEB_OPERAND_UPVALUE, 2, 0, 0));
 }
 
 static uint8_t many_tags[LAWENDEB_MOST_CONSTANTS + 1];

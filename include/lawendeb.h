@@ -375,8 +375,47 @@ struct lawendeb_crossed lawendeb_crossing_edges(const uint32_t *words, size_t n,
 #define LAWENDEB_TAG_LONG_STRING 20
 #define LAWENDEB_UNNAMED UINT64_MAX
 
-/* Numbers in a record; include/RECORD.md says which. */
+/* Numbers in a record, and where each stands: include/RECORD.md says what they mean. A jump, a
+   companion and a fallback are two numbers, whether there is one and which; an effect, an operand,
+   a read and a write are four, a kind and three numbers. */
 #define LAWENDEB_RECORD_NUMBERS 53
+#define LAWENDEB_RECORD_PC 0
+#define LAWENDEB_RECORD_RAW_WORD 1
+#define LAWENDEB_RECORD_OPCODE 2
+#define LAWENDEB_RECORD_CONFIDENCE 3
+#define LAWENDEB_RECORD_JUMP 4
+#define LAWENDEB_RECORD_COMPANION 6
+#define LAWENDEB_RECORD_FALLBACK 8
+#define LAWENDEB_RECORD_EFFECT 10
+#define LAWENDEB_RECORD_OPERANDS 14                 /* how many, up to 4 */
+#define LAWENDEB_RECORD_OPERAND(i) (15 + 4 * (i))   /* from 0 on */
+#define LAWENDEB_RECORD_READS 31                    /* how many, up to 3 */
+#define LAWENDEB_RECORD_READ(i) (32 + 4 * (i))
+#define LAWENDEB_RECORD_WRITES 44                   /* how many, up to 2 */
+#define LAWENDEB_RECORD_WRITE(i) (45 + 4 * (i))
+
+/* The kinds. */
+#define LAWENDEB_OPERAND_REGISTER 0
+#define LAWENDEB_OPERAND_CONSTANT 1
+#define LAWENDEB_OPERAND_UPVALUE 2
+#define LAWENDEB_OPERAND_PROTOTYPE 3
+#define LAWENDEB_OPERAND_IMMEDIATE_INT 4
+#define LAWENDEB_OPERAND_IMMEDIATE_FLOAT 5
+#define LAWENDEB_OPERAND_JUMP 6
+#define LAWENDEB_OPERAND_COUNT 7
+#define LAWENDEB_OPERAND_FLAG 8
+#define LAWENDEB_OPERAND_EXTRA_ARG 9
+#define LAWENDEB_TARGET_REGISTER 0 /* of a read or a write */
+#define LAWENDEB_TARGET_REGISTER_RANGE 1
+#define LAWENDEB_TARGET_REGISTER_RANGE_TO_TOP 2
+#define LAWENDEB_TARGET_UPVALUE 3
+#define LAWENDEB_TARGET_CONSTANT 4
+#define LAWENDEB_TARGET_PROTOTYPE 5
+#define LAWENDEB_TARGET_JUMP 6
+#define LAWENDEB_EFFECT_NONE 0
+#define LAWENDEB_EFFECT_CLOSE_UPVALUES 4
+#define LAWENDEB_EFFECT_CONDITIONAL_SKIP 5
+#define LAWENDEB_EFFECT_COMPANION_PAIR 7
 
 /* Lifts a function: a record for each word, one after another in `numbers`, which has room for
    numbers_n / 53 of them. Refusals are 1 to 6, tried in this order; 6 says that there is room for
