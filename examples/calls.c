@@ -1577,6 +1577,73 @@ static void siblings_53(void) {
     CHECK(same_four(ms, before));
 }
 
+/* ---- the words of a longest run */
+
+static void witness(void) {
+    /* a test whose two ways to the RETURN0 have a word each, a JMP and a MOVE */
+    const uint32_t even[4] = {57, word_jump(1), 0, RETURN0};
+    const uint32_t even_53[4] = {31, 2147483678u, 0, 8388646};
+    uint32_t path[5];
+    uint8_t heavy[LAWENDEB_WEIGHTS];
+    struct lawendeb_path r;
+    memset(path, 165, sizeof path);
+    r = lawendeb_longest_path(even, 4, ones, LAWENDEB_WEIGHTS, marks, 4, lengths, 4, path, 5);
+    CHECK(r.number == LAWENDEB_ACCEPTED && r.place == 0 && r.longest == 3 && r.first == 0);
+    /* of two that are equal the lower */
+    CHECK(r.count == 3 && path[0] == 0 && path[1] == 1 && path[2] == 3);
+    CHECK(path[3] == 2779096485u && path[4] == 2779096485u);
+    CHECK(lengths[0] == 3 && lengths[1] == 2 && lengths[2] == 2 && lengths[3] == 1);
+    memset(heavy, 1, sizeof heavy);
+    heavy[0] = 2;
+    r = lawendeb_longest_path(even, 4, heavy, LAWENDEB_WEIGHTS, marks, 4, lengths, 4, path, 5);
+    CHECK(r.longest == 4 && r.count == 3 && path[1] == 2);
+    memset(path, 165, sizeof path);
+    r = lawendeb_longest_path(even, 4, ones, LAWENDEB_WEIGHTS, marks, 4, lengths, 4, path, 3);
+    CHECK(r.number == LAWENDEB_SHORT_SLICE && r.count == 0 && path[0] == 2779096485u);
+    r = lawendeb_longest_path(many, MANY, ones, LAWENDEB_WEIGHTS, marks, 4, lengths, 4, path, 3);
+    CHECK(r.number == LAWENDEB_TOO_MANY_WORDS && r.count == 0 && path[0] == 2779096485u);
+    r = lawendeb_longest_path(unknown, 1, ones, LAWENDEB_WEIGHTS, marks, 4, lengths, 4, path, 5);
+    CHECK(r.number == LAWENDEB_REACHES_INVALID && r.place == 0 && path[0] == 2779096485u);
+    /* Lua 5.3: EQ, JMP over the MOVE, MOVE, RETURN */
+    r = lawendeb_longest_path_53(even_53, 4, ones, LAWENDEB_WEIGHTS, marks, 4, lengths, 4, path, 5);
+    CHECK(r.number == LAWENDEB_ACCEPTED && r.longest == 3 && r.first == 0 && r.count == 3);
+    CHECK(path[0] == 0 && path[1] == 1 && path[2] == 3 && path[3] == 2779096485u);
+}
+
+/* ---- all functions of a compiled script */
+
+static void whole_chunks(void) {
+    uint64_t places[2] = {9, 9}, parents[2] = {9, 9};
+    uint32_t words[2] = {9, 9}, lines[2] = {9, 9};
+    struct lawendeb_listed l = lawendeb_chunk_functions(chunk, SIZE);
+    struct lawendeb_head h, g;
+    CHECK(l.number == LAWENDEB_ACCEPTED && l.place == 0 && l.functions == 1);
+    l = lawendeb_chunk_index(chunk, SIZE, places, 0, parents, 2);
+    CHECK(l.number == LAWENDEB_SHORT_SLICE && l.functions == 0 && parents[0] == 9);
+    l = lawendeb_chunk_index(chunk, SIZE - 1, places, 2, parents, 2);
+    CHECK(l.number == LAWENDEB_MALFORMED_CHUNK && l.functions == 0 && places[0] == 9);
+    l = lawendeb_chunk_index(chunk, SIZE, places, 2, parents, 2);
+    CHECK(l.number == LAWENDEB_ACCEPTED && l.functions == 1);
+    CHECK(places[0] == 32 && places[1] == 9);
+    CHECK(parents[0] == LAWENDEB_NO_FUNCTION && parents[1] == 9);
+
+    CHECK(counted(lawendeb_chunk_words_at(chunk, SIZE, 32, words, 2), 0, 0, 1, 1, 1));
+    CHECK(words[0] == 65607 && words[1] == 9);
+    CHECK(counted(lawendeb_chunk_words_at(chunk, SIZE, SIZE, words, 2), LAWENDEB_MALFORMED_CHUNK,
+                  0, 0, 0, 0));
+    /* a stripped chunk has no lines and no source */
+    CHECK(counted(lawendeb_chunk_lines(chunk, SIZE, 0, lines, 2), 0, 0, 1, 1, 1));
+    CHECK(lines[0] == 0 && lines[1] == 9);
+    CHECK(counted(lawendeb_chunk_lines_at(chunk, SIZE, 32, lines, 0), LAWENDEB_SHORT_SLICE, 0, 0,
+                  0, 0));
+    h = lawendeb_chunk_head(chunk, SIZE, 0);
+    g = lawendeb_chunk_head_at(chunk, SIZE, 32);
+    CHECK(h.number == LAWENDEB_ACCEPTED && h.source == LAWENDEB_UNNAMED && h.linedefined == 0);
+    CHECK(h.numparams == 0 && h.is_vararg == 1 && h.maxstacksize == 2);
+    CHECK(memcmp(&h, &g, sizeof h) == 0);
+    CHECK(lawendeb_chunk_head(chunk, SIZE, 1).number == LAWENDEB_MALFORMED_CHUNK);
+}
+
 /* ---- null, with a length of 0
 
    An access through null stops the program, and what the archives clear comes here first:
@@ -1753,6 +1820,26 @@ static void nulls(void) {
                 0, 0, 0));
     CHECK(named(lawendeb_upvalue_name(NULL, 0, &none, 1, NULL, 0, &none, 1, 0), LAWENDEB_ACCEPTED,
                 0, 0, 0, 0));
+
+    /* the path, and a chunk's functions: no chunk, then none of the slices */
+    CHECK(lawendeb_longest_path(NULL, 0, NULL, 0, NULL, 0, NULL, 0, NULL, 0).number ==
+          LAWENDEB_WEIGHTS_REFUSED);
+    CHECK(lawendeb_longest_path_53(NULL, 0, ones, LAWENDEB_WEIGHTS, NULL, 0, NULL, 0, NULL, 0)
+              .number == LAWENDEB_NO_WORDS);
+    CHECK(lawendeb_longest_path(sheet, 4, ones, LAWENDEB_WEIGHTS, own_marks, 4, own_lengths, 4,
+                                NULL, 0)
+              .number == LAWENDEB_SHORT_SLICE);
+    CHECK(lawendeb_chunk_functions(NULL, 0).number == LAWENDEB_MALFORMED_CHUNK);
+    CHECK(lawendeb_chunk_index(NULL, 0, NULL, 0, NULL, 0).number == LAWENDEB_MALFORMED_CHUNK);
+    CHECK(lawendeb_chunk_index(chunk, SIZE, NULL, 0, NULL, 0).number == LAWENDEB_SHORT_SLICE);
+    CHECK(lawendeb_chunk_head(NULL, 0, 0).number == LAWENDEB_MALFORMED_CHUNK);
+    CHECK(lawendeb_chunk_head_at(NULL, 0, 0).number == LAWENDEB_MALFORMED_CHUNK);
+    CHECK(counted(lawendeb_chunk_words_at(chunk, SIZE, 32, NULL, 0), LAWENDEB_SHORT_SLICE, 0, 0, 0,
+                  0));
+    CHECK(counted(lawendeb_chunk_lines_at(chunk, SIZE, 32, NULL, 0), LAWENDEB_SHORT_SLICE, 0, 0, 0,
+                  0));
+    CHECK(counted(lawendeb_chunk_lines(NULL, 0, 0, NULL, 0), LAWENDEB_MALFORMED_CHUNK, 0, 0, 0,
+                  0));
     CHECK(cleared > 0 && cleared_null == 0);
 }
 
@@ -1777,6 +1864,8 @@ int main(void) {
     chunks();
     deep();
     shown();
+    witness();
+    whole_chunks();
     fields_53();
     steps_53();
     runs_53();

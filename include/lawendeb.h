@@ -3,7 +3,7 @@
    Lawendeb for C from C99 on and C++ from C++11 on, on x86-64 Linux (System V calls). What the
    functions do is proved; what is asked of the caller stands here.
 
-   Twelve archives, to be linked alone or side by side. `include/archives [NAME..]` makes them in
+   Fourteen archives, to be linked alone or side by side. `include/archives [NAME..]` makes them in
    target/staticlib/, and `include/install PREFIX` puts them where pkg-config and CMake find them:
      libmeter.a       begin, feed and reset, for controllers
      libexports.a     fields, steps, the longest run, records
@@ -17,18 +17,20 @@
      liblua53.a       scripts of Lua 5.3, for older controllers, but for the feeds
      libmeter53.a     the feed of such a script
      libbudget53.a    the feed of such a script as one of four
-   All but the last three are for scripts of Lua 5.4; the last part of this header says which to
-   use. Those of meters and budgets need no symbol, the others memset. They write nothing but what a
-   call is lent: no heap, no static data, and as measured less than 1 kB of stack, but less than 2
-   kB for what a word touches, for a question about services and for a rehearsal, less than 13 kB
-   for a pass over a chunk, which goes down with its functions, 32 levels at most, and less than 400
-   kB for registers set before use, whose two tables of fixed size lie there: no call for a small
-   stack (docs/BENCHMARKS.md). So every call is reentrant, and calls on different memory may run at
-   once, in threads or interrupts. A begin, a feed, a reset and what a word touches take a bounded
-   time, whatever the number of words; a run and a question about services take time in proportion
-   to the words, registers set before use to the words times the registers that are read, a lift to
-   words, constants and names, a rehearsal to the words of its scripts, its choices and the words
-   that it runs, a pass to the chunk's bytes.
+     libwitness.a     which words make the longest run, for both versions
+     libindex.a       all functions of a compiled script, lines, heads
+   What is not said to be for 5.3 is for scripts of Lua 5.4; the part about 5.3 says which to use.
+   Those of meters and budgets and libindex.a need no symbol, the others memset. They write nothing
+   but what a call is lent: no heap, no static data, and as measured less than 1 kB of stack, but
+   less than 2 kB for what a word touches, for a question about services and for a rehearsal, less
+   than 16 kB for a pass over a chunk and 19 kB for a call of libindex.a, which go down with its
+   functions, 32 levels at most, and less than 400 kB for registers set before use, whose two tables
+   of fixed size lie there: no call for a small stack (docs/BENCHMARKS.md). So every call is
+   reentrant, and calls on different memory may run at once, in threads or interrupts. A begin, a
+   feed, a reset and what a word touches take a bounded time, whatever the number of words; a run
+   and a question about services take time in proportion to the words, registers set before use to
+   the words times the registers that are read, a lift to words, constants and names, a rehearsal to
+   the words of its scripts, its choices and the words that it runs, a pass to the chunk's bytes.
 
    Each slice passes as a pointer and a length, and nobody writes it meanwhile.
      - Null: a slice's pointer may be null if its length is 0, as an empty std::vector's data() is,
@@ -92,7 +94,7 @@ extern "C" {
 /* Release 2: a call does not serve any more; only a step that does not go forward does.
    Release 3: a run and a feed are lent weights, and a feed's answer has a place.
    Release 4: a meter holds the highest count that it has shown, and can be reset.
-   Release 5: no symbol is new. Names in C alone: struct lawendeb_steps is what lawendeb_successors
+   Release 5: no symbol changed. Names in C: struct lawendeb_steps is what lawendeb_successors
    answers, struct lawendeb_touched what lawendeb_touches does; four meters are an array `of`. */
 #define lawendeb_begin lawendeb_begin_4
 #define lawendeb_feed lawendeb_feed_4
@@ -697,6 +699,87 @@ struct lawendeb_crossed lawendeb_crossing_edges_53(const uint32_t *words, size_t
     LAWENDEB_READS(1, 2) LAWENDEB_WRITES(4, 5) LAWENDEB_WRITES(6, 7);
 
 struct lawendeb_touched lawendeb_touches_53(const uint32_t *words, size_t n, size_t p)
+    LAWENDEB_READS(1, 2);
+
+/* ---- the words of a longest run: libwitness.a */
+
+/* The run's answer, and how many words its path has; 0 on a refusal. */
+struct lawendeb_path {
+    uint64_t number, place, longest, first, count;
+};
+
+/* lawendeb_longest_run, and into `path` the words of one longest stretch, `count` of them, from
+   `first` on: after each word the one to which control can go on without a service and which has
+   the greatest length, the lower of two that are equal; the last has none. Their weights make
+   `longest`. After 1, and before the run's other checks, 6: a path with fewer places than there are
+   words. What lies past the count stays as it was, and all of the path on a refusal. */
+struct lawendeb_path lawendeb_longest_path(const uint32_t *words, size_t n, const uint8_t *weights,
+                                           size_t weights_n, uint8_t *LAWENDEB_APART marks,
+                                           size_t marks_n, uint32_t *LAWENDEB_APART lengths,
+                                           size_t lengths_n, uint32_t *LAWENDEB_APART path,
+                                           size_t path_n)
+    LAWENDEB_READS(1, 2) LAWENDEB_READS(3, 4) LAWENDEB_WRITES(5, 6) LAWENDEB_WRITES(7, 8)
+    LAWENDEB_WRITES(9, 10);
+
+/* The same for words of Lua 5.3. */
+struct lawendeb_path lawendeb_longest_path_53(const uint32_t *words, size_t n,
+                                              const uint8_t *weights, size_t weights_n,
+                                              uint8_t *LAWENDEB_APART marks, size_t marks_n,
+                                              uint32_t *LAWENDEB_APART lengths, size_t lengths_n,
+                                              uint32_t *LAWENDEB_APART path, size_t path_n)
+    LAWENDEB_READS(1, 2) LAWENDEB_READS(3, 4) LAWENDEB_WRITES(5, 6) LAWENDEB_WRITES(7, 8)
+    LAWENDEB_WRITES(9, 10);
+
+/* ---- all functions of a compiled script, and a function by its place: libindex.a
+
+   A chunk is refused as by libchunk.a. A function's place is where its first byte stands. Asked by
+   number each call reads the whole chunk; asked by a place that lawendeb_chunk_index gave it reads
+   that function alone, with those within it, and answers the same. Any place may be asked: what is
+   no function there is refused, or answered as the bytes there read. */
+
+/* How many functions; 0 on a refusal. */
+struct lawendeb_listed {
+    uint64_t number, place, functions;
+};
+
+struct lawendeb_listed lawendeb_chunk_functions(const uint8_t *chunk, size_t n)
+    LAWENDEB_READS(1, 2);
+
+/* The place of each function, by number, and the number of the one that it stands in, of main
+   LAWENDEB_NO_FUNCTION. Last of all is tried 6: a slice shorter than the functions. What lies past
+   them stays as it was, and all of it on a refusal. */
+#define LAWENDEB_NO_FUNCTION UINT64_MAX
+struct lawendeb_listed lawendeb_chunk_index(const uint8_t *chunk, size_t n,
+                                            uint64_t *LAWENDEB_APART places, size_t places_n,
+                                            uint64_t *LAWENDEB_APART parents, size_t parents_n)
+    LAWENDEB_READS(1, 2) LAWENDEB_WRITES(3, 4) LAWENDEB_WRITES(5, 6);
+
+/* Words alone, as lawendeb_chunk_fill gives them, by place. */
+struct lawendeb_counts lawendeb_chunk_words_at(const uint8_t *chunk, size_t n, size_t at,
+                                               uint32_t *LAWENDEB_APART words, size_t words_n)
+    LAWENDEB_READS(1, 2) LAWENDEB_WRITES(4, 5);
+
+/* The source line of each word, as luaG_getfuncline of ldebug.c gives it; 0 where the chunk has no
+   debug information for the word. The counts are those of lawendeb_chunk_count; 6 is tried last. */
+struct lawendeb_counts lawendeb_chunk_lines(const uint8_t *chunk, size_t n, size_t k,
+                                            uint32_t *LAWENDEB_APART lines, size_t lines_n)
+    LAWENDEB_READS(1, 2) LAWENDEB_WRITES(4, 5);
+struct lawendeb_counts lawendeb_chunk_lines_at(const uint8_t *chunk, size_t n, size_t at,
+                                               uint32_t *LAWENDEB_APART lines, size_t lines_n)
+    LAWENDEB_READS(1, 2) LAWENDEB_WRITES(4, 5);
+
+/* What a function begins with: the place of its source's name in the chunk's bytes, start in the
+   low 32 bits and length in the high 32, LAWENDEB_UNNAMED where it has none of its own (luac
+   writes it for main alone); its first and its last line; parameters, whether it is vararg, its
+   registers. */
+struct lawendeb_head {
+    uint64_t number, place, source, linedefined, lastlinedefined;
+    uint64_t numparams, is_vararg, maxstacksize;
+};
+
+struct lawendeb_head lawendeb_chunk_head(const uint8_t *chunk, size_t n, size_t k)
+    LAWENDEB_READS(1, 2);
+struct lawendeb_head lawendeb_chunk_head_at(const uint8_t *chunk, size_t n, size_t at)
     LAWENDEB_READS(1, 2);
 
 #ifdef __cplusplus

@@ -16,6 +16,7 @@ use Rattle.chunk.specs.Lundump.{Function, Constant, Text, absent, text, 
 use Rattle.chunk.specs.Lundump.{loadNumber, loadInteger, stringOf, loadStringN, present, loadString, loadVector, loadItems, loadCode}
 use Rattle.chunk.specs.Lundump.{constantOf, loadConstant, loadConstants, loadUpvalues, loadAbsLine, loadLocVar, loadLines, loadName, namesFrom, loadNames}
 use Rattle.chunk.specs.Lundump.{loadHead, functionWith, several, noneOf, loadProtos, loadFunction, checkHeader, undump}
+use Rattle.chunk.specs.Stands.{Between, ReadBetween}
 use Rattle.chunk.proofs.Thens.{then1, then2, then3, then4, then5, then6, then7}
 
 -- ---- what is read ends where it starts, or later
@@ -214,44 +215,44 @@ module _ (bytes : List ℕ) where
       has-later at₃ (loadByte bytes at₃) _ (byte at₃) (λ _ at₄.
       has-later at₄ (loadByte bytes at₄) _ (byte at₄) (λ _ at₅. byte-has at₅)))))
 
--- ---- functions one after another, from a position to a position, each with its first byte among so many
-abbrev Between : ℕ → ℕ → List Function → ℕ → Type 0
-Between size lo [] hi = lo ≤ hi
-Between size lo (f ∷ fs) hi = (lo ≤ f .firstAt) × ((f .firstAt < size) × Between size (f .firstAt + 1) fs hi)
-
+-- ---- functions one after another, from a position to a position
 module _ (size : ℕ) where
+  ends : (lo hi : ℕ) (fs : List Function) → Between size lo fs hi → lo ≤ hi
+  ends lo hi [] k = k
+  ends lo hi (f ∷ fs) k = omega (arith, k .0, ends (f .firstAt + 1) hi fs (k .1 .1 .1))
+
   lower : (lo lo₁ hi : ℕ) (fs : List Function) → lo ≤ lo₁ → Between size lo₁ fs hi → Between size lo fs hi
   lower lo lo₁ hi [] h k = omega (arith, h, k)
   lower lo lo₁ hi (f ∷ fs) h k = (omega (arith, h, k .0), k .1)
 
   higher : (lo hi hi₁ : ℕ) (fs : List Function) → hi ≤ hi₁ → Between size lo fs hi → Between size lo fs hi₁
   higher lo hi hi₁ [] h k = omega (arith, h, k)
-  higher lo hi hi₁ (f ∷ fs) h k = (k .0, (k .1 .0, higher (f .firstAt + 1) hi hi₁ fs h (k .1 .1)))
+  higher lo hi hi₁ (f ∷ fs) h k = (k .0, (k .1 .0, (omega (arith, h, k .1 .1 .0), higher (f .firstAt + 1) hi hi₁ fs h (k .1 .1 .1))))
 
   joined : (lo mid hi : ℕ) (fs gs : List Function) → Between size lo fs mid → Between size mid gs hi → Between size lo (fs ++ gs) hi
   joined lo mid hi [] gs h k = lower lo mid hi gs h k
-  joined lo mid hi (f ∷ fs) gs h k = (h .0, (h .1 .0, joined (f .firstAt + 1) mid hi fs gs (h .1 .1) k))
+  joined lo mid hi (f ∷ fs) gs h k =
+      (h .0, (h .1 .0, (omega (arith, h .1 .1 .0, ends mid hi gs k), joined (f .firstAt + 1) mid hi fs gs (h .1 .1 .1) k)))
 
   -- the first byte of each lies at the position or after it
   above : (lo hi k : ℕ) (fs : List Function) (d : Function) → Between size lo fs hi → k < length fs → lo ≤ getD fs k d .firstAt
   above lo hi k [] d b h = absurd (omega arith)
   above lo hi zero (f ∷ fs) d b h = b .0
-  above lo hi (suc k) (f ∷ fs) d b h = omega (arith, b .0, above (f .firstAt + 1) hi k fs d (b .1 .1) (omega arith))
+  above lo hi (suc k) (f ∷ fs) d b h = omega (arith, b .0, above (f .firstAt + 1) hi k fs d (b .1 .1 .1) (omega arith))
 
   rises : (lo hi : ℕ) (fs : List Function) → Between size lo fs hi → (j k : ℕ) (d : Function) → j < k → k < length fs → getD fs j d .firstAt < getD fs k d .firstAt
   rises lo hi [] b j k d h l = absurd (omega arith)
   rises lo hi (f ∷ fs) b j zero d h l = absurd (omega arith)
-  rises lo hi (f ∷ fs) b zero (suc k) d h l = omega (arith, above (f .firstAt + 1) hi k fs d (b .1 .1) (omega arith))
-  rises lo hi (f ∷ fs) b (suc j) (suc k) d h l = rises (f .firstAt + 1) hi fs (b .1 .1) j k d (omega arith) (omega arith)
+  rises lo hi (f ∷ fs) b zero (suc k) d h l = omega (arith, above (f .firstAt + 1) hi k fs d (b .1 .1 .1) (omega arith))
+  rises lo hi (f ∷ fs) b (suc j) (suc k) d h l = rises (f .firstAt + 1) hi fs (b .1 .1 .1) j k d (omega arith) (omega arith)
 
   -- so they are as many as the bytes from the position on, at most
   fewer : (lo hi : ℕ) (fs : List Function) → Between size lo fs hi → length fs ≤ size - lo
   fewer lo hi [] b = omega arith
-  fewer lo hi (f ∷ fs) b = omega (arith, b .0, b .1 .0, fewer (f .firstAt + 1) hi fs (b .1 .1))
+  fewer lo hi (f ∷ fs) b = omega (arith, b .0, b .1 .0, fewer (f .firstAt + 1) hi fs (b .1 .1 .1))
 
   abbrev Read : ℕ → Result (List Function) → Type 0
-  Read lo (done fs at) = Between size lo fs at
-  Read lo (refused e) = Unit
+  Read = ReadBetween size
 
   lower-read : (lo lo₁ : ℕ) (X : Result (List Function)) → lo ≤ lo₁ → Read lo₁ X → Read lo X
   lower-read lo lo₁ (done fs at) h k = lower lo lo₁ at fs h k
@@ -276,7 +277,7 @@ module _ (bytes : List ℕ) where
     several-on n lo later (done fs at) h = both lo fs at h (several r n bytes at) (later at)
     several-on n lo later (refused e) h = tt
 
-    several-rise : (n at : ℕ) → Read size at (several r n bytes at)
+    pub several-rise : (n at : ℕ) → Read size at (several r n bytes at)
     unfolding several
     several-rise zero at = omega arith
     several-rise (suc n) at = several-on n at (several-rise n) (r bytes at) (each at)
@@ -285,12 +286,12 @@ module _ (bytes : List ℕ) where
   module _ (P : Reader (List Function)) (inside : (at : ℕ) → Read size at (P bytes at)) (at₀ : ℕ) where
     module _ (begun : at₀ < size) where
       r7 : (at₁ : ℕ) (ws : List ℕ) (at₂ : ℕ) (ks : List Constant) (n : ℕ) (inner : List Function) (at₅ at₆ : ℕ) (X : Result (List Text))
-          → Between size (at₀ + 1) inner at₅ → at₅ ≤ at₆ → Up at₆ X → Read size at₀ (bind X (then7 bytes P at₀ at₁ ws at₂ ks n inner at₆))
-      r7 at₁ ws at₂ ks n inner at₅ at₆ (done t at₇) b h u = (here at₀, (begun, higher size (at₀ + 1) at₅ at₇ inner (omega (arith, h, u)) b))
+          → Between size (at₀ + 1) inner at₅ → at₅ ≤ at₆ → Up at₆ X → Read size at₀ (bind X (then7 bytes P at₀ at₁ ws at₂ ks n inner at₅ at₆))
+      r7 at₁ ws at₂ ks n inner at₅ at₆ (done t at₇) b h u = (here at₀, (begun, (here at₇, higher size (at₀ + 1) at₅ at₇ inner (omega (arith, h, u)) b)))
       r7 at₁ ws at₂ ks n inner at₅ at₆ (refused e) b h u = tt
 
       r6 : (at₁ : ℕ) (ws : List ℕ) (at₂ : ℕ) (ks : List Constant) (n : ℕ) (inner : List Function) (at₅ : ℕ) (X : Result (List ℕ))
-          → Between size (at₀ + 1) inner at₅ → Up at₅ X → Read size at₀ (bind X (then6 bytes P at₀ at₁ ws at₂ ks n inner))
+          → Between size (at₀ + 1) inner at₅ → Up at₅ X → Read size at₀ (bind X (then6 bytes P at₀ at₁ ws at₂ ks n inner at₅))
       r6 at₁ ws at₂ ks n inner at₅ (done z at₆) b u = r7 at₁ ws at₂ ks n inner at₅ at₆ (loadNames n bytes at₆) b u (names bytes n at₆)
       r6 at₁ ws at₂ ks n inner at₅ (refused e) b u = tt
 
@@ -327,12 +328,15 @@ module _ (bytes : List ℕ) where
   none-rise zero at = omega arith
   none-rise (suc n) at = tt
 
-  protos-rise : (level at : ℕ) → Read size at (loadProtos level bytes at)
+  pub protos-rise : (level at : ℕ) → Read size at (loadProtos level bytes at)
   unfolding loadProtos
   protos-rise zero at = read-bind size at (loadInt bytes at) (λ n at₁. noneOf n bytes at₁) (int bytes at) none-rise
   protos-rise (suc level) at =
       read-bind size at (loadInt bytes at) (λ n at₁. several (functionWith (loadProtos level)) n bytes at₁) (int bytes at)
       (several-rise (functionWith (loadProtos level)) (one-rises (loadProtos level) (protos-rise level)))
+
+  pub function-rises : (level at : ℕ) → Read size at (loadFunction level bytes at)
+  function-rises level at = one-rises (loadProtos level) (protos-rise level) at
 
   from-start : {A : Type 0} (X : Result A) (g : ℕ → Result (List Function)) → ((at : ℕ) → Read size at (g at)) → Read size 0 (bind X (λ _ at. g at))
   from-start (done a at) g h = lower-read size 0 at (g at) (omega arith) (h at)
@@ -346,7 +350,7 @@ module _ (bytes : List ℕ) where
   unfolding undump
   undump-rises =
       then-read (checkHeader bytes 0) (λ at. bind (loadByte bytes at) (λ _ at₁. loadFunction levelsBelow bytes at₁))
-      (λ at. from-start (loadByte bytes at) (λ at₁. loadFunction levelsBelow bytes at₁) (one-rises (loadProtos levelsBelow) (protos-rise levelsBelow)))
+      (λ at. from-start (loadByte bytes at) (λ at₁. loadFunction levelsBelow bytes at₁) (function-rises levelsBelow))
 
   pub by-first-byte : (fs : List Function) (at : ℕ) → undump bytes 0 ≡ done fs at
       → (j k : ℕ) (d : Function) → j < k → k < length fs → getD fs j d .firstAt < getD fs k d .firstAt

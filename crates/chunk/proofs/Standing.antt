@@ -29,49 +29,72 @@ module _ (bytes : List ℕ) where
     abbrev Reads : ℕ → Result (List Function) → Type 0
     Reads at₀ X = loadFunction level bytes at₀ ≡ X
 
-    s7 : (at₀ at₁ : ℕ) (code : List ℕ) (at₂ : ℕ) (ks : List Constant) (at₃ n : ℕ) (inner : List Function) (at₆ : ℕ) (X : Result (List Text))
-        → loadCode bytes at₁ ≡ done code at₂ → loadConstants bytes at₂ ≡ done ks at₃ → n ≤ mostNames → AllStand bytes inner → loadNames n bytes at₆ ≡ X
-        → Reads at₀ (bind X (then7 bytes P at₀ at₁ code at₂ ks n inner at₆)) → AllRead bytes (bind X (then7 bytes P at₀ at₁ code at₂ ks n inner at₆))
-    s7 at₀ at₁ code at₂ ks at₃ n inner at₆ (done names at₇) c k u i m r =
-        let e = names-length bytes n at₆ names at₇ m in
-        (record { level = level; few-levels = low; within = inner; next = at₇; whole = r; codeNext = at₂; code = c; constantsNext = at₃; constants = k; namesNext = at₇; names = m; one-each = e; few-words = few-words bytes at₁ code at₂ c; few-constants = few-items bytes mostConstants loadConstant at₂ ks at₃ k; few-names = omega arith }, i)
-    s7 at₀ at₁ code at₂ ks at₃ n inner at₆ (refused e) c k u i m r = tt
+    module _ (at₀ at₁ m : ℕ) (hd : loadHead bytes at₀ ≡ done m at₁) where
+      s7 : (code : List ℕ) (at₂ : ℕ) (ks : List Constant) (at₃ n : ℕ) (inner : List Function) (at₅ : ℕ) (ls : List ℕ) (at₆ : ℕ) (X : Result (List Text))
+          → loadCode bytes at₁ ≡ done code at₂ → loadConstants bytes at₂ ≡ done ks at₃ → n ≤ mostNames → AllStand bytes inner
+          → loadLines bytes at₅ ≡ done ls at₆ → loadNames n bytes at₆ ≡ X
+          → Reads at₀ (bind X (then7 bytes P at₀ at₁ code at₂ ks n inner at₅ at₆)) → AllRead bytes (bind X (then7 bytes P at₀ at₁ code at₂ ks n inner at₅ at₆))
+      s7 code at₂ ks at₃ n inner at₅ ls at₆ (done names at₇) c k u i d q r =
+          let e = names-length bytes n at₆ names at₇ q in (
+            record {
+              level = level;
+              few-levels = low;
+              within = inner;
+              whole = r;
+              stack = m;
+              head = hd;
+              codeNext = at₂;
+              code = c;
+              constantsNext = at₃;
+              constants = k;
+              locals = ls;
+              lines = d;
+              namesNext = at₇;
+              names = q;
+              one-each = e;
+              few-words = few-words bytes at₁ code at₂ c;
+              few-constants = few-items bytes mostConstants loadConstant at₂ ks at₃ k;
+              few-names = omega arith;
+            },
+            i,
+          )
+      s7 code at₂ ks at₃ n inner at₅ ls at₆ (refused e) c k u i d q r = tt
 
-    s6 : (at₀ at₁ : ℕ) (code : List ℕ) (at₂ : ℕ) (ks : List Constant) (at₃ n : ℕ) (inner : List Function) (X : Result (List ℕ))
-        → loadCode bytes at₁ ≡ done code at₂ → loadConstants bytes at₂ ≡ done ks at₃ → n ≤ mostNames → AllStand bytes inner
-        → Reads at₀ (bind X (then6 bytes P at₀ at₁ code at₂ ks n inner)) → AllRead bytes (bind X (then6 bytes P at₀ at₁ code at₂ ks n inner))
-    s6 at₀ at₁ code at₂ ks at₃ n inner (done z at₆) c k u i r = s7 at₀ at₁ code at₂ ks at₃ n inner at₆ (loadNames n bytes at₆) c k u i refl r
-    s6 at₀ at₁ code at₂ ks at₃ n inner (refused e) c k u i r = tt
+      s6 : (code : List ℕ) (at₂ : ℕ) (ks : List Constant) (at₃ n : ℕ) (inner : List Function) (at₅ : ℕ) (X : Result (List ℕ))
+          → loadCode bytes at₁ ≡ done code at₂ → loadConstants bytes at₂ ≡ done ks at₃ → n ≤ mostNames → AllStand bytes inner → loadLines bytes at₅ ≡ X
+          → Reads at₀ (bind X (then6 bytes P at₀ at₁ code at₂ ks n inner at₅)) → AllRead bytes (bind X (then6 bytes P at₀ at₁ code at₂ ks n inner at₅))
+      s6 code at₂ ks at₃ n inner at₅ (done z at₆) c k u i d r = s7 code at₂ ks at₃ n inner at₅ z at₆ (loadNames n bytes at₆) c k u i d refl r
+      s6 code at₂ ks at₃ n inner at₅ (refused e) c k u i d r = tt
 
-    s5 : (at₀ at₁ : ℕ) (code : List ℕ) (at₂ : ℕ) (ks : List Constant) (at₃ n : ℕ) (X : Result (List Function))
-        → loadCode bytes at₁ ≡ done code at₂ → loadConstants bytes at₂ ≡ done ks at₃ → n ≤ mostNames → AllRead bytes X
-        → Reads at₀ (bind X (then5 bytes P at₀ at₁ code at₂ ks n)) → AllRead bytes (bind X (then5 bytes P at₀ at₁ code at₂ ks n))
-    s5 at₀ at₁ code at₂ ks at₃ n (done inner at₅) c k u i r = s6 at₀ at₁ code at₂ ks at₃ n inner (loadLines bytes at₅) c k u i r
-    s5 at₀ at₁ code at₂ ks at₃ n (refused e) c k u i r = tt
+      s5 : (code : List ℕ) (at₂ : ℕ) (ks : List Constant) (at₃ n : ℕ) (X : Result (List Function))
+          → loadCode bytes at₁ ≡ done code at₂ → loadConstants bytes at₂ ≡ done ks at₃ → n ≤ mostNames → AllRead bytes X
+          → Reads at₀ (bind X (then5 bytes P at₀ at₁ code at₂ ks n)) → AllRead bytes (bind X (then5 bytes P at₀ at₁ code at₂ ks n))
+      s5 code at₂ ks at₃ n (done inner at₅) c k u i r = s6 code at₂ ks at₃ n inner at₅ (loadLines bytes at₅) c k u i refl r
+      s5 code at₂ ks at₃ n (refused e) c k u i r = tt
 
-    s4 : (at₀ at₁ : ℕ) (code : List ℕ) (at₂ : ℕ) (ks : List Constant) (at₃ : ℕ) (X : Result ℕ)
-        → loadCode bytes at₁ ≡ done code at₂ → loadConstants bytes at₂ ≡ done ks at₃ → loadUpvalues bytes at₃ ≡ X
-        → Reads at₀ (bind X (then4 bytes P at₀ at₁ code at₂ ks)) → AllRead bytes (bind X (then4 bytes P at₀ at₁ code at₂ ks))
-    s4 at₀ at₁ code at₂ ks at₃ (done n at₄) c k u r = s5 at₀ at₁ code at₂ ks at₃ n (P bytes at₄) c k (few-upvalues bytes at₃ n at₄ u) (within at₄) r
-    s4 at₀ at₁ code at₂ ks at₃ (refused e) c k u r = tt
+      s4 : (code : List ℕ) (at₂ : ℕ) (ks : List Constant) (at₃ : ℕ) (X : Result ℕ)
+          → loadCode bytes at₁ ≡ done code at₂ → loadConstants bytes at₂ ≡ done ks at₃ → loadUpvalues bytes at₃ ≡ X
+          → Reads at₀ (bind X (then4 bytes P at₀ at₁ code at₂ ks)) → AllRead bytes (bind X (then4 bytes P at₀ at₁ code at₂ ks))
+      s4 code at₂ ks at₃ (done n at₄) c k u r = s5 code at₂ ks at₃ n (P bytes at₄) c k (few-upvalues bytes at₃ n at₄ u) (within at₄) r
+      s4 code at₂ ks at₃ (refused e) c k u r = tt
 
-    s3 : (at₀ at₁ : ℕ) (code : List ℕ) (at₂ : ℕ) (X : Result (List Constant)) → loadCode bytes at₁ ≡ done code at₂ → loadConstants bytes at₂ ≡ X
-        → Reads at₀ (bind X (then3 bytes P at₀ at₁ code at₂)) → AllRead bytes (bind X (then3 bytes P at₀ at₁ code at₂))
-    s3 at₀ at₁ code at₂ (done ks at₃) c k r = s4 at₀ at₁ code at₂ ks at₃ (loadUpvalues bytes at₃) c k refl r
-    s3 at₀ at₁ code at₂ (refused e) c k r = tt
+      s3 : (code : List ℕ) (at₂ : ℕ) (X : Result (List Constant)) → loadCode bytes at₁ ≡ done code at₂ → loadConstants bytes at₂ ≡ X
+          → Reads at₀ (bind X (then3 bytes P at₀ at₁ code at₂)) → AllRead bytes (bind X (then3 bytes P at₀ at₁ code at₂))
+      s3 code at₂ (done ks at₃) c k r = s4 code at₂ ks at₃ (loadUpvalues bytes at₃) c k refl r
+      s3 code at₂ (refused e) c k r = tt
 
-    s2 : (at₀ at₁ : ℕ) (X : Result (List ℕ)) → loadCode bytes at₁ ≡ X
-        → Reads at₀ (bind X (then2 bytes P at₀ at₁)) → AllRead bytes (bind X (then2 bytes P at₀ at₁))
-    s2 at₀ at₁ (done code at₂) c r = s3 at₀ at₁ code at₂ (loadConstants bytes at₂) c refl r
-    s2 at₀ at₁ (refused e) c r = tt
+      s2 : (X : Result (List ℕ)) → loadCode bytes at₁ ≡ X
+          → Reads at₀ (bind X (then2 bytes P at₀ at₁)) → AllRead bytes (bind X (then2 bytes P at₀ at₁))
+      s2 (done code at₂) c r = s3 code at₂ (loadConstants bytes at₂) c refl r
+      s2 (refused e) c r = tt
 
-    s1 : (at₀ : ℕ) (X : Result ℕ) → Reads at₀ (bind X (then1 bytes P at₀)) → AllRead bytes (bind X (then1 bytes P at₀))
-    s1 at₀ (done a at₁) r = s2 at₀ at₁ (loadCode bytes at₁) refl r
-    s1 at₀ (refused e) r = tt
+    s1 : (at₀ : ℕ) (X : Result ℕ) → loadHead bytes at₀ ≡ X → Reads at₀ (bind X (then1 bytes P at₀)) → AllRead bytes (bind X (then1 bytes P at₀))
+    s1 at₀ (done a at₁) h r = s2 at₀ at₁ a h (loadCode bytes at₁) refl r
+    s1 at₀ (refused e) h r = tt
 
     one-stands : (at : ℕ) → AllRead bytes (loadFunction level bytes at)
     unfolding functionWith
-    one-stands at = s1 at (loadHead bytes at) refl
+    one-stands at = s1 at (loadHead bytes at) refl refl
 
   module _ (r : Reader (List Function)) (each : (at : ℕ) → AllRead bytes (r bytes at)) where
     joins : (fs : List Function) (X : Result (List Function)) → AllStand bytes fs → AllRead bytes X → AllRead bytes (bind X (λ more at. done (fs ++ more) at))

@@ -49,76 +49,76 @@ over-own (Left (suc n)) f inner = refl
 
 -- ---- one function
 module _ (bytes : List ℕ) (P : Reader (List Function)) (s : Search) where
-  abbrev end : Cursor → Cursor → Cursor → Cursor → Walk → Cursor → Cursor → Walk
-  end h k q u w l n =
-      finished s (record { «code_at» = positionOf h; words = valueOf k; «constants_at» = positionOf k; constants = valueOf q; «names_at» = positionOf l; names = valueOf u }) w n
+  abbrev end : ℕ → Cursor → Cursor → Cursor → Cursor → Walk → Cursor → Cursor → Walk
+  end p h k q u w l n =
+      finished s (record { «first_at» = p; «code_at» = positionOf h; words = valueOf k; «constants_at» = positionOf k; constants = valueOf q; «lines_at» = positionOf (cursorAt w); «names_at» = positionOf l; names = valueOf u }) w n
 
-  abbrev from6 : Cursor → Cursor → Cursor → Cursor → Walk → Cursor → Walk
-  from6 h k q u w l = end h k q u w l (step none (loadNames (valueOf u)) bytes l)
+  abbrev from6 : ℕ → Cursor → Cursor → Cursor → Cursor → Walk → Cursor → Walk
+  from6 p h k q u w l = end p h k q u w l (step none (loadNames (valueOf u)) bytes l)
 
-  abbrev from5 : Cursor → Cursor → Cursor → Cursor → Walk → Walk
-  from5 h k q u w = from6 h k q u w (step length loadLines bytes (cursorAt w))
+  abbrev from5 : ℕ → Cursor → Cursor → Cursor → Cursor → Walk → Walk
+  from5 p h k q u w = from6 p h k q u w (step length loadLines bytes (cursorAt w))
 
-  abbrev from4 : Cursor → Cursor → Cursor → Cursor → Walk
-  from4 h k q u = from5 h k q u (walk P bytes u (passed s))
+  abbrev from4 : ℕ → Cursor → Cursor → Cursor → Cursor → Walk
+  from4 p h k q u = from5 p h k q u (walk P bytes u (passed s))
 
-  abbrev from3 : Cursor → Cursor → Cursor → Walk
-  from3 h k q = from4 h k q (step same loadUpvalues bytes q)
+  abbrev from3 : ℕ → Cursor → Cursor → Cursor → Walk
+  from3 p h k q = from4 p h k q (step same loadUpvalues bytes q)
 
-  abbrev from2 : Cursor → Cursor → Walk
-  from2 h k = from3 h k (step length loadConstants bytes k)
+  abbrev from2 : ℕ → Cursor → Cursor → Walk
+  from2 p h k = from3 p h k (step length loadConstants bytes k)
 
-  abbrev from1 : Cursor → Walk
-  from1 h = from2 h (step length loadCode bytes h)
+  abbrev from1 : ℕ → Cursor → Walk
+  from1 p h = from2 p h (step length loadCode bytes h)
 
   at7 : (at₀ a at₁ : ℕ) (code : List ℕ) (at₂ : ℕ) (ks : List Constant) (at₃ n at₄ : ℕ) (inner : List Function) (at₅ z at₆ : ℕ) (X : Result (List Text))
-      → end (At at₁ a) (At at₂ (length code)) (At at₃ (length ks)) (At at₄ n) (Past at₅ (search (passed s) inner)) (At at₆ z) (cursorOf none X)
-      ≡ walkOf s (bind X (then7 bytes P at₀ at₁ code at₂ ks n inner at₆))
-  at7 at₀ a at₁ code at₂ ks at₃ n at₄ inner at₅ z at₆ (done names at₇) = ap (Past at₇) (over-own s (own at₀ at₁ code at₂ ks n at₆ names) inner)
+      → end at₀ (At at₁ a) (At at₂ (length code)) (At at₃ (length ks)) (At at₄ n) (Past at₅ (search (passed s) inner)) (At at₆ z) (cursorOf none X)
+      ≡ walkOf s (bind X (then7 bytes P at₀ at₁ code at₂ ks n inner at₅ at₆))
+  at7 at₀ a at₁ code at₂ ks at₃ n at₄ inner at₅ z at₆ (done names at₇) = ap (Past at₇) (over-own s (own at₀ at₁ code at₂ ks n at₅ at₆ names at₇) inner)
   at7 at₀ a at₁ code at₂ ks at₃ n at₄ inner at₅ z at₆ (refused e) = refl
 
   at6 : (at₀ a at₁ : ℕ) (code : List ℕ) (at₂ : ℕ) (ks : List Constant) (at₃ n at₄ : ℕ) (inner : List Function) (at₅ : ℕ) (X : Result (List ℕ))
-      → from6 (At at₁ a) (At at₂ (length code)) (At at₃ (length ks)) (At at₄ n) (Past at₅ (search (passed s) inner)) (cursorOf length X)
-      ≡ walkOf s (bind X (then6 bytes P at₀ at₁ code at₂ ks n inner))
+      → from6 at₀ (At at₁ a) (At at₂ (length code)) (At at₃ (length ks)) (At at₄ n) (Past at₅ (search (passed s) inner)) (cursorOf length X)
+      ≡ walkOf s (bind X (then6 bytes P at₀ at₁ code at₂ ks n inner at₅))
   unfolding step
   at6 at₀ a at₁ code at₂ ks at₃ n at₄ inner at₅ (done z at₆) = at7 at₀ a at₁ code at₂ ks at₃ n at₄ inner at₅ (length z) at₆ (loadNames n bytes at₆)
   at6 at₀ a at₁ code at₂ ks at₃ n at₄ inner at₅ (refused e) = refl
 
   at5 : (at₀ a at₁ : ℕ) (code : List ℕ) (at₂ : ℕ) (ks : List Constant) (at₃ n at₄ : ℕ) (X : Result (List Function))
-      → from5 (At at₁ a) (At at₂ (length code)) (At at₃ (length ks)) (At at₄ n) (walkOf (passed s) X) ≡ walkOf s (bind X (then5 bytes P at₀ at₁ code at₂ ks n))
+      → from5 at₀ (At at₁ a) (At at₂ (length code)) (At at₃ (length ks)) (At at₄ n) (walkOf (passed s) X) ≡ walkOf s (bind X (then5 bytes P at₀ at₁ code at₂ ks n))
   unfolding step
   at5 at₀ a at₁ code at₂ ks at₃ n at₄ (done inner at₅) = at6 at₀ a at₁ code at₂ ks at₃ n at₄ inner at₅ (loadLines bytes at₅)
   at5 at₀ a at₁ code at₂ ks at₃ n at₄ (refused e) = refl
 
   at4 : (at₀ a at₁ : ℕ) (code : List ℕ) (at₂ : ℕ) (ks : List Constant) (at₃ : ℕ) (X : Result ℕ)
-      → from4 (At at₁ a) (At at₂ (length code)) (At at₃ (length ks)) (cursorOf same X) ≡ walkOf s (bind X (then4 bytes P at₀ at₁ code at₂ ks))
+      → from4 at₀ (At at₁ a) (At at₂ (length code)) (At at₃ (length ks)) (cursorOf same X) ≡ walkOf s (bind X (then4 bytes P at₀ at₁ code at₂ ks))
   unfolding step walk
   at4 at₀ a at₁ code at₂ ks at₃ (done n at₄) = at5 at₀ a at₁ code at₂ ks at₃ n at₄ (P bytes at₄)
   at4 at₀ a at₁ code at₂ ks at₃ (refused e) = refl
 
   at3 : (at₀ a at₁ : ℕ) (code : List ℕ) (at₂ : ℕ) (X : Result (List Constant))
-      → from3 (At at₁ a) (At at₂ (length code)) (cursorOf length X) ≡ walkOf s (bind X (then3 bytes P at₀ at₁ code at₂))
+      → from3 at₀ (At at₁ a) (At at₂ (length code)) (cursorOf length X) ≡ walkOf s (bind X (then3 bytes P at₀ at₁ code at₂))
   unfolding step walk
   at3 at₀ a at₁ code at₂ (done ks at₃) = at4 at₀ a at₁ code at₂ ks at₃ (loadUpvalues bytes at₃)
   at3 at₀ a at₁ code at₂ (refused e) = refl
 
-  at2 : (at₀ a at₁ : ℕ) (X : Result (List ℕ)) → from2 (At at₁ a) (cursorOf length X) ≡ walkOf s (bind X (then2 bytes P at₀ at₁))
+  at2 : (at₀ a at₁ : ℕ) (X : Result (List ℕ)) → from2 at₀ (At at₁ a) (cursorOf length X) ≡ walkOf s (bind X (then2 bytes P at₀ at₁))
   unfolding step walk
   at2 at₀ a at₁ (done code at₂) = at3 at₀ a at₁ code at₂ (loadConstants bytes at₂)
   at2 at₀ a at₁ (refused e) = refl
 
-  at1 : (at₀ : ℕ) (X : Result ℕ) → from1 (cursorOf same X) ≡ walkOf s (bind X (then1 bytes P at₀))
+  at1 : (at₀ : ℕ) (X : Result ℕ) → from1 at₀ (cursorOf same X) ≡ walkOf s (bind X (then1 bytes P at₀))
   unfolding step walk
   at1 at₀ (done a at₁) = at2 at₀ a at₁ (loadCode bytes at₁)
   at1 at₀ (refused e) = refl
 
-  whole : (c : Cursor) → from1 (step same loadHead bytes c) ≡ walk (functionWith P) bytes c s
+  whole : (c : Cursor) → from1 (positionOf c) (step same loadHead bytes c) ≡ walk (functionWith P) bytes c s
   unfolding step walk functionWith
   whole (At at v) = at1 at (loadHead bytes at)
   whole (Refused e) = refl
 
   -- the code's steps, one after another
-  pub joined : (c h k q u : Cursor) (w : Walk) (m l n : Cursor) (a₁ a₂ a₃ a₄ a₅ a₆ v : ℕ) (t : Search) (x : Walk)
+  pub joined : (c h k q u : Cursor) (w : Walk) (m l n : Cursor) (a₀ a₁ a₂ a₃ a₄ a₇ a₅ a₆ v : ℕ) (t : Search) (x : Walk)
       → h ≡ step same loadHead bytes c
       → k ≡ step length loadCode bytes h
       → q ≡ step length loadConstants bytes k
@@ -129,11 +129,11 @@ module _ (bytes : List ℕ) (P : Reader (List Function)) (s : Search) where
       → l ≡ step length loadLines bytes m
       → v ≡ valueOf u
       → n ≡ step none (loadNames v) bytes l
-      → a₁ ≡ positionOf h → a₂ ≡ valueOf k → a₃ ≡ positionOf k → a₄ ≡ valueOf q → a₅ ≡ positionOf l → a₆ ≡ valueOf u
-      → x ≡ finished s (record { «code_at» = a₁; words = a₂; «constants_at» = a₃; constants = a₄; «names_at» = a₅; names = a₆ }) w n
+      → a₀ ≡ positionOf c → a₁ ≡ positionOf h → a₂ ≡ valueOf k → a₃ ≡ positionOf k → a₄ ≡ valueOf q → a₇ ≡ positionOf m → a₅ ≡ positionOf l → a₆ ≡ valueOf u
+      → x ≡ finished s (record { «first_at» = a₀; «code_at» = a₁; words = a₂; «constants_at» = a₃; constants = a₄; «lines_at» = a₇; «names_at» = a₅; names = a₆ }) w n
       → x ≡ walk (functionWith P) bytes c s
-  joined c h k q u w m l n a₁ a₂ a₃ a₄ a₅ a₆ v t x eh ek eq eu et ew em el ev en e₁ e₂ e₃ e₄ e₅ e₆ ex =
-      ex ∙ (rw (e₁, e₂, e₃, e₄, e₅, e₆, en, ev, el, em, ew, et, eu, eq, ek, eh) (whole c))
+  joined c h k q u w m l n a₀ a₁ a₂ a₃ a₄ a₇ a₅ a₆ v t x eh ek eq eu et ew em el ev en e₀ e₁ e₂ e₃ e₄ e₇ e₅ e₆ ex =
+      ex ∙ (rw (e₀, e₁, e₂, e₃, e₄, e₇, e₅, e₆, en, ev, el, em, ew, et, eu, eq, ek, eh) (whole c))
 
 -- ---- several functions
 unfoldable pub resumed : Reader (List Function) → ℕ → List ℕ → Walk → Walk

@@ -147,8 +147,8 @@ namesFrom upvalues (suc n) bytes at = repeat loadName 0 upvalues bytes at
 unfoldable pub loadNames : ℕ → Reader (List Text)
 loadNames upvalues bytes at = bind (loadInt bytes at) (λ n at₁. namesFrom upvalues n bytes at₁)
 
--- a function: where its first byte stands in the bytes; its words, constants and names, one for each upvalue, and where the count of each
--- stands
+-- a function: where its first byte stands in the bytes, the first of its head, and the position past its last one; its words, constants and names,
+-- one for each upvalue, where the count of each stands, and where that of its line information does
 pub record Function : Type 0 where
   pub firstAt : ℕ
   pub codeAt : ℕ
@@ -156,8 +156,10 @@ pub record Function : Type 0 where
   pub constantsAt : ℕ
   pub constants : List Constant
   pub upvalues : ℕ
+  pub linesAt : ℕ
   pub namesAt : ℕ
   pub names : List Text
+  pub endAt : ℕ
 
 -- loadFunction, ahead of its parts: source, linedefined, lastlinedefined, numparams, is_vararg, maxstacksize
 unfoldable pub loadHead : Reader ℕ
@@ -173,7 +175,19 @@ functionWith loadProtos bytes at =
     bind (loadProtos bytes at₄) (λ inner at₅.
     bind (loadLines bytes at₅) (λ _ at₆.
     bind (loadNames n bytes at₆) (λ names at₇.
-    done (record { firstAt = at; codeAt = at₁; words = code; constantsAt = at₂; constants = k; upvalues = n; namesAt = at₆; names = names } ∷ inner) at₇)))))))
+    done
+    (record {
+      firstAt = at;
+      codeAt = at₁;
+      words = code;
+      constantsAt = at₂;
+      constants = k;
+      upvalues = n;
+      linesAt = at₅;
+      namesAt = at₆;
+      names = names;
+      endAt = at₇;
+    } ∷ inner) at₇)))))))
 
 -- loadProtos: n functions, each with those within it
 unfoldable pub several : Reader (List Function) → ℕ → Reader (List Function)

@@ -15,12 +15,14 @@ use crate::reading::position;
 use crate::reading::reason;
 use crate::reading::value;
 
-// Where the counts of a function's words, constants and names stand, and how many it has of each.
+// Where a function's head stands, and the counts of its words, constants, line information and names, and how many it has of each.
 pub struct Layout {
+    pub first_at: usize,
     pub code_at: usize,
     pub words: usize,
     pub constants_at: usize,
     pub constants: usize,
+    pub lines_at: usize,
     pub names_at: usize,
     pub names: usize,
 }
@@ -87,7 +89,7 @@ fn finish(s: Search, own: Layout, inner: Walk, last: Cursor) -> Walk
 }
 
 // loadFunction, with so many levels left below it
-pub(crate) fn function(chunk: &[u8], c: Cursor, level: u32, s: Search) -> Walk
+pub fn function(chunk: &[u8], c: Cursor, level: u32, s: Search) -> Walk
     ensures { λ r. ⌜ r ≡ walk (loadFunction level) (now (chunk .entry)) c s ⌝ }
 {
     let start = head(chunk, c);
@@ -95,13 +97,16 @@ pub(crate) fn function(chunk: &[u8], c: Cursor, level: u32, s: Search) -> Walk
     let tags = constants(chunk, words);
     let ups = upvalues(chunk, tags);
     let inner = protos(chunk, ups, level, pass(s));
-    let debug = lines(chunk, cursor(inner));
+    let after = cursor(inner);
+    let debug = lines(chunk, after);
     let last = names(chunk, debug, value(ups));
     let own = Layout {
+        first_at: position(c),
         code_at: position(start),
         words: value(words),
         constants_at: position(words),
         constants: value(tags),
+        lines_at: position(after),
         names_at: position(debug),
         names: value(ups),
     };

@@ -1,0 +1,27 @@
+// What other crates of this repository that read parts of a chunk call: its loaders, and the walk over its functions. No entry of C or of a program is
+// among them.
+pub use crate::counts::number;
+pub use crate::counts::place;
+pub use crate::counts::report;
+pub use crate::filling::fill_code;
+pub use crate::filling::with_room;
+pub use crate::functions::function;
+pub use crate::limits::LEVELS_BELOW;
+pub use crate::limits::MOST_BYTES;
+pub use crate::locating::answer;
+pub use crate::locating::header;
+pub use crate::locating::locate;
+pub use crate::parts::code;
+pub use crate::parts::constants;
+pub use crate::parts::head;
+pub use crate::parts::lines;
+pub use crate::parts::names;
+pub use crate::parts::upvalues;
+pub use crate::reading::block;
+pub use crate::reading::byte;
+pub use crate::reading::int;
+pub use crate::reading::position;
+pub use crate::reading::reason;
+pub use crate::reading::value;
+pub use crate::strings::name_at;
+pub use crate::strings::string;

@@ -1,0 +1,12 @@
+pub mod Cursors
+pub mod Ldebug
+pub mod Passes
+pub mod Infos
+pub mod HeadsRead
+pub mod LineReads
+pub mod Thens
+pub mod Parents
+pub mod Notes
+pub mod Counting
+pub mod Levels
+pub mod Laws

@@ -1,0 +1,44 @@
+use mathlib.Core.Path.{_∙_}
+use borrow.Author.Needs.{needs}
+use lib.ListN.{length}
+use Rattle.index.specs.Listing.{placesOf, parentsOf, listedIn}
+use Rattle.index.proofs.Counting.{counted-is, with-room-is, nothing-stored, all-stored}
+use Rattle.index.proofs.listing.list_functions.Statement.{statement}
+use Rattle.index.proofs.listing.list_functions.Tie as tie
+
+returns : tie.Need-returns
+returns c =
+    let s = c .before .before .before .before .before .before .before .before .args in
+    let t = (with-room-is _ _ _ _ _ (c .before .before .before .before .take-tally .ensures) (c .before .before .before .with-rooms .ensures)) in (
+      counted-is (listedIn (s .chunk .now) (length (s .places .now)) (length (s .parents .now))) _ _ t (c .tell .ensures),
+      (
+        nothing-stored _ _ _ _ t placesOf _ _ (c .before .enum-told2 .given .1),
+        nothing-stored _ _ _ _ t parentsOf _ _ (c .before .enum-told2 .given .1),
+      ),
+    )
+
+returns-2 : tie.Need-returns-2
+returns-2 c =
+    let s = c .before .before .before .before .before .before .before .before .before .before .before .before .before .before .before .before .before .args in
+    let t = (with-room-is _ _ _ _ _ (c .before .before .before .before .before .before .before .before .before .before .before .before .before .take-tally .ensures) (c .before .before .before .before .before .before .before .before .before .before .before .before .with-rooms .ensures)) in (
+      counted-is (listedIn (s .chunk .now) (length (s .places .now)) (length (s .parents .now))) _ _ t (c .tell2 .ensures),
+      all-stored _ _ _ (c .before .before .before .before .before .before .before .before .before .header .ensures) (c .before .before .before .before .before .before .before .before .byte .ensures) _ _ _ _ (c .before .before .before .before .before .list-function .ensures .1) _ _ t (c .before .before .before .before .before .before .before .before .before .before .enum-told .given .1),
+    )
+
+pub list-functions-spec : {M : Type 1} → statement M
+list-functions-spec =
+    tie.close
+    (tie.spec
+    (λ c κs. search needs)
+    (λ c κs. search needs)
+    (λ c. search needs)
+    (λ c. search needs)
+    (λ c κs. search needs)
+    returns
+    (λ c κs. search needs)
+    (λ c κs. search needs)
+    (λ c κs. search needs)
+    (λ c κs. search needs)
+    (λ c. c .before .before .before .before .before .list-function .ensures .1 .places-same)
+    (λ c. c .before .before .before .before .before .list-function .ensures .1 .parents-same)
+    returns-2)

@@ -1,0 +1,171 @@
+// The owner's command: a compiled script, and of each of its functions the most words that can pass without a service. What is told is
+// `owner::tell`; here are the arguments, the files and the memory.
+mod asking;
+mod reading;
+mod rooms;
+mod usage;
+
+use asking::Asked;
+use asking::Wish;
+use asking::read_all;
+use libc::STDERR_FILENO;
+use owner::Options;
+use pages::Sheet;
+use pages::first;
+use reading::Reading;
+use reading::read_file;
+use usage::put_bad_line;
+use usage::put_unclear;
+use usage::put_usage;
+use usage::put_version;
+
+// Tells of a script's bytes.
+fn tell_bytes(
+    bytes: &[u8],
+    file: &[u8],
+    o: Options,
+    weights: &[u8],
+    page: &mut [u8],
+    s: Sheet,
+) -> Sheet {
+    let mut places = rooms::places();
+    let mut keys = rooms::places();
+    let mut words = rooms::words();
+    let mut lines = rooms::words();
+    let mut marks = rooms::marks();
+    let mut lengths = rooms::words();
+    let mut path = rooms::words();
+    owner::tell(
+        bytes,
+        file,
+        o,
+        weights,
+        &mut places,
+        &mut keys,
+        &mut words,
+        &mut lines,
+        &mut marks,
+        &mut lengths,
+        &mut path,
+        page,
+        s,
+    )
+}
+
+// Tells of an open script.
+fn tell_open(fd: i32, file: &[u8], o: Options, weights: &[u8], page: &mut [u8], s: Sheet) -> Sheet {
+    let mut bytes = rooms::bytes();
+    let r = read_file(fd, &mut bytes);
+    match r {
+        Reading::Whole(n) => {
+            return tell_bytes(first(&bytes, n), file, o, weights, page, s);
+        }
+        Reading::Longer => {
+            return owner::put_too_long(page, s, file, o);
+        }
+        Reading::Failed => {
+            os::fail(file);
+            return s;
+        }
+    }
+}
+
+// Tells of a script by its name.
+fn tell_file(file: &[u8], o: Options, weights: &[u8], page: &mut [u8], s: Sheet) -> Sheet {
+    let fd = os::open_read(file);
+    if fd < 0 {
+        os::fail(file);
+        return s;
+    }
+    let t = tell_open(fd, file, o, weights, page, s);
+    libc::close(fd);
+    t
+}
+
+// Tells of a script by its argument.
+fn tell_argument(i: usize, o: Options, weights: &[u8], page: &mut [u8], s: Sheet) -> Sheet {
+    let mut file = io::buffer();
+    let n = os::arg(i, &mut file);
+    tell_file(&file[..n], o, weights, page, s)
+}
+
+// The weights in an open file; or which of its lines can't be read, and then nothing more is told.
+fn tell_weighed(fd: i32, name: &[u8], a: Asked, page: &mut [u8], s: Sheet) -> Sheet {
+    let mut text = io::large_buffer();
+    let mut weights = rooms::weights();
+    let r = read_file(fd, &mut text);
+    match r {
+        Reading::Whole(n) => {
+            let line = weight_file::read_weights(first(&text, n), &mut weights);
+            if line != 0 {
+                return put_bad_line(page, s, name, line);
+            }
+            return tell_argument(a.file, options(a, true), &weights, page, s);
+        }
+        Reading::Longer => {
+            return put_bad_line(page, s, name, 0);
+        }
+        Reading::Failed => {
+            os::fail(name);
+            return s;
+        }
+    }
+}
+
+fn options(a: Asked, is_weighted: bool) -> Options {
+    Options {
+        limit: a.limit,
+        is_json: a.is_json,
+        is_weighted,
+    }
+}
+
+// With the weights of a file.
+fn tell_by_weights(a: Asked, page: &mut [u8], s: Sheet) -> Sheet {
+    let mut name = io::buffer();
+    let n = os::arg(a.weights, &mut name);
+    let fd = os::open_read(&name[..n]);
+    if fd < 0 {
+        os::fail(&name[..n]);
+        return s;
+    }
+    let t = tell_weighed(fd, &name[..n], a, page, s);
+    libc::close(fd);
+    t
+}
+
+// With weights of 1.
+fn tell_by_words(a: Asked, page: &mut [u8], s: Sheet) -> Sheet {
+    let weights = rooms::weights();
+    tell_argument(a.file, options(a, false), &weights, page, s)
+}
+
+fn answer(a: Asked, page: &mut [u8], s: Sheet) -> Sheet {
+    let wish = a.wish;
+    match wish {
+        Wish::Telling => {
+            if a.weights == 0 {
+                return tell_by_words(a, page, s);
+            }
+            return tell_by_weights(a, page, s);
+        }
+        Wish::Usage => {
+            return put_usage(page, s);
+        }
+        Wish::Version => {
+            return put_version(page, s);
+        }
+        Wish::Unclear(i) => {
+            return put_unclear(page, s, i);
+        }
+    }
+}
+
+fn main() {
+    let mut page = io::large_buffer();
+    let s = answer(read_all(), &mut page, pages::blank());
+    let t = pages::finish(&page, s);
+    if t.is_lost {
+        io::write_all(STDERR_FILENO, b"lawendeb: could not write\n");
+    }
+}

@@ -1,0 +1,42 @@
+// The program's fixed tables, each from a function, so that its length is all that is known of it. All lie on the stack: 4 MiB for a file, 2
+// for two numbers of each of 131,072 functions, and half of one for a function's words.
+ghost use mathlib.Core.Path.{_≡_};
+ghost use lib.ListN.{length};
+use common::limits::MOST_WORDS;
+
+// Bytes of a file.
+pub(crate) const MOST_BYTES: usize = 4194304;
+
+// Functions of a file.
+pub(crate) const MOST_FUNCTIONS: usize = 131072;
+
+pub(crate) fn bytes() -> [u8; MOST_BYTES]
+    ensures { λ r. ⌜ 4194304 ≡ length r ⌝ }
+{
+    [0; MOST_BYTES]
+}
+
+pub(crate) fn places() -> [u64; MOST_FUNCTIONS]
+    ensures { λ r. ⌜ 131072 ≡ length r ⌝ }
+{
+    [0; MOST_FUNCTIONS]
+}
+
+pub(crate) fn words() -> [u32; MOST_WORDS]
+    ensures { λ r. ⌜ 32768 ≡ length r ⌝ }
+{
+    [0; MOST_WORDS]
+}
+
+pub(crate) fn marks() -> [u8; MOST_WORDS]
+    ensures { λ r. ⌜ 32768 ≡ length r ⌝ }
+{
+    [0; MOST_WORDS]
+}
+
+// What each opcode weighs where nothing else is said.
+pub(crate) fn weights() -> [u8; 128]
+    ensures { λ r. ⌜ 128 ≡ length r ⌝ }
+{
+    [1; 128]
+}

@@ -1,0 +1,12 @@
+use mathlib.Core.Path.{sym}
+use lib.Seq.{length-take-le}
+use borrow.Author.Needs.{needs}
+use Rattle.pages.proofs.parts.first_words.Statement.{statement}
+use Rattle.pages.proofs.parts.first_words.Tie as tie
+
+slice-aggregate-result : tie.Need-slice-aggregate-result
+slice-aggregate-result c =
+    sym (length-take-le (c .before .before .args .n) (c .before .before .args .words .now) (c .before .if1 .taken))
+
+pub first-words-spec : {M : Type 1} → statement M
+first-words-spec = tie.close (tie.spec slice-aggregate-result (λ c. search needs) (λ c. search needs))

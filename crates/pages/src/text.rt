@@ -1,0 +1,107 @@
+// Bytes and numbers put on the page.
+ghost use mathlib.Core.Path.{_≡_};
+ghost use Prim.Native.Nat.{_+_, _≤_};
+ghost use lib.ListN.{length};
+ghost use Rattle.common.specs.Lists.{put as Lists·put};
+use crate::parts::first;
+use libc::STDOUT_FILENO;
+
+// How much of the page is filled, and whether a write has failed.
+pub struct Sheet {
+    pub at: usize,
+    pub is_lost: bool,
+}
+
+// Nothing is on the page, nothing is lost.
+pub fn blank() -> Sheet {
+    Sheet {
+        at: 0,
+        is_lost: false,
+    }
+}
+
+// Puts text from index at on.
+fn copy(page: &mut [u8], at: usize, text: &[u8])
+    requires { ⌜ at + length (now text) ≤ length (now page) ⌝ }
+    ensures { λ _. ⌜ now (page .exit) ≡ Lists·put (now (page .entry)) at (now (text .entry)) ⌝ }
+{
+    let mut i = 0;
+    while i < text.len() {
+        page[at + i] = text[i];
+        i += 1;
+    }
+}
+
+// Once a write has failed nothing more is written.
+fn write(text: &[u8], is_lost: bool) -> bool {
+    if is_lost {
+        return true;
+    }
+    !io::write_all(STDOUT_FILENO, text)
+}
+
+// Writes out what is on the page.
+pub fn finish(page: &[u8], s: Sheet) -> Sheet {
+    let is_lost = write(first(page, s.at), s.is_lost);
+    Sheet { at: 0, is_lost }
+}
+
+// Text on a page that has no room left for it: what is there goes out first, and the text by itself where it is longer than the page.
+fn put_over(page: &mut [u8], s: Sheet, text: &[u8]) -> Sheet {
+    let f = finish(page, s);
+    if page.len() < text.len() {
+        return Sheet {
+            at: 0,
+            is_lost: write(text, f.is_lost),
+        };
+    }
+    copy(page, 0, text);
+    Sheet {
+        at: text.len(),
+        is_lost: f.is_lost,
+    }
+}
+
+pub fn put(page: &mut [u8], s: Sheet, text: &[u8]) -> Sheet {
+    let at = s.at;
+    if page.len() < at {
+        return put_over(page, s, text);
+    }
+    if page.len() - at < text.len() {
+        return put_over(page, s, text);
+    }
+    copy(page, at, text);
+    Sheet {
+        at: at + text.len(),
+        is_lost: s.is_lost,
+    }
+}
+
+// A number in as many digits as it has.
+pub fn number(page: &mut [u8], s: Sheet, n: u64) -> Sheet {
+    let mut digits = [0u8; 20];
+    let k = io::decimal(n, &mut digits);
+    put(page, s, &digits[..k])
+}
+
+// A number at the right of a column of six, blanks to the left; wider where it has more digits.
+pub fn column(page: &mut [u8], s: Sheet, n: u64) -> Sheet {
+    let mut digits = [0u8; 20];
+    let k = io::decimal(n, &mut digits);
+    if k < 6 {
+        let padded = put(page, s, b"      ");
+        let at = padded.at;
+        if at < k {
+            return padded;
+        }
+        return put(
+            page,
+            Sheet {
+                at: at - k,
+                is_lost: padded.is_lost,
+            },
+            &digits[..k],
+        );
+    }
+    put(page, s, &digits[..k])
+}
