@@ -9,7 +9,7 @@ use model::four::Meters;
 use model::input::{place, Input, UNNAMED};
 use model::meter::Meter;
 use model::real;
-use rows::{best, feed_rows, four_rows, range_rows, run_rows, service_rows, Columns, KINDS, SIZES};
+use rows::{best, feed_rows, run_rows, service_rows, Columns, KINDS, SIZES};
 use sides::Side;
 use std::hint::black_box;
 
@@ -129,20 +129,8 @@ fn main() {
     for kind in KINDS {
         feed_rows(&columns, &sides, rounds, kind);
     }
-    let fours = sides::four_sides();
-    let columns = Columns { names: fours.iter().map(|s| s.name).collect(), quotients: vec![(2, 0), (2, 1)] };
-    columns.head();
-    for kind in KINDS {
-        for turn in [1, 16] {
-            four_rows(&columns, &fours, rounds, kind, turn);
-        }
-    }
-    let names = vec!["C twin", "Rattle", "C twin, both", "Rattle, both"];
-    let columns = Columns { names, quotients: vec![(2, 0), (3, 1), (3, 2)] };
-    columns.head();
-    for kind in KINDS {
-        range_rows(&columns, &sides, rounds, kind);
-    }
+    rows::four_table(rounds);
+    rows::range_table(&sides, rounds);
     let lifting: Vec<Side> = sides.into_iter().filter(|s| s.lift.is_some()).collect();
     let mut columns = Columns::over_first(lifting.iter().map(|s| s.name).chain(["luad"]).collect());
     columns.quotients.extend((1..lifting.len()).map(|i| (lifting.len(), i)));

@@ -138,7 +138,7 @@ pub fn run_rows(columns: &Columns, sides: &[Side], rounds: usize, (name, make): 
 }
 
 /// By a low and a high table in one call, beside a run by one table.
-pub fn range_rows(columns: &Columns, sides: &[Side], rounds: usize, (name, make): Kind) {
+fn range_rows(columns: &Columns, sides: &[Side], rounds: usize, (name, make): Kind) {
     let [(_, low), (_, high)] = &tables_of_weights();
     let mut rows = vec![];
     for n in SIZES {
@@ -223,7 +223,7 @@ pub fn feed_rows(columns: &Columns, sides: &[Side], rounds: usize, (name, make):
 }
 
 /// Four scripts of one kind, each of its own length, in turns of so many words.
-pub fn four_rows(columns: &Columns, sides: &[Side], rounds: usize, (name, make): Kind, turn: usize) {
+fn four_rows(columns: &Columns, sides: &[Side], rounds: usize, (name, make): Kind, turn: usize) {
     let weights = vec![1; 128];
     let mut rows = vec![];
     for n in SIZES {
@@ -253,4 +253,26 @@ pub fn four_rows(columns: &Columns, sides: &[Side], rounds: usize, (name, make):
         rows.push(columns.row("feed of one of four", &format!("{name}, turns of {turn}"), n, &times, (repeat * fed.len()) as f64));
     }
     columns.flat_row(&rows);
+}
+
+/// The feed of one of four, in turns of one word and of sixteen.
+pub fn four_table(rounds: usize) {
+    let fours = sides::four_sides();
+    let columns = Columns { names: fours.iter().map(|s| s.name).collect(), quotients: vec![(2, 0), (2, 1)] };
+    columns.head();
+    for kind in KINDS {
+        for turn in [1, 16] {
+            four_rows(&columns, &fours, rounds, kind, turn);
+        }
+    }
+}
+
+/// The run by one table and by two.
+pub fn range_table(sides: &[Side], rounds: usize) {
+    let names = vec!["C twin", "Rattle", "C twin, both", "Rattle, both"];
+    let columns = Columns { names, quotients: vec![(2, 0), (3, 1), (3, 2)] };
+    columns.head();
+    for kind in KINDS {
+        range_rows(&columns, sides, rounds, kind);
+    }
 }

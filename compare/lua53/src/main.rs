@@ -122,7 +122,7 @@ fn check(seed: u64, functions: u64, lists: u64) {
     println!("lua53: no mismatch");
 }
 
-/// Runs, questions and feeds, each side in one run.
+/// Runs, questions and feeds, of one script and of four, and runs by two tables, each side in one run.
 fn times(rounds: usize) {
     let sides = sides::sides();
     let columns = rows::Columns::over_first(sides.iter().map(|s| s.name).collect());
@@ -132,6 +132,8 @@ fn times(rounds: usize) {
             row(&columns, &sides, rounds, kind);
         }
     }
+    rows::four_table(rounds);
+    rows::range_table(&sides, rounds);
 }
 
 fn main() {

@@ -28,7 +28,7 @@ use Rattle.witness.specs.Witness.{pathOf}
 use Rattle.witness.specs.Walking.{at, walkedBy}
 use Rattle.witness.proofs.Following.{follow-same}
 
-abbrev isAccepted : Run → Bool
+abbrev pub isAccepted : Run → Bool
 isAccepted (Run.Accepted l f) = true
 isAccepted (Run.Refused k p) = false
 

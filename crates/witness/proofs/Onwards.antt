@@ -8,11 +8,10 @@ use lib.ListN.{length, drop, set, length-set, length-append}
 use borrow.Author.Tests.{lt-ltb, le-ltb}
 use Rattle.common.specs.Lists.{put}
 use Rattle.common.proofs.Put.{put-laws}
-use Rattle.fields.specs.declared.version.Version.{Version}
 use Rattle.runs.specs.declared.edges.Successors.{Successors}
-use Rattle.runs.specs.declared.edges.Successors.the-variants.{One, Two}
+use Rattle.runs.specs.declared.edges.Successors.the-variants.{Invalid, Stop, One, Two}
 use Rattle.runs.specs.Steps.{listOf, servesOf, Below}
-use Rattle.runs.specs.Script.{Script, Sound, scriptOf, graphOf}
+use Rattle.runs.specs.Script.{Script, Sound, graphOf}
 use Rattle.runs.proofs.Laws.{laws}
 use Rattle.witness.specs.declared.walking.Onward.{Onward}
 use Rattle.witness.specs.declared.walking.Onward.the-variants.{Ends, To}
@@ -21,16 +20,13 @@ use Rattle.witness.specs.Walking.{at, Walks, walkedBy, Walked}
 use Rattle.witness.proofs.Following.{found-in}
 
 -- word p by its steps
-module _ (version : Version) (words l : List ℕ) (p : ℕ) where
-  abbrev ws : Script
-  ws = scriptOf version words
-
+module _ (l : List ℕ) (p : ℕ) where
   abbrev by : Successors → Onward
-  by s = onwards (graphOf ws) (at l) p (listOf s)
+  by s = onwards servesOf (at l) p (listOf s)
 
   -- r is what those of t give, and t are the word's
-  pub by-steps : {r : Onward} {s t : Successors} → r ≡ by t → s ≡ ws .steps p → s ≡ t → r ≡ onwards (graphOf ws) (at l) p (graphOf ws .successors p)
-  by-steps {r} {s} {t} e k h = e ∙ ap by (sym h ∙ k)
+  pub by-steps : {r : Onward} {s t : Successors} → r ≡ by t → s ≡ t → r ≡ by s
+  by-steps e h = e ∙ ap by (sym h)
 
   pub one-serves : (a : ℕ) → servesOf p a ≡ true → Ends ≡ by (One a)
   one-serves a e = rw e
@@ -54,12 +50,20 @@ module _ (version : Version) (words l : List ℕ) (p : ℕ) where
   first-greater a b e h k = rw (e, h, le-ltb (at l a) (at l b) k)
 
 -- the words that two steps lead to have lengths
-pub two-in :
-    (ws : Script) → Sound ws → (l : List ℕ) (p a b : ℕ) → ws .size ≤ length l → {s : Successors} → s ≡ ws .steps p → s ≡ Two a b
-    → (a < length l) × (b < length l)
-two-in ws sound l p a b long {s} k h =
-    let u : (a < b) × (b < ws .size) = subst (λ (x : Successors). Below (ws .size) x) (sym k ∙ h) (sound .below p) in
-    (omega (arith, u .0, u .1), omega (arith, u .1))
+pub two-in : (n a b : ℕ) {s : Successors} → Below n s → s ≡ Two a b → (a < n) × (b < n)
+two-in n a b {s} u h =
+    let v : (a < b) × (b < n) = subst (λ (x : Successors). Below n x) h u in
+    (omega (arith, v .0, v .1), v .1)
+
+-- the steps of a word of a sound script, where there is a length for each word
+pub steps-in : (ws : Script) → Sound ws → (l : List ℕ) (p : ℕ) → ws .size ≤ length l → {s : Successors} → s ≡ ws .steps p → Below (length l) s
+steps-in ws sound l p long {s} e = go s (subst (λ (x : Successors). Below (ws .size) x) (sym e) (sound .below p))
+  where
+    go : (x : Successors) → Below (ws .size) x → Below (length l) x
+    go Invalid b = tt
+    go Stop b = tt
+    go (One a) b = omega (arith, b, long)
+    go (Two a c) b = (b .0, omega (arith, b .1, long))
 
 -- the loop: so many words are written, and p is the next
 pub record Midway (ws : Script) (l : List ℕ) (first : ℕ) (path₀ path : List ℕ) (count p : ℕ) : Type 0 where
@@ -106,20 +110,26 @@ module _ (ws : Script) (sound : Sound ws) (l : List ℕ) (first : ℕ) (path₀ 
     one-counted = length-append (m .words) (p ∷ []) ∙ ap (λ (k : ℕ). k + 1) (m .counted)
 
     turn : count < ws .size → follow (graphOf ws) (at l) (ws .size - count) p
-        ≡ p ∷ goingOn (λ q. follow (graphOf ws) (at l) (ws .size - (count + 1)) q) (onwards (graphOf ws) (at l) p (graphOf ws .successors p))
+        ≡ p ∷ goingOn (λ q. follow (graphOf ws) (at l) (ws .size - (count + 1)) q) (onwards (graphOf ws .serves) (at l) p (graphOf ws .successors p))
     unfolding follow
     turn h = let z : ws .size - count ≡ suc (ws .size - (count + 1)) = omega arith in ap (λ (k : ℕ). follow (graphOf ws) (at l) k p) z
 
-    turned : count < ws .size → {o t : Onward} → o ≡ onwards (graphOf ws) (at l) p (graphOf ws .successors p) → o ≡ t
+    turned : count < ws .size → {o t : Onward} → o ≡ onwards (graphOf ws .serves) (at l) p (graphOf ws .successors p) → o ≡ t
         → walkedBy ws l first ≡ m .words ++ (p ∷ goingOn (λ q. follow (graphOf ws) (at l) (ws .size - (count + 1)) q) t)
     turned h {o} {t} k e =
         m .whole ∙ ap (λ (xs : List ℕ). m .words ++ xs) (turn h)
         ∙ ap (λ (x : Onward). m .words ++ (p ∷ goingOn (λ q. follow (graphOf ws) (at l) (ws .size - (count + 1)) q) x)) (sym k ∙ e)
 
+    -- o is where word p goes on by its steps
+    by-own : {o : Onward} {s : Successors} → o ≡ onwards (ws .serves) (at l) p (listOf s) → s ≡ ws .steps p
+        → o ≡ onwards (graphOf ws .serves) (at l) p (graphOf ws .successors p)
+    by-own e h = e ∙ ap (λ (x : Successors). onwards (ws .serves) (at l) p (listOf x)) h
+
     pub midway-more :
-        count < ws .size → {o : Onward} {q : ℕ} → o ≡ onwards (graphOf ws) (at l) p (graphOf ws .successors p) → o ≡ To q
+        count < ws .size → {o : Onward} {s : Successors} {q : ℕ} → o ≡ onwards (ws .serves) (at l) p (listOf s) → s ≡ ws .steps p → o ≡ To q
         → Midway ws l first path₀ (set path count p) (count + 1) q
-    midway-more h {o} {q} k e =
+    midway-more h {o} {s} {q} a b e =
+        let k = by-own a b in
         record {
           upto = omega arith;
           inside = laws .lawful ws sound .inside p q (found-in (graphOf ws) (at l) p (graphOf ws .successors p) q (sym k ∙ e));
@@ -132,9 +142,9 @@ module _ (ws : Script) (sound : Sound ws) (l : List ℕ) (first : ℕ) (path₀ 
         }
 
     pub midway-ends :
-        count < ws .size → {o : Onward} → o ≡ onwards (graphOf ws) (at l) p (graphOf ws .successors p) → o ≡ Ends
+        count < ws .size → {o : Onward} {s : Successors} → o ≡ onwards (ws .serves) (at l) p (listOf s) → s ≡ ws .steps p → o ≡ Ends
         → Walked ws l first path₀ (set path count p) (count + 1)
-    midway-ends h k e = finish (m .words ++ (p ∷ [])) (turned h k e) one-counted (one-set h)
+    midway-ends h a b e = finish (m .words ++ (p ∷ [])) (turned h (by-own a b) e) one-counted (one-set h)
 
     pub midway-done : ws .size ≤ count → Walked ws l first path₀ path count
     unfolding follow

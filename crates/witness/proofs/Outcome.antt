@@ -27,11 +27,11 @@ kept true e = refl
 kept false e = e
 
 module _ (ws : Script) (weights m l path : List ℕ) where
-  many-marks : mostWords < ws .size → marksAfter ws weights m l ≡ m
+  pub many-marks : mostWords < ws .size → marksAfter ws weights m l ≡ m
   unfolding marksAfter
   many-marks h = rw (run-many ws weights (length m) (length l) h)
 
-  many-lengths : mostWords < ws .size → lengthsAfter ws weights m l ≡ l
+  pub many-lengths : mostWords < ws .size → lengthsAfter ws weights m l ≡ l
   unfolding lengthsAfter
   many-lengths h = rw (run-many ws weights (length m) (length l) h)
 

@@ -3,9 +3,15 @@
 use mathlib.Core.Path.{_≡_}
 use mathlib.Core.List.{List, _++_}
 use Prim.Native.Nat.{ℕ, _≤_, _<_}
+use lib.Dec.{ltb}
 use lib.ListN.{length, getD, drop}
 use Rattle.common.specs.Limits.{mostWords}
+use Rattle.common.specs.Numbers.{«TOO_MANY_WORDS», «SHORT_SLICE»}
+use Rattle.common.specs.Chain.{refuseIf}
+use Rattle.runs.specs.declared.longest.Run.{Run}
+use Rattle.runs.specs.declared.longest.Run.the-variants as Run
 use Rattle.runs.specs.Script.{Script, graphOf}
+use Rattle.runs.specs.Run.{runOf}
 use Rattle.witness.specs.Following.{follow}
 
 abbrev pub at : List ℕ → ℕ → ℕ
@@ -24,3 +30,14 @@ walkedBy ws l first = follow (graphOf ws) (at l) (ws .size) first
 pub record Walked (ws : Script) (l : List ℕ) (first : ℕ) (path path′ : List ℕ) (r : ℕ) : Type 0 where
   pub count : r ≡ length (walkedBy ws l first)
   pub written : path′ ≡ walkedBy ws l first ++ drop (length (walkedBy ws l first)) path
+
+-- the run before the walk: numbers 1 and 6 of a path with so much room go before its own
+unfoldable pub runWithin : Script → List ℕ → ℕ → ℕ → ℕ → Run
+runWithin ws weights marks lengths room =
+    refuseIf (ltb mostWords (ws .size)) (Run.Refused «TOO_MANY_WORDS» 0)
+    (refuseIf (ltb room (ws .size)) (Run.Refused «SHORT_SLICE» 0)
+    (runOf ws weights marks lengths))
+
+-- a slice that the run leaves as `later`, where there was room for the path
+abbrev pub kept : Script → ℕ → List ℕ → List ℕ → List ℕ
+kept ws room slice later = refuseIf (ltb room (ws .size)) slice later

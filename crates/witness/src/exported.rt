@@ -1,4 +1,5 @@
-// The C interface, of both versions: the answer as a struct of numbers, since an exported function may give no enum.
+// The C interface, of both versions: the answer as a struct of numbers, since an exported function may give no
+// enum.
 ghost use mathlib.Core.Path.{_≡_};
 ghost use lib.ListN.{length};
 ghost use Rattle.fields.specs.declared.version.Version.the-variants.{Lua53};
@@ -7,7 +8,7 @@ ghost use Rattle.witness.specs.Witness.{pathRunOf, marksWitnessed, lengt
 ghost use Rattle.witness.specs.Flat.{flatPath};
 use crate::longest::PathRun;
 use crate::longest::longest_path;
-use fields::version::Version;
+use crate::longest::longest_path_53;
 
 #[repr(C)]
 pub struct FlatPath {
@@ -51,12 +52,20 @@ pub extern "C" fn lawendeb_longest_path(
     lengths: &mut [u32],
     path: &mut [u32],
 ) -> FlatPath
-    ensures { λ r. ⌜ r ≡ flatPath (pathRunOf (lua54 (now (words .entry))) (now (weights .entry)) (length (now (marks .entry))) (length (now (lengths .entry))) (length (now (path .entry)))) ⌝ }
-    ensures { λ _. ⌜ now (marks .exit) ≡ marksWitnessed (lua54 (now (words .entry))) (now (weights .entry)) (now (marks .entry)) (now (lengths .entry)) (now (path .entry)) ⌝ }
-    ensures { λ _. ⌜ now (lengths .exit) ≡ lengthsWitnessed (lua54 (now (words .entry))) (now (weights .entry)) (now (marks .entry)) (now (lengths .entry)) (now (path .entry)) ⌝ }
-    ensures { λ _. ⌜ now (path .exit) ≡ pathWitnessed (lua54 (now (words .entry))) (now (weights .entry)) (now (marks .entry)) (now (lengths .entry)) (now (path .entry)) ⌝ }
+    ensures { λ r. ⌜
+        r ≡ flatPath (pathRunOf (lua54 (now (words .entry))) (now (weights .entry))
+        (length (now (marks .entry))) (length (now (lengths .entry))) (length (now (path .entry)))) ⌝ }
+    ensures { λ _. ⌜
+        now (marks .exit) ≡ marksWitnessed (lua54 (now (words .entry))) (now (weights .entry))
+        (now (marks .entry)) (now (lengths .entry)) (now (path .entry)) ⌝ }
+    ensures { λ _. ⌜
+        now (lengths .exit) ≡ lengthsWitnessed (lua54 (now (words .entry))) (now (weights .entry))
+        (now (marks .entry)) (now (lengths .entry)) (now (path .entry)) ⌝ }
+    ensures { λ _. ⌜
+        now (path .exit) ≡ pathWitnessed (lua54 (now (words .entry))) (now (weights .entry))
+        (now (marks .entry)) (now (lengths .entry)) (now (path .entry)) ⌝ }
 {
-    flat_path(longest_path(Version::Lua54, words, weights, marks, lengths, path))
+    flat_path(longest_path(words, weights, marks, lengths, path))
 }
 
 #[no_mangle]
@@ -67,10 +76,18 @@ pub extern "C" fn lawendeb_longest_path_53(
     lengths: &mut [u32],
     path: &mut [u32],
 ) -> FlatPath
-    ensures { λ r. ⌜ r ≡ flatPath (pathRunOf (scriptOf Lua53 (now (words .entry))) (now (weights .entry)) (length (now (marks .entry))) (length (now (lengths .entry))) (length (now (path .entry)))) ⌝ }
-    ensures { λ _. ⌜ now (marks .exit) ≡ marksWitnessed (scriptOf Lua53 (now (words .entry))) (now (weights .entry)) (now (marks .entry)) (now (lengths .entry)) (now (path .entry)) ⌝ }
-    ensures { λ _. ⌜ now (lengths .exit) ≡ lengthsWitnessed (scriptOf Lua53 (now (words .entry))) (now (weights .entry)) (now (marks .entry)) (now (lengths .entry)) (now (path .entry)) ⌝ }
-    ensures { λ _. ⌜ now (path .exit) ≡ pathWitnessed (scriptOf Lua53 (now (words .entry))) (now (weights .entry)) (now (marks .entry)) (now (lengths .entry)) (now (path .entry)) ⌝ }
+    ensures { λ r. ⌜
+        r ≡ flatPath (pathRunOf (scriptOf Lua53 (now (words .entry))) (now (weights .entry))
+        (length (now (marks .entry))) (length (now (lengths .entry))) (length (now (path .entry)))) ⌝ }
+    ensures { λ _. ⌜
+        now (marks .exit) ≡ marksWitnessed (scriptOf Lua53 (now (words .entry))) (now (weights .entry))
+        (now (marks .entry)) (now (lengths .entry)) (now (path .entry)) ⌝ }
+    ensures { λ _. ⌜
+        now (lengths .exit) ≡ lengthsWitnessed (scriptOf Lua53 (now (words .entry))) (now (weights .entry))
+        (now (marks .entry)) (now (lengths .entry)) (now (path .entry)) ⌝ }
+    ensures { λ _. ⌜
+        now (path .exit) ≡ pathWitnessed (scriptOf Lua53 (now (words .entry))) (now (weights .entry))
+        (now (marks .entry)) (now (lengths .entry)) (now (path .entry)) ⌝ }
 {
-    flat_path(longest_path(Version::Lua53, words, weights, marks, lengths, path))
+    flat_path(longest_path_53(words, weights, marks, lengths, path))
 }

@@ -1,14 +1,15 @@
-// The words of one longest stretch, from its first on: where control can go on without a service, the longest way from there.
+// The words of one longest stretch, from its first on: where control can go on without a service, the longest way
+// from there. A walk for each version, so that none asks of a word which version it is of.
 ghost use mathlib.Core.Path.{_≡_};
-ghost use Prim.Native.Nat.{_≤_};
 ghost use lib.ListN.{length};
-ghost use Rattle.runs.specs.Script.{scriptOf, graphOf};
+ghost use Rattle.fields.specs.declared.version.Version.the-variants.{Lua53};
+ghost use Rattle.runs.specs.Steps.{listOf, servesOf, Below};
+ghost use Rattle.runs.specs.Script.{scriptOf, lua54};
 ghost use Rattle.witness.specs.Following.{onwards};
 ghost use Rattle.witness.specs.Walking.{at, Walks, Walked};
-use fields::version::Version;
 use runs::edges::Successors;
 use runs::edges::serves;
-use runs::script::successors;
+use runs::successors::successors;
 
 // Where a longest stretch goes on from a word.
 pub enum Onward {
@@ -17,13 +18,12 @@ pub enum Onward {
     To(usize),
 }
 
-// The successor of word p with the greatest length, the lower on a tie, of those to which the step does not serve.
-fn go_on(version: Version, words: &[u32], lengths: &[u32], p: usize) -> Onward
-    requires { ⌜ length (now words) ≤ length (now lengths) ⌝ }
-    ensures { λ r. ⌜ r ≡ onwards (graphOf (scriptOf version (now (words .entry)))) (at (now (lengths .entry))) p (graphOf (scriptOf version (now (words .entry))) .successors p) ⌝ }
+// Of the steps of word p to which the step does not serve, the one with the greatest length, the lower on a tie.
+fn go_on(steps: Successors, lengths: &[u32], p: usize) -> Onward
+    requires { ⌜ Below (length (now lengths)) steps ⌝ }
+    ensures { λ r. ⌜ r ≡ onwards servesOf (at (now (lengths .entry))) p (listOf steps) ⌝ }
 {
-    let s = successors(version, words, p);
-    match s {
+    match steps {
         Successors::Invalid => {
             return Onward::Ends;
         }
@@ -57,15 +57,10 @@ fn go_on(version: Version, words: &[u32], lengths: &[u32], p: usize) -> Onward
 }
 
 // Writes the words of the stretch from `first` on, as many as there are words at the most. How many they are.
-pub(crate) fn write_path(
-    version: Version,
-    words: &[u32],
-    lengths: &[u32],
-    first: usize,
-    path: &mut [u32],
-) -> usize
-    requires { ⌜ Walks (scriptOf version (now words)) (now lengths) first (now path) ⌝ }
-    ensures { λ r. ⌜ Walked (scriptOf version (now (words .entry))) (now (lengths .entry)) first (now (path .entry)) (now (path .exit)) r ⌝ }
+pub(crate) fn write_path(words: &[u32], lengths: &[u32], first: usize, path: &mut [u32]) -> usize
+    requires { ⌜ Walks (lua54 (now words)) (now lengths) first (now path) ⌝ }
+    ensures { λ r. ⌜
+        Walked (lua54 (now (words .entry))) (now (lengths .entry)) first (now (path .entry)) (now (path .exit)) r ⌝ }
 {
     let n = words.len();
     let mut count: usize = 0;
@@ -73,7 +68,28 @@ pub(crate) fn write_path(
     while count < n {
         path[count] = p as u32;
         count += 1;
-        let onward = go_on(version, words, lengths, p);
+        let onward = go_on(successors(words, p), lengths, p);
+        let Onward::To(q) = onward else {
+            return count;
+        };
+        p = q;
+    }
+    count
+}
+
+// The same of words of 5.3.
+pub(crate) fn write_path_53(words: &[u32], lengths: &[u32], first: usize, path: &mut [u32]) -> usize
+    requires { ⌜ Walks (scriptOf Lua53 (now words)) (now lengths) first (now path) ⌝ }
+    ensures { λ r. ⌜
+        Walked (scriptOf Lua53 (now (words .entry))) (now (lengths .entry)) first (now (path .entry)) (now (path .exit)) r ⌝ }
+{
+    let n = words.len();
+    let mut count: usize = 0;
+    let mut p = first;
+    while count < n {
+        path[count] = p as u32;
+        count += 1;
+        let onward = go_on(runs::successors53::successors(words, p), lengths, p);
         let Onward::To(q) = onward else {
             return count;
         };

@@ -1,0 +1,48 @@
+use Prim.Native.Nat.{_-_}
+use native.Mathlib.Omega.{arith}
+use lib.ListN.{length, length-set}
+use borrow.Author.Needs.{needs}
+use Rattle.fields.specs.declared.version.Version.the-variants.{Lua53}
+use Rattle.runs.specs.Script.{scriptOf}
+use Rattle.runs.proofs.Laws.{laws}
+use Rattle.witness.proofs.Onwards.{steps-in, Midway, midway-none, midway-more, midway-ends, midway-done}
+use Rattle.witness.proofs.walking.write_path_53.Statement.{statement}
+use Rattle.witness.proofs.walking.write_path_53.Tie as tie
+
+abbrev Inv-loop : tie.InvT-loop
+Inv-loop words lengths first path₀ n count₀ p₀ path count p = Midway (scriptOf Lua53 words) lengths first path₀ path count p
+
+abbrev μ-loop : tie.MeasureT-loop
+μ-loop words lengths first path₀ n count₀ p₀ path count p = length words - count
+
+pub write-path-53-spec : {M : Type 1} → statement M
+write-path-53-spec =
+    tie.close
+    (tie.spec
+    Inv-loop
+    μ-loop
+    (λ c. let s = c .before .before .before in midway-none (scriptOf Lua53 (s .args .words .now)) (laws .sound Lua53 (s .args .words .now)) _ _ _ (s .pre))
+    (λ c. let m = c .before .loop .inv in let w = c .before .before .before .before .before .pre in omega (arith, m .inside, w .few))
+    (λ c. let w = c .before .before .before .before .before .pre in omega (arith, c .loop-test .taken, w .few))
+    (λ c. let m = c .before .loop .inv in omega (arith, c .loop-test .taken, m .same, m .long))
+    (λ c. let w = c .before .before .before .before .before .pre in omega (arith, c .loop-test .taken, w .few))
+    (λ c κs. search needs)
+    (λ c κs.
+    let s = c .before .before .before .before .before .before in
+    steps-in (scriptOf Lua53 (s .args .words .now)) (laws .sound Lua53 (s .args .words .now)) (s .args .lengths .now) _ (s .pre .lengths-long) (c .successors .ensures))
+    (λ c. search needs)
+    (λ c. search needs)
+    (λ c. let m = c .before .before .before .before .before .loop .inv in simp length-set (m .same))
+    (λ c.
+    let t = c .before .before .before in
+    let s = c .before .before .before .before .before .before .before .before .before in
+    midway-ends (scriptOf Lua53 (s .args .words .now)) (laws .sound Lua53 (s .args .words .now)) _ _ _ (t .before .before .loop .inv) (t .before .loop-test .taken)
+    (c .before .before .go-on .ensures) (t .successors .ensures) (c .enum-told .given .1))
+    (λ c. omega (arith, c .before .before .before .before .before .loop-test .taken))
+    (λ c.
+    let t = c .before .before .before .before in
+    let s = c .before .before .before .before .before .before .before .before .before .before in
+    midway-more (scriptOf Lua53 (s .args .words .now)) (laws .sound Lua53 (s .args .words .now)) _ _ _ (t .before .before .loop .inv) (t .before .loop-test .taken)
+    (c .before .before .before .go-on .ensures) (t .successors .ensures) (c .before .onward .given .1))
+    (λ c. c .before .loop .inv .same)
+    (λ c. let s = c .before .before .before .before .before in midway-done (scriptOf Lua53 (s .args .words .now)) (laws .sound Lua53 (s .args .words .now)) _ _ _ (c .before .loop .inv) (c .loop-test .left)))
