@@ -7,7 +7,7 @@ use Prim.Native.Nat.{ℕ, _+_, _*_, _≤_, _<_}
 use lib.ListN.{length, take}
 use Rattle.sheet.specs.declared.reading.Sheet.{Sheet}
 use Rattle.sheet.specs.declared.reading.Sheet.the-variants.{Words, Malformed, TooLong}
-use Rattle.sheet.specs.Line.{mostWord, lineOf}
+use Rattle.sheet.specs.Line.{lineOf}
 use Rattle.sheet.specs.Format.{sheetOf, wordsOf}
 
 -- the sheet of words: their lines, one after another
@@ -15,10 +15,10 @@ unfoldable pub textOf : List ℕ → List ℕ
 textOf [] = []
 textOf (w ∷ ws) = lineOf w ++ textOf ws
 
--- each is a word
+-- each is a word: none is "over 4,294,967,295"
 unfoldable pub AllWords : List ℕ → Type 0
 AllWords [] = Unit
-AllWords (w ∷ ws) = (w ≤ mostWord) × AllWords ws
+AllWords (w ∷ ws) = (w ≤ 4294967295) × AllWords ws
 
 -- the text is the sheet of n words, for which there is room
 pub record Accepted (room : ℕ) (text : List ℕ) (n : ℕ) : Type 0 where
@@ -37,7 +37,7 @@ pub record Broken (room : ℕ) (text : List ℕ) (line : ℕ) : Type 0 where
   pub rest : List ℕ
   pub whole : text ≡ textOf words ++ rest
   pub some : 0 < length rest
-  pub no-line : (w : ℕ) (more : List ℕ) → w ≤ mostWord → rest ≡ lineOf w ++ more → ⊥
+  pub no-line : (w : ℕ) (more : List ℕ) → w ≤ 4294967295 → rest ≡ lineOf w ++ more → ⊥
 
 -- 13: as many lines of words as there is room for, and then something, whatever it is
 pub record Overfull (room : ℕ) (text : List ℕ) : Type 0 where
