@@ -158,7 +158,7 @@ def main():
     program, path = sys.argv[1:3]
     text = open(path, encoding="utf-8").read()
     table = text.split("### Reads and writes")[1].split("\n### ")[0]
-    lines = [line for line in table.split("\n") if line.startswith("| ")][1:]
+    lines = [line for line in table.split("\n") if line.startswith("|") and not line.startswith("|--")][1:]
     rows = [[cell.strip() for cell in line.strip("|").split("|")] for line in lines]
     held = apart = bad = 0
     for column, words, rust, lua in rows:

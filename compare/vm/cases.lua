@@ -38,7 +38,7 @@ local function rows_of(path, sections)
   for line in io.lines(path) do
     if line:find("^#") then section = nil end
     for head, name in pairs(sections) do if line:sub(1, #head) == head then section = name end end
-    local first, second = line:match("^| (.-) | (.-) |")
+    local first, second = line:match("^|%s*(.-)%s*|%s*(.-)%s*|")
     local cell = section and first and (section:find("^[oet]") and second or first) or ""
     local words = cell:match("^%d[%d, or]*") or section == "yields" and cell:match("^%u+$")
     if words then

@@ -12,8 +12,8 @@ use crate::ranges::in_ranges;
 use crate::ranges::next_in;
 use crate::ranges::sets;
 use crate::ranges::smaller;
-use runs::edges::Successors;
 use runs::successors::successors;
+use sweep::edges::Successors;
 use touches::Touches;
 use touches::word::touches_in;
 

@@ -26,8 +26,8 @@ pub record FourCall : Type 0 where
 abbrev pub Scripts : Type 0
 Scripts = ℕ → Scale
 
--- by each script's words, and the weights lent at its feeds. Request C-24: "in earlier claims a script's words
--- include its version", and so each of the four has its own
+-- by each script's words, and the weights lent at its feeds. Request C-24: "in earlier claims a script's
+-- words include its version", and so each of the four has its own
 abbrev pub scriptsOf : (ℕ → Version) → (ℕ → List ℕ) → (ℕ → List ℕ) → Scripts
 scriptsOf versions words weights i = scaleOf (scriptOf (versions i) (words i)) (weights i)
 
@@ -59,7 +59,8 @@ pub record JustBegun (m : Meter) : Type 0 where
 abbrev pub EachBegun : Meters → Type 0
 EachBegun ms = (i : ℕ) → i ≤ lastScript → JustBegun (meterOf ms i)
 
--- an answer before the later ones, if the call is a feed: a begin and a reset answer nothing but 20, and only where there is no such script
+-- an answer before the later ones, if the call is a feed: a begin and a reset answer nothing but 20, and only
+-- where there is no such script
 abbrev pub answered : Call → FeedAnswer → List FeedAnswer → List FeedAnswer
 answered begin a later = later
 answered (feed q) a later = a ∷ later
@@ -81,11 +82,13 @@ numbersOf (a ∷ rest) = a .number ∷ numbersOf rest
 abbrev pub turnsBack : ℕ → Bool
 turnsBack number = eqb number «NO_SCRIPT» || (eqb number «BUDGET_RANGE» || eqb number «OVER_BUDGET»)
 
--- a call of script i with this number for an answer stands in script i's own list: such calls "are left out of the list"
+-- a call of script i with this number for an answer stands in script i's own list: such calls
+-- "are left out of the list"
 abbrev pub isKept : ℕ → FourCall → ℕ → Bool
 isKept i c number = eqb (c .script) i && not (turnsBack number)
 
--- what a script is shown at one of its own calls: at a feed the word's number, S, "and the sum of the others' counts"
+-- what a script is shown at one of its own calls: at a feed the word's number, S, "and the
+-- sum of the others' counts"
 pub data Seen : Type 0 where
   begins : Seen
   feeds : ℕ → ℕ → ℕ → Seen

@@ -1,5 +1,6 @@
--- Request C-20: "A script's answers depend on its own words, feeds, begins and resets, its own meter at the start, the weights, S, and the sum of
--- the others' counts at each feed, and on nothing else of theirs." proofs/Independent.antt proves `Independent`.
+-- Request C-20: "A script's answers depend on its own words, feeds, begins and resets, its own meter at the
+-- start, the weights, S, and the sum of the others' counts at each feed, and on nothing else of theirs."
+-- proofs/Independent.antt proves `Independent`.
 -- Assumes nothing.
 use mathlib.Core.Path.{_≡_}
 use mathlib.Core.List.{List}
@@ -41,4 +42,5 @@ pub record Independent (i : ℕ) (h h′ : History) : Type 0 where
       → allAnswers (scriptsIn h) i (h .start) (h .calls) ≡ allAnswers (scriptsIn h′) i (h′ .start) (h′ .calls)
   -- and on its meter
   pub meter : SameToScript i h h′
-      → meterOf (fourAfter (scriptsIn h) (h .start) (h .calls)) i ≡ meterOf (fourAfter (scriptsIn h′) (h′ .start) (h′ .calls)) i
+      → meterOf (fourAfter (scriptsIn h) (h .start) (h .calls)) i
+      ≡ meterOf (fourAfter (scriptsIn h′) (h′ .start) (h′ .calls)) i

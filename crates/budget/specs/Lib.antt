@@ -1,4 +1,5 @@
--- Four scripts on one controller: their meters, the budget on the sum of their counts, and what is claimed of them.
+-- Four scripts on one controller: their meters, the budget on the sum of their counts,
+-- and what is claimed of them.
 pub mod Four
 pub mod Calls
 pub mod Refusals

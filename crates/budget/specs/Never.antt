@@ -1,5 +1,6 @@
--- Request C-20: "If all four scripts are accepted, each one's L is at most S divided by 4, rounded down, every meter was just begun, S stays the
--- same, and words and weights stay those of the accepted runs, the allowance never turns a word back." proofs/Never.antt proves `Never`.
+-- Request C-20: "If all four scripts are accepted, each one's L is at most S divided by 4, rounded down,
+-- every meter was just begun, S stays the same, and words and weights stay those of the accepted runs, the
+-- allowance never turns a word back." proofs/Never.antt proves `Never`.
 -- Assumes nothing.
 use mathlib.Core.Logic.{_⊎_}
 use mathlib.Core.Bool.{Bool, true, false}
@@ -17,7 +18,15 @@ use Rattle.meter.specs.Feed.{scaleOf}
 use Rattle.meter.specs.Model.{Call, begin, feed, reset}
 use Rattle.budget.specs.declared.step.Meters.{Meters}
 use Rattle.budget.specs.Four.{lastScript, meterOf, feedFourOf}
-use Rattle.budget.specs.Calls.{FourCall, scriptsOf, EachWith, EachBegun, fourAfter, numbersOf, allAnswers}
+use Rattle.budget.specs.Calls.{
+  FourCall,
+  scriptsOf,
+  EachWith,
+  EachBegun,
+  fourAfter,
+  numbersOf,
+  allAnswers,
+}
 
 -- one script is accepted with these weights, and its "L is at most S divided by 4, rounded down"
 pub record AcceptedWithin (version : Version) (ws weights : List ℕ) (s : ℕ) : Type 0 where
@@ -34,7 +43,8 @@ abbrev pub EachWithin : (ℕ → Version) → (ℕ → List ℕ) → (ℕ → Li
 EachWithin versions words weights s =
     (i : ℕ) → i ≤ lastScript → AcceptedWithin (versions i) (words i) (weights i) s
 
--- the four are begun before the first feed: begins and resets, in any order and as many as there are, among them a begin of each script
+-- the four are begun before the first feed: begins and resets, in any order and as many as there are, among
+-- them a begin of each script
 abbrev pub isBegin : Call → Bool
 isBegin begin = true
 isBegin (feed q) = false
@@ -59,24 +69,30 @@ pub record Opening (calls : List FourCall) : Type 0 where
 
 -- some feed of script i is turned back by the budget
 abbrev pub TurnsBack : (ℕ → Version) → (ℕ → List ℕ) → (ℕ → List ℕ) → ℕ → Meters → List FourCall → Type 0
-TurnsBack versions words weights i ms calls = In «OVER_BUDGET» (numbersOf (allAnswers (scriptsOf versions words weights) i ms calls))
+TurnsBack versions words weights i ms calls =
+    In «OVER_BUDGET» (numbersOf (allAnswers (scriptsOf versions words weights) i ms calls))
 
 -- "words and weights stay those of the accepted runs": every feed of a script is lent them
 pub record Never : Type 0 where
   -- "every meter was just begun, S stays the same": no feed of any script is answered 22
-  pub none : (versions : ℕ → Version) (words weights : ℕ → List ℕ) (s : ℕ) → EachWithin versions words weights s
-      → (ms : Meters) → EachBegun ms → (calls : List FourCall) → EachWith s calls → (i : ℕ) → TurnsBack versions words weights i ms calls → ⊥
+  pub none : (versions : ℕ → Version) (words weights : ℕ → List ℕ) (s : ℕ)
+      → EachWithin versions words weights s
+      → (ms : Meters) → EachBegun ms → (calls : List FourCall) → EachWith s calls → (i : ℕ)
+      → TurnsBack versions words weights i ms calls → ⊥
   -- such are four meters of any contents once all four scripts have been begun
   pub begun : (ms : Meters) → ((i : ℕ) → i ≤ lastScript → meterOf ms i .services < 4294967296)
       → (versions : ℕ → Version) (words weights : ℕ → List ℕ) (opening : List FourCall) → Opening opening
       → EachBegun (fourAfter (scriptsOf versions words weights) ms opening)
   -- so that, from any four meters, a list that begins so meets no 22, whatever S its begins and resets name
-  pub opened : (versions : ℕ → Version) (words weights : ℕ → List ℕ) (s : ℕ) → EachWithin versions words weights s
+  pub opened : (versions : ℕ → Version) (words weights : ℕ → List ℕ) (s : ℕ)
+      → EachWithin versions words weights s
       → (ms : Meters) → ((i : ℕ) → i ≤ lastScript → meterOf ms i .services < 4294967296)
       → (opening : List FourCall) → Opening opening
-      → (calls : List FourCall) → EachWith s calls → (i : ℕ) → TurnsBack versions words weights i ms (opening ++ calls) → ⊥
+      → (calls : List FourCall) → EachWith s calls → (i : ℕ)
+      → TurnsBack versions words weights i ms (opening ++ calls) → ⊥
   -- and more: whatever S the calls before named, the next feed with this S is not answered 22
-  pub next : (versions : ℕ → Version) (words weights : ℕ → List ℕ) (s : ℕ) → EachWithin versions words weights s
+  pub next : (versions : ℕ → Version) (words weights : ℕ → List ℕ) (s : ℕ)
+      → EachWithin versions words weights s
       → (ms : Meters) → EachBegun ms → (calls : List FourCall) (i q : ℕ)
       → feedFourOf (scaleOf (scriptOf (versions i) (words i)) (weights i))
       (fourAfter (scriptsOf versions words weights) ms calls) i s q .answer .number ≡ «OVER_BUDGET» → ⊥

@@ -4,7 +4,19 @@ ghost use mathlib.Core.Bool.{cond};
 ghost use Prim.Native.Nat.{_≤_};
 ghost use Rattle.runs.specs.Script.{scriptOf, lua54};
 ghost use Rattle.meter.specs.Feed.{scaleOf, refusal};
-ghost use Rattle.budget.specs.Four.{lastScript, meterOf, withMeter, sumOf, isOutOfRange, refusedFour, ownOf, beginFourOf, resetFourOf, settleFour, feedFourOf};
+ghost use Rattle.budget.specs.Four.{
+  lastScript,
+  meterOf,
+  withMeter,
+  sumOf,
+  isOutOfRange,
+  refusedFour,
+  ownOf,
+  beginFourOf,
+  resetFourOf,
+  settleFour,
+  feedFourOf,
+};
 use fields::version::Version;
 use meter::Fed;
 use meter::FeedAnswer;
@@ -44,7 +56,8 @@ pub struct FedFour {
     pub answer: FeedAnswer,
 }
 
-// Field by field: where a whole meter is returned from an arm, the four are copied to memory and loaded again.
+// Field by field: where a whole meter is returned from an arm, the four are copied
+// to memory and loaded again.
 fn meter_of(ms: Meters, script: u32) -> Meter
     ensures { λ r. ⌜ r ≡ meterOf ms script ⌝ }
 {
@@ -218,7 +231,8 @@ pub fn feed_own_script(
     budget: u32,
     q: usize,
 ) -> Fed
-    ensures { λ r. ⌜ r ≡ ownOf script (feedFourOf (scaleOf (scriptOf version (now (words .entry))) (now (weights .entry))) ms script budget q) ⌝ }
+    ensures { λ r. ⌜ r ≡ ownOf script (feedFourOf
+        (scaleOf (scriptOf version (now (words .entry))) (now (weights .entry))) ms script budget q) ⌝ }
 {
     let m = meter_of(ms, script);
     let no_script = LAST_SCRIPT < script;
@@ -243,7 +257,8 @@ pub fn feed_four_script(
     budget: u32,
     q: usize,
 ) -> FedFour
-    ensures { λ r. ⌜ r ≡ feedFourOf (scaleOf (scriptOf version (now (words .entry))) (now (weights .entry))) ms script budget q ⌝ }
+    ensures { λ r. ⌜ r ≡ feedFourOf (scaleOf (scriptOf version (now (words .entry))) (now (weights .entry)))
+        ms script budget q ⌝ }
 {
     let f = feed_own_script(version, words, weights, ms, script, budget, q);
     let m = f.meter;
@@ -265,7 +280,8 @@ pub fn feed_own(
     budget: u32,
     q: usize,
 ) -> Fed
-    ensures { λ r. ⌜ r ≡ ownOf script (feedFourOf (scaleOf (lua54 (now (words .entry))) (now (weights .entry))) ms script budget q) ⌝ }
+    ensures { λ r. ⌜ r ≡ ownOf script
+        (feedFourOf (scaleOf (lua54 (now (words .entry))) (now (weights .entry))) ms script budget q) ⌝ }
 {
     feed_own_script(Version::Lua54, words, weights, ms, script, budget, q)
 }
@@ -278,7 +294,8 @@ pub fn feed_four(
     budget: u32,
     q: usize,
 ) -> FedFour
-    ensures { λ r. ⌜ r ≡ feedFourOf (scaleOf (lua54 (now (words .entry))) (now (weights .entry))) ms script budget q ⌝ }
+    ensures { λ r. ⌜
+        r ≡ feedFourOf (scaleOf (lua54 (now (words .entry))) (now (weights .entry))) ms script budget q ⌝ }
 {
     feed_four_script(Version::Lua54, words, weights, ms, script, budget, q)
 }

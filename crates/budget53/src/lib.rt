@@ -1,6 +1,6 @@
-// The feed of one of four scripts (request C-20) where that is of Lua 5.3 (request C-24): the controller lends its four meters to be updated. Begin and
-// reset of the four are those of 5.4, since they look at no word; so may a script of 5.4 be fed beside one of 5.3,
-// each by its own feed.
+// The feed of one of four scripts (request C-20) where that is of Lua 5.3 (request C-24):
+// the controller lends its four meters to be updated. Begin and reset of the four are those of 5.4, since
+// they look at no word; so may a script of 5.4 be fed beside one of 5.3, each by its own feed.
 ghost use mathlib.Core.Path.{_≡_};
 ghost use Rattle.fields.specs.declared.version.Version.the-variants.{Lua53};
 ghost use Rattle.runs.specs.Script.{scriptOf};
@@ -21,13 +21,14 @@ pub fn feed_own_53(
     budget: u32,
     q: usize,
 ) -> Fed
-    ensures { λ r. ⌜ r ≡ ownOf script (feedFourOf (scaleOf (scriptOf Lua53 (now (words .entry))) (now (weights .entry))) ms script budget q) ⌝ }
+    ensures { λ r. ⌜ r ≡ ownOf script (feedFourOf
+        (scaleOf (scriptOf Lua53 (now (words .entry))) (now (weights .entry))) ms script budget q) ⌝ }
 {
     feed_own_script(Version::Lua53, words, weights, ms, script, budget, q)
 }
 
-// For C: `struct lawendeb_answer lawendeb_feed_four_53(const uint32_t *words, size_t n, const uint8_t *weights,
-// size_t weights_n, struct lawendeb_meters *ms, uint32_t script, uint32_t budget, size_t q)`.
+// For C: `struct lawendeb_answer lawendeb_feed_four_53(const uint32_t *words, size_t n, const uint8_t
+// *weights, size_t weights_n, struct lawendeb_meters *ms, uint32_t script, uint32_t budget, size_t q)`.
 #[no_mangle]
 pub extern "C" fn lawendeb_feed_four_53(
     words: &[u32],
@@ -37,7 +38,10 @@ pub extern "C" fn lawendeb_feed_four_53(
     budget: u32,
     q: usize,
 ) -> FeedAnswer
-    ensures { λ r. ⌜ (r ≡ feedFourOf (scaleOf (scriptOf Lua53 (now (words .entry))) (now (weights .entry))) (now (ms .entry)) script budget q .answer) × (now (ms .exit) ≡ feedFourOf (scaleOf (scriptOf Lua53 (now (words .entry))) (now (weights .entry))) (now (ms .entry)) script budget q .meters) ⌝ }
+    ensures { λ r. ⌜ (r ≡ feedFourOf (scaleOf (scriptOf Lua53 (now (words .entry))) (now (weights .entry)))
+        (now (ms .entry)) script budget q .answer)
+        × (now (ms .exit) ≡ feedFourOf (scaleOf (scriptOf Lua53 (now (words .entry))) (now (weights .entry)))
+        (now (ms .entry)) script budget q .meters) ⌝ }
 {
     let f = feed_own_53(words, weights, *ms, script, budget, q);
     match script {

@@ -1,6 +1,6 @@
--- The controller's side, over the project's own meter: one for each activation, begun when that is entered and fed each of its words; and one
--- number more, `left`. The sum of the meters alive is no bound, since a callee's share leaves with its meter (`Needed`, `none-live`).
--- proofs/Meters.antt proves `MetersBound`.
+-- The controller's side, over the project's own meter: one for each activation, begun when that is entered
+-- and fed each of its words; and one number more, `left`. The sum of the meters alive is no bound, since a
+-- callee's share leaves with its meter (`Needed`, `none-live`). proofs/Meters.antt proves `MetersBound`.
 -- Assumes nothing.
 use mathlib.Core.Path.{_≡_}
 use mathlib.Core.Bool.{Bool, cond}
@@ -93,7 +93,8 @@ module _ (weights : List ℕ) where
   allAnswered k [] = []
   allAnswered k (e ∷ es) = answered k e ++ allAnswered (told k e) es
 
--- what can happen: a function of the script is entered, the one that runs takes a step of its words, or leaves. A meter's services are 32 bits
+-- what can happen: a function of the script is entered, the one that runs takes a step of its words, or
+-- leaves. A meter's services are 32 bits
 abbrev pub StepFrom : List Held → ℕ → Type 0
 StepFrom [] q = ⊥
 StepFrom (h ∷ others) q = In q (graphOf (h .words) .successors (h .meter .last))
@@ -125,7 +126,8 @@ abbrev pub runningCount : List Held → ℕ
 runningCount [] = 0
 runningCount (h ∷ others) = h .meter .count
 
-pub record MeterBound (weights : List ℕ) (rest : Script → ℕ → ℕ) (script : List Script) (events : List Event) : Type 0 where
+pub record MeterBound (weights : List ℕ) (rest : Script → ℕ → ℕ) (script : List Script)
+    (events : List Event) : Type 0 where
   -- the events are a run of the model, of which `ScriptsBounded` speaks
   pub run : Run (functionsFrom weights rest script) idle (movesOf weights rest events)
   -- no feed is refused

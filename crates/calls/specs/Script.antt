@@ -1,6 +1,7 @@
--- The bound for the words of a script of several functions, each of either version (request C-24): each function was given to the longest run
--- by itself, and accepted, with one table of weights. Beside it, the meters that the controller holds, one for each activation.
--- proofs/Script.antt proves `ScriptsBounded`, `EitherVersion` and `Case`.
+-- The bound for the words of a script of several functions, each of either version (request C-24):
+-- each function was given to the longest run by itself, and accepted, with one table of weights. Beside it,
+-- the meters that the controller holds, one for each activation. proofs/Script.antt proves `ScriptsBounded`,
+-- `EitherVersion` and `Case`.
 -- Assumes nothing.
 use mathlib.Core.Path.{_≡_}
 use mathlib.Core.List.{List, [], _∷_}
@@ -20,7 +21,18 @@ use Rattle.meter.specs.declared.step.Meter.{Meter}
 use Rattle.meter.specs.Feed.{Scale, scaleOf, beginOf}
 use Rattle.meter.specs.Calls.{meterAfter, meterAnswers}
 use Rattle.meter.specs.Bound.{feeds}
-use Rattle.calls.specs.Control.{Function, Activation, lastOf, countOf, Control, idle, Move, Run as Moves, after, Nested}
+use Rattle.calls.specs.Control.{
+  Function,
+  Activation,
+  lastOf,
+  countOf,
+  Control,
+  idle,
+  Move,
+  Run as Moves,
+  after,
+  Nested,
+}
 use Rattle.calls.specs.Bound.{longestRun, Bounded}
 use Rattle.calls.specs.Needed.{Reaches}
 
@@ -48,24 +60,30 @@ pub record AcceptedScript (weights : List ℕ) (rest : Script → ℕ → ℕ) (
   pub sound : (ws : Script) → In ws script → Sound ws
   pub accepted : (ws : Script) → In ws script → numberOf (answerOf weights ws) ≡ «ACCEPTED»
 
--- a meter m, begun when the activation was entered and fed each word that it ran: it refused none, is at its last word, and shows its count
+-- a meter m, begun when the activation was entered and fed each word that it ran: it refused none, is at its
+-- last word, and shows its count
 pub record Shows (s : Scale) (m : Meter) (a : Activation) (longest : ℕ) : Type 0 where
   pub taken : meterAnswers s (beginOf m) (feeds (a .words)) ≡ replicate (length (a .words)) «ACCEPTED»
   pub last : meterAfter s (beginOf m) (feeds (a .words)) .last ≡ lastOf a
   pub count : meterAfter s (beginOf m) (feeds (a .words)) .count ≡ countOf a
   pub never : meterAfter s (beginOf m) (feeds (a .words)) .count ≤ longest
 
-pub record Metered (weights : List ℕ) (rest : Script → ℕ → ℕ) (script : List Script) (a : Activation) : Type 0 where
+pub record Metered (weights : List ℕ) (rest : Script → ℕ → ℕ) (script : List Script)
+    (a : Activation) : Type 0 where
   -- the words of its function
   pub words : Script
   pub known : In words script
   pub same : a .function ≡ functionOf weights rest words
-  pub shows : (m : Meter) → m .services < 4294967296 → Shows (scaleOf words weights) m a (longestOf (answerOf weights words))
+  pub shows : (m : Meter)
+      → m .services < 4294967296 → Shows (scaleOf words weights) m a (longestOf (answerOf weights words))
 
-pub record ScriptBounded (weights : List ℕ) (rest : Script → ℕ → ℕ) (script : List Script) (moves : List Move) (c : Control) : Type 0 where
+pub record ScriptBounded (weights : List ℕ) (rest : Script → ℕ → ℕ) (script : List Script) (moves : List Move)
+    (c : Control) : Type 0 where
   -- the L of a function is the one that the longest run answers
-  pub answers : (ws : Script) → In ws script → longestRun (functionOf weights rest ws) ≡ longestOf (answerOf weights ws)
-  -- where calls nest at most d deep, what has run since the last service weighs no more than d times the largest answer
+  pub answers : (ws : Script)
+      → In ws script → longestRun (functionOf weights rest ws) ≡ longestOf (answerOf weights ws)
+  -- where calls nest at most d deep, what has run since the last service weighs no more than
+  -- d times the largest answer
   pub deep : (d : ℕ) → Nested d idle moves → c .since ≤ d * largestAnswer weights script
   -- by the chain, and by the meters
   pub bounded : Bounded (functionsFrom weights rest script) moves c
@@ -75,7 +93,8 @@ pub record ScriptBounded (weights : List ℕ) (rest : Script → ℕ → ℕ) (s
 abbrev pub ScriptsBounded : Type 0
 ScriptsBounded =
     (weights : List ℕ) (rest : Script → ℕ → ℕ) (script : List Script) → AcceptedScript weights rest script
-    → (moves : List Move) → Moves (functionsFrom weights rest script) idle moves → ScriptBounded weights rest script moves (after idle moves)
+    → (moves : List Move) → Moves (functionsFrom weights rest script) idle moves
+    → ScriptBounded weights rest script moves (after idle moves)
 
 -- the functions of a script as words, all of one version
 abbrev pub scriptsOf : Version → List (List ℕ) → List Script
@@ -85,12 +104,15 @@ scriptsOf version (ws ∷ script) = scriptOf version ws ∷ scriptsOf version sc
 -- the same of words of either version: nothing is asked of them but that the run accepts each
 abbrev pub EitherVersion : Type 0
 EitherVersion =
-    (version : Version) (weights : List ℕ) → Weighs weights → (rest : Script → ℕ → ℕ) → ((ws : Script) (p : ℕ) → rest ws p ≤ weightOf ws weights p)
-    → (script : List (List ℕ)) → ((ws : List ℕ) → In ws script → numberOf (answerOf weights (scriptOf version ws)) ≡ «ACCEPTED»)
+    (version : Version) (weights : List ℕ) → Weighs weights → (rest : Script → ℕ → ℕ)
+    → ((ws : Script) (p : ℕ) → rest ws p ≤ weightOf ws weights p)
+    → (script : List (List ℕ))
+    → ((ws : List ℕ) → In ws script → numberOf (answerOf weights (scriptOf version ws)) ≡ «ACCEPTED»)
     → (moves : List Move) → Moves (functionsFrom weights rest (scriptsOf version script)) idle moves
     → ScriptBounded weights rest (scriptsOf version script) moves (after idle moves)
 
--- three words, of which the second calls the function itself: alone L is 3, and 2 deep 4 words run with no service between them
+-- three words, of which the second calls the function itself: alone L is 3, and 2 deep 4 words run
+-- with no service between them
 abbrev pub recursive : Script
 recursive = lua54 («OP_MOVE» ∷ «OP_CALL» ∷ «OP_RETURN0» ∷ [])
 

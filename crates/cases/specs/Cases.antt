@@ -1,5 +1,5 @@
--- Document 01, "Bench cases": those marked P, in its order, shown for the definitions by one theorem over their list; and cases of request C-24, of words of
--- Lua 5.3.6 as numbers.
+-- Document 01, "Bench cases": those marked P, in its order, shown for the definitions by one theorem over
+-- their list; and cases of request C-24, of words of Lua 5.3.6 as numbers.
 -- Assumes nothing.
 use Prim.Native.Nat.{ℕ}
 use mathlib.Core.Path.{_≡_}
@@ -11,11 +11,11 @@ use Rattle.fields.specs.Opcodes.{«OP_MOVE», «OP_LOADI», «OP_FORLOOP»}
 use Rattle.fields.specs.Events.{«TM_ADD»}
 use Rattle.fields.specs.Word.{opcodeOf, aOf, sbxOf}
 use Rattle.fields.specs.declared.version.Version.the-variants.{Lua53}
-use Rattle.runs.specs.declared.edges.Successors.{Successors}
-use Rattle.runs.specs.declared.edges.Successors.the-variants.{Invalid, Stop, One, Two}
+use Rattle.sweep.specs.declared.edges.Successors.{Successors}
+use Rattle.sweep.specs.declared.edges.Successors.the-variants.{Invalid, Stop, One, Two}
 use Rattle.runs.specs.declared.longest.Run.the-variants.{Accepted, Refused}
 use Rattle.runs.specs.Script.{lua54, scriptOf}
-use Rattle.runs.specs.Steps.{servesOf}
+use Rattle.sweep.specs.Steps.{servesOf}
 use Rattle.runs.specs.Successors.{successorsOf}
 use Rattle.runs.specs.Successors53.{successorsOf as successorsOf53}
 use Rattle.runs.specs.Run.{runOf}
@@ -76,12 +76,17 @@ abbrev pub HoldsOf : Case → Type 0
 HoldsOf (fields word opcode a sbx) = (opcodeOf word ≡ opcode) × (aOf word ≡ a) × (sbxOf word ≡ sbx)
 HoldsOf (steps words p s) = successorsOf words p ≡ s
 HoldsOf (serving p q t) = servesOf p q ≡ t
-HoldsOf (run words longest first) = runOf (lua54 words) ones (length words) (length words) ≡ Accepted longest first
-HoldsOf (weighed words weights longest first) = runOf (lua54 words) weights (length words) (length words) ≡ Accepted longest first
+HoldsOf (run words longest first) =
+    runOf (lua54 words) ones (length words) (length words) ≡ Accepted longest first
+HoldsOf (weighed words weights longest first) =
+    runOf (lua54 words) weights (length words) (length words) ≡ Accepted longest first
 HoldsOf (steps53 words p s) = successorsOf53 words p ≡ s
-HoldsOf (run53 words longest first) = runOf (scriptOf Lua53 words) ones (length words) (length words) ≡ Accepted longest first
-HoldsOf (weighed53 words weights longest first) = runOf (scriptOf Lua53 words) weights (length words) (length words) ≡ Accepted longest first
-HoldsOf (refused53 words weights number place) = runOf (scriptOf Lua53 words) weights (length words) (length words) ≡ Refused number place
+HoldsOf (run53 words longest first) =
+    runOf (scriptOf Lua53 words) ones (length words) (length words) ≡ Accepted longest first
+HoldsOf (weighed53 words weights longest first) =
+    runOf (scriptOf Lua53 words) weights (length words) (length words) ≡ Accepted longest first
+HoldsOf (refused53 words weights number place) =
+    runOf (scriptOf Lua53 words) weights (length words) (length words) ≡ Refused number place
 HoldsOf (jumps words pc target) = recordAt words pc .«jump_target» ≡ target
 HoldsOf (touches words pc reads writes) =
     (recordAt words pc .reads ≡ readsOf reads) × (recordAt words pc .writes ≡ writesOf writes)
@@ -139,11 +144,12 @@ cases =
     ∷ steps sheet 2 (One 3)
     ∷ []
 
--- request C-24: lopcodes.h of Lua 5.3.6 numbers LOADBOOL 3, JMP 30, EQ 31, TAILCALL 37, RETURN 38, FORLOOP 39, FORPREP 40, TFORCALL 41, TFORLOOP 42, SETLIST 43
--- and EXTRAARG 46
+-- request C-24: lopcodes.h of Lua 5.3.6 numbers LOADBOOL 3, JMP 30, EQ 31, TAILCALL 37, RETURN 38, FORLOOP
+-- 39, FORPREP 40, TFORCALL 41, TFORLOOP 42, SETLIST 43 and EXTRAARG 46
 abbrev pub cases53 : List Case
 cases53 =
-    -- FORLOOP with sBx -1 steps to itself and on; with sBx 0 the two are one; with sBx 1 looping is the higher of the two
+    -- FORLOOP with sBx -1 steps to itself and on; with sBx 0 the two are one; with sBx 1
+    -- looping is the higher of the two
     steps53 (0 ∷ 2147450919 ∷ 38 ∷ []) 1 (Two 1 2)
     ∷ steps53 (0 ∷ 2147467303 ∷ 38 ∷ []) 1 (One 2)
     ∷ steps53 (2147483687 ∷ 38 ∷ 38 ∷ []) 0 (Two 1 2)

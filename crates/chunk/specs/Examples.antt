@@ -11,19 +11,22 @@ use Rattle.chunk.specs.Claims.{shows}
 
 -- what a pass answers: an accepted function's words, constants and names; or a refusal's number, with place 0
 abbrev needs : ℕ → ℕ → ℕ → Counts
-needs words constants names = record { number = 0; place = 0; words = words; constants = constants; names = names }
+needs words constants names =
+    record { number = 0; place = 0; words = words; constants = constants; names = names }
 
 abbrev turnedAway : ℕ → Counts
 turnedAway number = record { number = number; place = 0; words = 0; constants = 0; names = 0 }
 
--- The 31 bytes that luac of Lua 5.4.8 begins each file with, where words have 4 bytes, integers and floats 8, little-endian
+-- The 31 bytes that luac of Lua 5.4.8 begins each file with, where words have 4 bytes, integers
+-- and floats 8, little-endian
 abbrev pub header : List ℕ
 header =
     27 ∷ 76 ∷ 117 ∷ 97 ∷ 84 ∷ 0 ∷ 25 ∷ 147 ∷ 13 ∷ 10 ∷ 26 ∷ 10 ∷ 4 ∷ 8 ∷ 8
     ∷ 120 ∷ 86 ∷ 0 ∷ 0 ∷ 0 ∷ 0 ∷ 0 ∷ 0
     ∷ 0 ∷ 0 ∷ 0 ∷ 0 ∷ 0 ∷ 40 ∷ 119 ∷ 64 ∷ []
 
--- A chunk of one function, stripped of all but a name: RETURN0 alone (luac puts a VARARGPREP before it), the constant "x", the upvalue _ENV
+-- A chunk of one function, stripped of all but a name: RETURN0 alone (luac puts a VARARGPREP before it), the
+-- constant "x", the upvalue _ENV
 abbrev pub example : List ℕ
 example =
     header ++ (1 ∷ 128 ∷ 128 ∷ 128 ∷ 0 ∷ 1 ∷ 2
@@ -43,8 +46,9 @@ pub record ExampleRead : Type 0 where
   pub names : after namesOf (chosen 0 example) (9 ∷ 9 ∷ []) ≡ 17179869241 ∷ 9 ∷ []
   pub no-second : countsOf (chosen 1 example) ≡ turnedAway 15
 
--- Four functions, stripped: main with one upvalue, two within it, and one within the first of these. The first byte of each word is its
--- opcode, and tells them apart: 71, 72, 68, 70 in the order of their first bytes
+-- Four functions, stripped: main with one upvalue, two within it, and one within the first of
+-- these. The first byte of each word is its opcode, and tells them apart: 71, 72, 68, 70 in the
+-- order of their first bytes
 abbrev pub nested : List ℕ
 nested =
     header ++ (1 ∷ 128 ∷ 128 ∷ 128 ∷ 0 ∷ 1 ∷ 2 ∷ 129 ∷ 71 ∷ 0 ∷ 1 ∷ 0 ∷ 128 ∷ 129 ∷ 1 ∷ 0 ∷ 0
@@ -64,7 +68,8 @@ levels (suc n) = 128 ∷ 128 ∷ 128 ∷ 0 ∷ 0 ∷ 2 ∷ 128 ∷ 128 ∷ 128 �
 pub record NestedRead : Type 0 where
   pub main : countsOf (chosen 0 nested) ≡ needs 1 0 1
   pub main-words : after wordsOf (chosen 0 nested) (9 ∷ 9 ∷ []) ≡ 65607 ∷ 9 ∷ []
-  -- "Functions hold functions", which "count from 0 by their first byte": the one within the first goes before the second
+  -- "Functions hold functions", which "count from 0 by their first byte": the one within the
+  -- first goes before the second
   pub first : countsOf (chosen 1 nested) ≡ needs 1 0 0
   pub first-words : after wordsOf (chosen 1 nested) (9 ∷ 9 ∷ []) ≡ 65608 ∷ 9 ∷ []
   pub within-words : after wordsOf (chosen 2 nested) (9 ∷ 9 ∷ []) ≡ 65604 ∷ 9 ∷ []
@@ -73,12 +78,13 @@ pub record NestedRead : Type 0 where
   -- "trailing bytes are ignored", whatever they are: 15 for one, in definition and code alike, is refused
   -- here
   pub trailing : (byte : ℕ) → countsOf (chosen 3 (nested ++ (byte ∷ []))) ≡ needs 1 0 0
-  -- "16 a level 33, met at the count that needs it", with nothing behind that count. A level 32 is read, and there the bytes end early
+  -- "16 a level 33, met at the count that needs it", with nothing behind that count. A level 32 is read, and
+  -- there the bytes end early
   pub deep : countsOf (chosen 0 (header ++ (0 ∷ levels 32))) ≡ turnedAway 16
   pub not-deep : countsOf (chosen 0 (header ++ (0 ∷ levels 31))) ≡ turnedAway 15
 
--- Names of a chunk of 14 bytes and of a list of 8: the chunk's are bytes 6 and 7, an empty one at 3, and none; the list's bytes 0 to 2, 4 to
--- 7 twice, and none
+-- Names of a chunk of 14 bytes and of a list of 8: the chunk's are bytes 6 and 7, an empty one at 3, and
+-- none; the list's bytes 0 to 2, 4 to 7 twice, and none
 abbrev own : List ℕ
 own = 8589934598 ∷ 3 ∷ unnamed ∷ []
 

@@ -1,7 +1,9 @@
--- lundump.c of Lua 5.4.8, "for 4-byte words, 8-byte integers and 8-byte floats, little-endian": a reader for each of its functions, under
--- its name and in its order, but that loadProtos stands after loadFunction (which the C declares ahead of it), loadDebug is loadLines and then
--- loadNames, checkliteral and fchecksize are both checkBytes, and luaU_undump is undump.
--- What the C refuses by `error` is 15 here, a header byte that differs 14. Document 02 adds the limits on counts (15), the unknown tag (3)
+-- lundump.c of Lua 5.4.8, "for 4-byte words, 8-byte integers and 8-byte floats, little-endian": a reader
+-- for each of its functions, under its name and in its order, but that loadProtos stands after loadFunction
+-- (which the C declares ahead of it), loadDebug is loadLines and then loadNames, checkliteral and fchecksize
+-- are both checkBytes, and luaU_undump is undump.
+-- What the C refuses by `error` is 15 here, a header byte that differs 14. Document 02 adds the limits on
+-- counts (15), the unknown tag (3)
 -- and the levels (16).
 -- Assumes nothing.
 use mathlib.Core.Bool.{cond}
@@ -9,7 +11,15 @@ use mathlib.Core.List.{List, [], _∷_, _++_}
 use Prim.Native.Nat.{ℕ, zero, suc, _+_, _*_, _/_, _%_}
 use lib.Dec.{ltb, leb, eqb}
 use lib.ListN.{length, drop, getD, replicate}
-use Rattle.values.specs.Values.{«TAG_NIL», «TAG_FALSE», «TAG_TRUE», «TAG_INTEGER», «TAG_FLOAT», «TAG_SHORT_STRING», «TAG_LONG_STRING»}
+use Rattle.values.specs.Values.{
+  «TAG_NIL»,
+  «TAG_FALSE»,
+  «TAG_TRUE»,
+  «TAG_INTEGER»,
+  «TAG_FLOAT»,
+  «TAG_SHORT_STRING»,
+  «TAG_LONG_STRING»,
+}
 use Rattle.chunk.specs.declared.reading.Refusal.the-variants.{Header, Malformed, TooDeep, UnknownTag}
 use Rattle.common.specs.Limits.{mostWords, mostConstants, mostNames}
 use Rattle.chunk.specs.Limits.{levelsBelow, sizeMax, intMax}
@@ -102,9 +112,11 @@ wordsFrom zero bytes at = []
 wordsFrom (suc n) bytes at = littleEnd 4 bytes at ∷ wordsFrom n bytes (at + 4)
 
 unfoldable pub loadCode : Reader (List ℕ)
-loadCode bytes at = bind (loadVector mostWords 4 bytes at) (λ v at₁. done (wordsFrom (v .count) bytes (v .start)) at₁)
+loadCode bytes at =
+    bind (loadVector mostWords 4 bytes at) (λ v at₁. done (wordsFrom (v .count) bytes (v .start)) at₁)
 
--- loadConstants: its `switch (t)`. "Payloads of nil, false and true are given as 0"; "An unknown constant tag is number 3 with its index"
+-- loadConstants: its `switch (t)`. "Payloads of nil, false and true are given as 0"; "An unknown constant tag
+-- is number 3 with its index"
 unfoldable pub constantOf : ℕ → ℕ → Reader Constant
 constantOf i t bytes at =
     cond (eqb t «TAG_NIL») (done (plain «TAG_NIL» 0) at)
@@ -126,7 +138,8 @@ loadConstants = loadItems mostConstants loadConstant
 unfoldable pub loadUpvalues : Reader ℕ
 loadUpvalues bytes at = bind (loadVector mostNames 3 bytes at) (λ v at₁. done (v .count) at₁)
 
--- loadDebug: lineinfo, abslineinfo and locvars. Document 02 sets their counts no limit: loadInt's is the only one
+-- loadDebug: lineinfo, abslineinfo and locvars. Document 02 sets their counts no limit:
+-- loadInt's is the only one
 unfoldable pub loadAbsLine : ℕ → Reader ℕ
 loadAbsLine i = andThen loadInt loadInt
 
@@ -134,9 +147,11 @@ unfoldable pub loadLocVar : ℕ → Reader ℕ
 loadLocVar i = andThen loadStringN (andThen loadInt loadInt)
 
 unfoldable pub loadLines : Reader (List ℕ)
-loadLines = andThen (loadVector intMax 1) (andThen (loadItems intMax loadAbsLine) (loadItems intMax loadLocVar))
+loadLines =
+    andThen (loadVector intMax 1) (andThen (loadItems intMax loadAbsLine) (loadItems intMax loadLocVar))
 
--- loadDebug: the upvalues' names, after `if (n != 0) n = f->sizeupvalues`. "names, one per upvalue"; "Stripped scripts have no upvalue names"
+-- loadDebug: the upvalues' names, after `if (n != 0) n = f->sizeupvalues`. "names, one per upvalue";
+-- "Stripped scripts have no upvalue names"
 abbrev pub loadName : ℕ → Reader Text
 loadName i = loadStringN
 
@@ -147,8 +162,9 @@ namesFrom upvalues (suc n) bytes at = repeat loadName 0 upvalues bytes at
 unfoldable pub loadNames : ℕ → Reader (List Text)
 loadNames upvalues bytes at = bind (loadInt bytes at) (λ n at₁. namesFrom upvalues n bytes at₁)
 
--- a function: where its first byte stands in the bytes, the first of its head, and the position past its last one; its words, constants and names,
--- one for each upvalue, where the count of each stands, and where that of its line information does
+-- a function: where its first byte stands in the bytes, the first of its head, and the position past its last
+-- one; its words, constants and names, one for each upvalue, where the count of each stands, and where that
+-- of its line information does
 pub record Function : Type 0 where
   pub firstAt : ℕ
   pub codeAt : ℕ
@@ -163,9 +179,11 @@ pub record Function : Type 0 where
 
 -- loadFunction, ahead of its parts: source, linedefined, lastlinedefined, numparams, is_vararg, maxstacksize
 unfoldable pub loadHead : Reader ℕ
-loadHead = andThen loadStringN (andThen loadInt (andThen loadInt (andThen loadByte (andThen loadByte loadByte))))
+loadHead =
+    andThen loadStringN (andThen loadInt (andThen loadInt (andThen loadByte (andThen loadByte loadByte))))
 
--- loadFunction, over a loadProtos: the function, and then those within it, so that "Functions count from 0 by their first byte"
+-- loadFunction, over a loadProtos: the function, and then those within it, so that "Functions count
+-- from 0 by their first byte"
 unfoldable pub functionWith : Reader (List Function) → Reader (List Function)
 functionWith loadProtos bytes at =
     bind (loadHead bytes at) (λ maxstacksize at₁.
@@ -205,18 +223,22 @@ noneOf (suc n) bytes at = refused TooDeep
 -- loadProtos, with so many levels left: "the remaining level allowance" falls by one at each function within
 unfoldable pub loadProtos : ℕ → Reader (List Function)
 loadProtos zero bytes at = bind (loadInt bytes at) (λ n at₁. noneOf n bytes at₁)
-loadProtos (suc level) bytes at = bind (loadInt bytes at) (λ n at₁. several (functionWith (loadProtos level)) n bytes at₁)
+loadProtos (suc level) bytes at =
+    bind (loadInt bytes at) (λ n at₁. several (functionWith (loadProtos level)) n bytes at₁)
 
 abbrev pub loadFunction : ℕ → Reader (List Function)
 loadFunction level = functionWith (loadProtos level)
 
--- checkliteral, fchecksize and the comparisons of checkHeader, byte by byte: "14 a header byte that differs", 15 where the bytes end before
+-- checkliteral, fchecksize and the comparisons of checkHeader, byte by byte: "14 a header byte that differs",
+-- 15 where the bytes end before
 unfoldable pub checkBytes : List ℕ → Reader (Unit {0})
 checkBytes [] bytes at = done tt at
-checkBytes (h ∷ hs) bytes at = bind (loadByte bytes at) (λ b at₁. let more = checkBytes hs bytes at₁ in cond (eqb b h) more (refused Header))
+checkBytes (h ∷ hs) bytes at = bind (loadByte bytes at)
+    (λ b at₁. let more = checkBytes hs bytes at₁ in cond (eqb b h) more (refused Header))
 
--- checkHeader: LUA_SIGNATURE "\x1bLua"; LUAC_VERSION 0x54, LUAC_FORMAT 0; LUAC_DATA "\x19\x93\r\n\x1a\n"; the sizes of Instruction,
--- lua_Integer and lua_Number; LUAC_INT 0x5678; LUAC_NUM 370.5, whose bits are 0x4077280000000000
+-- checkHeader: LUA_SIGNATURE "\x1bLua"; LUAC_VERSION 0x54, LUAC_FORMAT 0; LUAC_DATA "\x19\x93\r\n\x1a\n";
+-- the sizes of Instruction, lua_Integer and lua_Number; LUAC_INT 0x5678; LUAC_NUM 370.5, whose
+-- bits are 0x4077280000000000
 abbrev pub headerBytes : List ℕ
 headerBytes =
     27 ∷ 76 ∷ 117 ∷ 97
@@ -229,6 +251,7 @@ headerBytes =
 unfoldable pub checkHeader : Reader (Unit {0})
 checkHeader = checkBytes headerBytes
 
--- luaU_undump: the header; the number of the main function's upvalues, a byte that nothing is held against; the main function, level 1
+-- luaU_undump: the header; the number of the main function's upvalues, a byte that nothing is held against;
+-- the main function, level 1
 unfoldable pub undump : Reader (List Function)
 undump = andThen checkHeader (andThen loadByte (loadFunction levelsBelow))

@@ -1,4 +1,5 @@
--- What the positions of a function mean: the same readers, started there, read that function, its head, words, constants, lines and names.
+-- What the positions of a function mean: the same readers, started there, read that function, its head,
+-- words, constants, lines and names.
 -- Assumes nothing.
 use mathlib.Core.Path.{_≡_}
 use mathlib.Core.List.{List, [], _∷_}
@@ -7,7 +8,15 @@ use lib.ListN.{length}
 use Rattle.common.specs.Limits.{mostWords, mostConstants, mostNames}
 use Rattle.chunk.specs.Limits.{levelsBelow}
 use Rattle.chunk.specs.Reading.{Result, done, refused}
-use Rattle.chunk.specs.Lundump.{Function, loadHead, loadCode, loadConstants, loadLines, loadNames, loadFunction}
+use Rattle.chunk.specs.Lundump.{
+  Function,
+  loadHead,
+  loadCode,
+  loadConstants,
+  loadLines,
+  loadNames,
+  loadFunction,
+}
 
 pub record Stands (bytes : List ℕ) (f : Function) : Type 0 where
   -- "their first byte": a function read from there is this one, and then those within it
@@ -45,7 +54,8 @@ abbrev pub OneRead : List ℕ → Result Function → Type 0
 OneRead bytes (done f at) = Stands bytes f
 OneRead bytes (refused e) = Unit
 
--- functions one after another, from a position to a position: each starts at one of so many bytes, before those behind it, and ends in time
+-- functions one after another, from a position to a position: each starts at one of so many bytes, before
+-- those behind it, and ends in time
 abbrev pub Between : ℕ → ℕ → List Function → ℕ → Type 0
 Between size lo [] hi = lo ≤ hi
 Between size lo (f ∷ fs) hi =

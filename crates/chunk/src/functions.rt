@@ -15,7 +15,8 @@ use crate::reading::position;
 use crate::reading::reason;
 use crate::reading::value;
 
-// Where a function's head stands, and the counts of its words, constants, line information and names, and how many it has of each.
+// Where a function's head stands, and the counts of its words, constants, line information and names,
+// and how many it has of each.
 pub struct Layout {
     pub first_at: usize,
     pub code_at: usize,

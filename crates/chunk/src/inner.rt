@@ -1,5 +1,5 @@
-// What other crates of this repository that read parts of a chunk call: its loaders, and the walk over its functions. No entry of C or of a program is
-// among them.
+// What other crates of this repository that read parts of a chunk call: its loaders, and the walk over its
+// functions. No entry of C or of a program is among them.
 pub use crate::counts::number;
 pub use crate::counts::place;
 pub use crate::counts::report;

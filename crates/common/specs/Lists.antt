@@ -1,4 +1,5 @@
--- What lent slices hold afterwards: their first elements by a function of the index, or a part of them written over.
+-- What lent slices hold afterwards: their first elements by a function of the index, or a
+-- part of them written over.
 -- Assumes nothing.
 use mathlib.Core.Path.{_≡_}
 use mathlib.Core.List.{List, [], _∷_, _++_}
@@ -28,7 +29,8 @@ pub record OverLaws : Type 0 where
       (f : ℕ → ℕ) (k : ℕ) (l₀ l : List ℕ) → k ≤ length l → ((p : ℕ) → p < k → getD l p 0 ≡ f p)
       → drop k l ≡ drop k l₀ → l ≡ over f k l₀
   -- a list with no rest
-  pub whole : (f : ℕ → ℕ) (k : ℕ) (l : List ℕ) → length l ≡ k → ((p : ℕ) → p < k → getD l p 0 ≡ f p) → l ≡ tabulate f 0 k
+  pub whole : (f : ℕ → ℕ) (k : ℕ) (l : List ℕ)
+      → length l ≡ k → ((p : ℕ) → p < k → getD l p 0 ≡ f p) → l ≡ tabulate f 0 k
   -- what such a list holds
   pub at : (f : ℕ → ℕ) (k : ℕ) (l : List ℕ) (p : ℕ) → p < k → getD (over f k l) p 0 ≡ f p
   pub past : (f : ℕ → ℕ) (k : ℕ) (l : List ℕ) → drop k (over f k l) ≡ drop k l
@@ -36,7 +38,8 @@ pub record OverLaws : Type 0 where
 
 -- what callers go by: proofs/Put.antt proves it
 pub record PutLaws : Type 0 where
-  pub length-put : (l : List ℕ) (i : ℕ) (xs : List ℕ) → i + length xs ≤ length l → length (put l i xs) ≡ length l
+  pub length-put : (l : List ℕ) (i : ℕ) (xs : List ℕ)
+      → i + length xs ≤ length l → length (put l i xs) ≡ length l
   pub none : (l : List ℕ) (i : ℕ) → l ≡ put l i []
   pub one : (l : List ℕ) (i a : ℕ) → i < length l → set l i a ≡ put l i (a ∷ [])
   -- the rest of the list stands behind what is put at its start

@@ -24,13 +24,17 @@ pub record First (t : ℕ → Bool) (i k a : ℕ) : Type 0 where
 pub record LowestLaws : Type 0 where
   -- what it is
   pub first : (t : ℕ → Bool) (i k : ℕ) → First t i k (lowestFrom t i k)
-  pub is : (t : ℕ → Bool) (k a : ℕ) → a < k → t a ≡ true → ((p : ℕ) → p < a → t p ≡ false) → a ≡ lowestFrom t 0 k
+  pub is : (t : ℕ → Bool) (k a : ℕ)
+      → a < k → t a ≡ true → ((p : ℕ) → p < a → t p ≡ false) → a ≡ lowestFrom t 0 k
   pub nowhere : (t : ℕ → Bool) (k : ℕ) → ((p : ℕ) → p < k → t p ≡ false) → k ≡ lowestFrom t 0 k
   -- tests that agree have the same
-  pub same : (t u : ℕ → Bool) (i k : ℕ) → ((p : ℕ) → p < i + k → t p ≡ u p) → lowestFrom t i k ≡ lowestFrom u i k
+  pub same : (t u : ℕ → Bool) (i k : ℕ)
+      → ((p : ℕ) → p < i + k → t p ≡ u p) → lowestFrom t i k ≡ lowestFrom u i k
   -- for loops over the numbers below n: at i, those from i on are left
   pub whole : (t : ℕ → Bool) (n : ℕ) → lowestFrom t 0 (n - 0) ≡ lowestFrom t 0 n
-  pub turn : (t : ℕ → Bool) (n i : ℕ) → i < n → lowestFrom t i (n - i) ≡ cond (t i) i (lowestFrom t (i + 1) (n - (i + 1)))
+  pub turn : (t : ℕ → Bool) (n i : ℕ)
+      → i < n → lowestFrom t i (n - i) ≡ cond (t i) i (lowestFrom t (i + 1) (n - (i + 1)))
   pub hit : (t : ℕ → Bool) (n i : ℕ) → i < n → t i ≡ true → i ≡ lowestFrom t i (n - i)
-  pub miss : (t : ℕ → Bool) (n i : ℕ) → i < n → t i ≡ false → lowestFrom t i (n - i) ≡ lowestFrom t (i + 1) (n - (i + 1))
+  pub miss : (t : ℕ → Bool) (n i : ℕ)
+      → i < n → t i ≡ false → lowestFrom t i (n - i) ≡ lowestFrom t (i + 1) (n - (i + 1))
   pub end : (t : ℕ → Bool) (n i : ℕ) → i ≡ n → i ≡ lowestFrom t i (n - i)

@@ -1,4 +1,5 @@
--- Document 01, "Refused inputs", and document 02: the number of each condition, by name, beside the document's words.
+-- Document 01, "Refused inputs", and document 02: the number of each condition, by name,
+-- beside the document's words.
 -- Assumes nothing.
 use Prim.Native.Nat.{ℕ}
 
@@ -58,8 +59,9 @@ abbrev pub «TOO_MANY_LINES» : ℕ
 abbrev pub «HEADER_DIFFERS» : ℕ
 «HEADER_DIFFERS» = 14
 
--- request C-11: "the bytes end early, a word, constant or upvalue count exceeds 01's limits, a number overflows lundump.c's own limit, a
--- constant string is absent, the chunk passes 4,294,967,295 bytes or the chosen function does not exist"
+-- request C-11: "the bytes end early, a word, constant or upvalue count exceeds 01's limits, a number
+-- overflows lundump.c's own limit, a constant string is absent, the chunk passes 4,294,967,295 bytes or the
+-- chosen function does not exist"
 abbrev pub «MALFORMED_CHUNK» : ℕ
 «MALFORMED_CHUNK» = 15
 
@@ -67,8 +69,8 @@ abbrev pub «MALFORMED_CHUNK» : ℕ
 abbrev pub «TOO_DEEP» : ℕ
 «TOO_DEEP» = 16
 
--- request C-15: "on every course from word 0 each register named as read was a parameter or was named as written earlier on that course"; a word
--- where that is broken
+-- request C-15: "on every course from word 0 each register named as read was a parameter or was named as
+-- written earlier on that course"; a word where that is broken
 abbrev pub «UNSET_REGISTER» : ℕ
 «UNSET_REGISTER» = 17
 

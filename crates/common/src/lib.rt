@@ -1,4 +1,5 @@
-// Beneath the layers, over nothing: what they share. Limits, refusals by name, and the answer of number and place.
+// Beneath the layers, over nothing: what they share. Limits, refusals by name, and the
+// answer of number and place.
 pub mod answer;
 pub mod limits;
 pub mod numbers;

@@ -1,4 +1,5 @@
-// Document 01, "Refused inputs", and document 02: each condition's number, by name. specs/Numbers.antt has the same for definitions.
+// Document 01, "Refused inputs", and document 02: each condition's number, by name. specs/Numbers.antt has
+// the same for definitions.
 
 pub const ACCEPTED: u8 = 0;
 
@@ -41,7 +42,8 @@ pub const TOO_MANY_LINES: u8 = 13;
 // Request C-11: a header byte of a chunk differs.
 pub const HEADER_DIFFERS: u8 = 14;
 
-// Request C-11: a chunk ends early, or has a count or a number over its limit, an absent constant string, too many bytes or no such function.
+// Request C-11: a chunk ends early, or has a count or a number over its limit, an absent constant string, too
+// many bytes or no such function.
 pub const MALFORMED_CHUNK: u8 = 15;
 
 // Request C-11: a chunk's functions need a level 33.

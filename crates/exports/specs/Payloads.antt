@@ -1,6 +1,7 @@
--- What leaves by the exports is what came in: of a lifted record the flat numbers give each constant's payload and each name's place as they
--- were lent, and a float by its bits, whether it is a number or not. (Of any value at all they do not: `floatBits` of what is not a number is 0,
--- and no lifted record holds that as a `Float`.)
+-- What leaves by the exports is what came in: of a lifted record the flat numbers give each constant's
+-- payload and each name's place as they were lent, and a float by its bits, whether it is a number or
+-- not. (Of any value at all they do not: `floatBits` of what is not a number is 0, and no lifted record
+-- holds that as a `Float`.)
 -- Assumes nothing.
 use Prim.Native.Nat.{ℕ, _<_, _^_}
 use mathlib.Core.Path.{_≡_}
@@ -9,14 +10,26 @@ use lib.Dec.{eqb, ltb}
 use lib.ListN.{length, getD}
 use lib.Ieee.{binary64, toBits}
 use Rattle.common.specs.Chain.{choose}
-use Rattle.values.specs.Values.{«TAG_FALSE», «TAG_TRUE», «TAG_INTEGER», «TAG_FLOAT», «TAG_SHORT_STRING», «TAG_LONG_STRING», unnamed, valueOf, constantOf, nameOf}
+use Rattle.values.specs.Values.{
+  «TAG_FALSE»,
+  «TAG_TRUE»,
+  «TAG_INTEGER»,
+  «TAG_FLOAT»,
+  «TAG_SHORT_STRING»,
+  «TAG_LONG_STRING»,
+  unnamed,
+  valueOf,
+  constantOf,
+  nameOf,
+}
 use Rattle.records.specs.Lift.{liftOf}
 use Rattle.records.specs.Sources.{operandIn, targetIn, immediateFloat}
 use Rattle.exports.specs.declared.parts.FlatSlot.{FlatSlot}
 use Rattle.exports.specs.declared.parts.FlatPair.{FlatPair}
 use Rattle.exports.specs.Record.{pair, flatName, flatValue, flatOperand, flatTarget}
 
--- A constant as it was lent: the kind of its tag, and its payload. "Other payloads are ignored": those of nil, false and true.
+-- A constant as it was lent: the kind of its tag, and its payload. "Other payloads are ignored":
+-- those of nil, false and true.
 unfoldable pub lentConstant : ℕ → ℕ → FlatPair
 lentConstant tag payload =
     choose (eqb tag «TAG_FALSE») (pair 1 0)
@@ -35,7 +48,8 @@ lentName payload = choose (eqb payload unnamed) (pair 0 0) (pair 1 payload)
 unfoldable pub lentConstantAt : List ℕ → List ℕ → ℕ → FlatPair
 lentConstantAt tags payloads index =
     choose (ltb index (length tags))
-    (choose (ltb index (length payloads)) (lentConstant (getD tags index 0) (getD payloads index 0)) (pair 0 0))
+    (choose (ltb index (length payloads))
+    (lentConstant (getD tags index 0) (getD payloads index 0)) (pair 0 0))
     (pair 0 0)
 
 unfoldable pub lentNameAt : List ℕ → ℕ → FlatPair
@@ -57,15 +71,19 @@ Slice64 numbers = (i : ℕ) → getD numbers i 0 < 2 ^ 64
 
 pub record PayloadsKept : Type 0 where
   -- of every tag and 64-bit payload, a NaN's pattern included
-  pub values : (tag payload : ℕ) → payload < 2 ^ 64 → flatValue (valueOf tag payload) ≡ lentConstant tag payload
-  pub constants : (tags payloads : List ℕ) (index : ℕ) → Slice64 payloads → flatValue (constantOf tags payloads index) ≡ lentConstantAt tags payloads index
-  pub names : (names : List ℕ) (index : ℕ) → Slice64 names → flatName (nameOf names index) ≡ lentNameAt names index
+  pub values : (tag payload : ℕ)
+      → payload < 2 ^ 64 → flatValue (valueOf tag payload) ≡ lentConstant tag payload
+  pub constants : (tags payloads : List ℕ) (index : ℕ)
+      → Slice64 payloads → flatValue (constantOf tags payloads index) ≡ lentConstantAt tags payloads index
+  pub names : (names : List ℕ) (index : ℕ)
+      → Slice64 names → flatName (nameOf names index) ≡ lentNameAt names index
   -- of every place of every lifted record
   pub operands :
       (words tags payloads names : List ℕ) (pc k : ℕ)
       → Slice64 payloads
       → Slice64 names
-      → OperandKept words tags payloads names pc (flatOperand (operandIn (liftOf words tags payloads names pc .operands .slots) k))
+      → OperandKept words tags payloads names pc
+      (flatOperand (operandIn (liftOf words tags payloads names pc .operands .slots) k))
   pub reads :
       (words tags payloads names : List ℕ) (pc k : ℕ)
       → Slice64 names

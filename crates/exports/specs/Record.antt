@@ -1,5 +1,6 @@
--- A record as 53 numbers, part by part, and the records of a whole function one after another: include/RECORD.md has the tables. A kind is
--- the place of the case in ir.rs or model.rs, an absent value is 0, and so is every number that a kind does not use.
+-- A record as 53 numbers, part by part, and the records of a whole function one after another:
+-- include/RECORD.md has the tables. A kind is the place of the case in ir.rs or model.rs, an absent value is
+-- 0, and so is every number that a kind does not use.
 -- Assumes nothing.
 use Prim.Native.Nat.{ℕ, zero, suc, _+_, _*_, _/_, _^_, _<_}
 use mathlib.Core.Path.{_≡_}
@@ -24,7 +25,12 @@ use Rattle.values.specs.declared.ir.EffectTarget.the-variants as target
 use Rattle.values.specs.declared.ir.CompanionRole.{CompanionRole}
 use Rattle.values.specs.declared.ir.CompanionRole.the-variants as role
 use Rattle.values.specs.declared.ir.ImplicitEffect.{ImplicitEffect}
-use Rattle.values.specs.declared.ir.ImplicitEffect.the-variants.{NoEffect, CloseUpvalues, ConditionalSkip, CompanionPair}
+use Rattle.values.specs.declared.ir.ImplicitEffect.the-variants.{
+  NoEffect,
+  CloseUpvalues,
+  ConditionalSkip,
+  CompanionPair,
+}
 use Rattle.values.specs.declared.ir.Fallback.{Fallback}
 use Rattle.values.specs.declared.ir.Fallback.the-variants as fallback
 use Rattle.values.specs.declared.ir.OptionalPc.{OptionalPc}
@@ -135,10 +141,12 @@ pairNumbers p = p .kind ∷ p .value ∷ []
 -- place k of a record's list, which has 4, 3 or 2 of them; past its end there would be register 0
 
 abbrev pub operandNumbers : List OperandSlot → ℕ → List ℕ
-operandNumbers slots k = slotNumbers (flatOperand (getD slots k (record { operand = operand.Register 0 }) .operand))
+operandNumbers slots k =
+    slotNumbers (flatOperand (getD slots k (record { operand = operand.Register 0 }) .operand))
 
 abbrev pub targetNumbers : List TargetSlot → ℕ → List ℕ
-targetNumbers slots k = slotNumbers (flatTarget (getD slots k (record { target = target.Register 0 }) .target))
+targetNumbers slots k =
+    slotNumbers (flatTarget (getD slots k (record { target = target.Register 0 }) .target))
 
 -- 0 to 13
 unfoldable pub headNumbers : SemanticInstruction → List ℕ
@@ -160,14 +168,17 @@ operandsNumbers operands =
 
 -- 31 to 43
 unfoldable pub readsNumbers : Reads → List ℕ
-readsNumbers reads = (reads .count ∷ []) ++ targetNumbers (reads .slots) 0 ++ targetNumbers (reads .slots) 1 ++ targetNumbers (reads .slots) 2
+readsNumbers reads = (reads .count ∷ []) ++ targetNumbers (reads .slots) 0 ++ targetNumbers (reads .slots) 1
+    ++ targetNumbers (reads .slots) 2
 
 -- 44 to 52
 unfoldable pub writesNumbers : Writes → List ℕ
-writesNumbers writes = (writes .count ∷ []) ++ targetNumbers (writes .slots) 0 ++ targetNumbers (writes .slots) 1
+writesNumbers writes =
+    (writes .count ∷ []) ++ targetNumbers (writes .slots) 0 ++ targetNumbers (writes .slots) 1
 
 unfoldable pub numbersOf : SemanticInstruction → List ℕ
-numbersOf i = headNumbers i ++ operandsNumbers (i .operands) ++ readsNumbers (i .reads) ++ writesNumbers (i .writes)
+numbersOf i =
+    headNumbers i ++ operandsNumbers (i .operands) ++ readsNumbers (i .reads) ++ writesNumbers (i .writes)
 
 -- the records of the first n words, one after another
 unfoldable pub recordsNumbers : List ℕ → List ℕ → List ℕ → List ℕ → ℕ → List ℕ
@@ -184,7 +195,8 @@ recordLength = 53
 abbrev pub roomIn : List ℕ → ℕ
 roomIn numbers = length numbers / recordLength
 
--- "Records, too, go into the caller's own list of records": the records of as many words as the plan says, all or none, then what was there
+-- "Records, too, go into the caller's own list of records": the records of as many words as the plan says,
+-- all or none, then what was there
 abbrev pub numbersAfter : List ℕ → List ℕ → List ℕ → List ℕ → ℕ → List ℕ → List ℕ
 numbersAfter words tags payloads names bytes numbers =
     let n = planOf (length words) tags payloads names bytes (roomIn numbers) .count in
@@ -199,10 +211,12 @@ pub record RecordWise (words tags payloads names : List ℕ) (bytes : ℕ) (numb
       answerOf (length words) tags payloads names bytes (roomIn numbers) .number ≡ «ACCEPTED»
       → (i : ℕ)
       → i < length words
-      → take recordLength (drop (recordLength * i) (numbersAfter words tags payloads names bytes numbers)) ≡ numbersOf (liftOf words tags payloads names i)
+      → take recordLength (drop (recordLength * i) (numbersAfter words tags payloads names bytes numbers))
+      ≡ numbersOf (liftOf words tags payloads names i)
   -- accepted or not: "Elements past n are untouched, records too"
   pub untouched :
-      drop (recordLength * length words) (numbersAfter words tags payloads names bytes numbers) ≡ drop (recordLength * length words) numbers
+      drop (recordLength * length words) (numbersAfter words tags payloads names bytes numbers)
+      ≡ drop (recordLength * length words) numbers
   -- refused: "Nothing lent is altered"
   pub refused :
       eqb (answerOf (length words) tags payloads names bytes (roomIn numbers) .number) «ACCEPTED» ≡ false

@@ -1,4 +1,5 @@
-// The C interface beside the meter's: answers as structs of numbers, since an exported function may give no enum.
+// The C interface beside the meter's: answers as structs of numbers, since an exported
+// function may give no enum.
 ghost use mathlib.Core.Path.{_≡_};
 ghost use lib.ListN.{length};
 ghost use Rattle.runs.specs.Script.{lua54};
@@ -30,9 +31,12 @@ pub extern "C" fn lawendeb_longest_run_3(
     marks: &mut [u8],
     lengths: &mut [u32],
 ) -> FlatRun
-    ensures { λ r. ⌜ r ≡ flatRun (runOf (lua54 (now (words .entry))) (now (weights .entry)) (length (now (marks .entry))) (length (now (lengths .entry)))) ⌝ }
-    ensures { λ _. ⌜ now (marks .exit) ≡ marksAfter (lua54 (now (words .entry))) (now (weights .entry)) (now (marks .entry)) (now (lengths .entry)) ⌝ }
-    ensures { λ _. ⌜ now (lengths .exit) ≡ lengthsAfter (lua54 (now (words .entry))) (now (weights .entry)) (now (marks .entry)) (now (lengths .entry)) ⌝ }
+    ensures { λ r. ⌜ r ≡ flatRun (runOf (lua54 (now (words .entry))) (now (weights .entry))
+        (length (now (marks .entry))) (length (now (lengths .entry)))) ⌝ }
+    ensures { λ _. ⌜ now (marks .exit) ≡ marksAfter (lua54 (now (words .entry))) (now (weights .entry))
+        (now (marks .entry)) (now (lengths .entry)) ⌝ }
+    ensures { λ _. ⌜ now (lengths .exit) ≡ lengthsAfter (lua54 (now (words .entry))) (now (weights .entry))
+        (now (marks .entry)) (now (lengths .entry)) ⌝ }
 {
     flat_run(runs::longest_run(Version::Lua54, words, weights, marks, lengths))
 }

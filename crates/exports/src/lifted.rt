@@ -5,8 +5,23 @@ ghost use Prim.Native.Nat.{_+_, _*_, _<_, _≤_};
 ghost use lib.ListN.{length};
 ghost use Rattle.common.specs.Lists.{put};
 ghost use Rattle.records.specs.Laws.{Recorded};
-ghost use Rattle.exports.specs.Record.{flatOperand, flatTarget, slotNumbers, pairNumbers, headNumbers, operandsNumbers};
-ghost use Rattle.exports.specs.Record.{readsNumbers, writesNumbers, numbersOf, recordsNumbers, recordLength, numbersAfter, liftAnswer};
+ghost use Rattle.exports.specs.Record.{
+  flatOperand,
+  flatTarget,
+  slotNumbers,
+  pairNumbers,
+  headNumbers,
+  operandsNumbers,
+};
+ghost use Rattle.exports.specs.Record.{
+  readsNumbers,
+  writesNumbers,
+  numbersOf,
+  recordsNumbers,
+  recordLength,
+  numbersAfter,
+  liftAnswer,
+};
 use crate::parts::*;
 use records::lift::record_or_blank;
 use records::refusals::planned;
@@ -55,7 +70,8 @@ fn put_pair(numbers: &mut [u64], at: usize, pair: FlatPair)
 
 fn put_operand(numbers: &mut [u64], at: usize, s: OperandSlot)
     requires { ⌜ at + 4 ≤ length (now numbers) ⌝ }
-    ensures { λ _. ⌜ now (numbers .exit) ≡ put (now (numbers .entry)) at (slotNumbers (flatOperand (s .operand))) ⌝ }
+    ensures { λ _. ⌜ now (numbers .exit)
+        ≡ put (now (numbers .entry)) at (slotNumbers (flatOperand (s .operand))) ⌝ }
 {
     let operand = s.operand;
     put_slot(numbers, at, flat_operand(operand));
@@ -63,7 +79,8 @@ fn put_operand(numbers: &mut [u64], at: usize, s: OperandSlot)
 
 fn put_target(numbers: &mut [u64], at: usize, s: TargetSlot)
     requires { ⌜ at + 4 ≤ length (now numbers) ⌝ }
-    ensures { λ _. ⌜ now (numbers .exit) ≡ put (now (numbers .entry)) at (slotNumbers (flatTarget (s .target))) ⌝ }
+    ensures { λ _. ⌜ now (numbers .exit)
+        ≡ put (now (numbers .entry)) at (slotNumbers (flatTarget (s .target))) ⌝ }
 {
     let target = s.target;
     put_slot(numbers, at, flat_target(target));
@@ -156,8 +173,10 @@ fn put_records<'a, 'b>(
     n: usize,
     numbers: &'b mut [u64],
 )
-    requires { ⌜ (recordLength * n ≤ length (now numbers)) × Recorded (now words) (now tags) (now payloads) (now names) n ⌝ }
-    ensures { λ _. ⌜ now (numbers .exit) ≡ put (now (numbers .entry)) 0 (recordsNumbers (now (words .entry)) (now (tags .entry)) (now (payloads .entry)) (now (names .entry)) n) ⌝ }
+    requires { ⌜ (recordLength * n ≤ length (now numbers))
+        × Recorded (now words) (now tags) (now payloads) (now names) n ⌝ }
+    ensures { λ _. ⌜ now (numbers .exit) ≡ put (now (numbers .entry)) 0 (recordsNumbers (now (words .entry))
+        (now (tags .entry)) (now (payloads .entry)) (now (names .entry)) n) ⌝ }
 {
     let mut i: usize = 0;
     while i < n {
@@ -170,7 +189,8 @@ fn put_records<'a, 'b>(
     }
 }
 
-// Lifts a whole function. All decisions are the plan's: a refusal is a loop of no turns, so that nothing is written.
+// Lifts a whole function. All decisions are the plan's: a refusal is a loop of no turns,
+// so that nothing is written.
 #[no_mangle]
 pub extern "C" fn lawendeb_lift<'a, 'b>(
     words: &'a [u32],
@@ -180,8 +200,10 @@ pub extern "C" fn lawendeb_lift<'a, 'b>(
     bytes: &'a [u8],
     numbers: &'b mut [u64],
 ) -> FlatAnswer
-    ensures { λ r. ⌜ r ≡ liftAnswer (now (words .entry)) (now (tags .entry)) (now (payloads .entry)) (now (names .entry)) (length (now (bytes .entry))) (now (numbers .entry)) ⌝ }
-    ensures { λ _. ⌜ now (numbers .exit) ≡ numbersAfter (now (words .entry)) (now (tags .entry)) (now (payloads .entry)) (now (names .entry)) (length (now (bytes .entry))) (now (numbers .entry)) ⌝ }
+    ensures { λ r. ⌜ r ≡ liftAnswer (now (words .entry)) (now (tags .entry)) (now (payloads .entry))
+        (now (names .entry)) (length (now (bytes .entry))) (now (numbers .entry)) ⌝ }
+    ensures { λ _. ⌜ now (numbers .exit) ≡ numbersAfter (now (words .entry)) (now (tags .entry))
+        (now (payloads .entry)) (now (names .entry)) (length (now (bytes .entry))) (now (numbers .entry)) ⌝ }
 {
     let plan = planned(
         words,

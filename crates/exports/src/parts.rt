@@ -1,6 +1,17 @@
 // The parts of a record as numbers: one function for each enum of model.rs and ir.rs.
 ghost use mathlib.Core.Path.{_≡_};
-ghost use Rattle.exports.specs.Record.{slot, flatName, flatValue, flatOperand, flatTarget, flatRole, flatEffect, flatFallback, flatPc, flatConfidence};
+ghost use Rattle.exports.specs.Record.{
+  slot,
+  flatName,
+  flatValue,
+  flatOperand,
+  flatTarget,
+  flatRole,
+  flatEffect,
+  flatFallback,
+  flatPc,
+  flatConfidence,
+};
 use crate::numbers::*;
 use values::ir::*;
 use values::model::ConstantValue;

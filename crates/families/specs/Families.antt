@@ -1,6 +1,8 @@
--- Document 01, "Records": one definition for each arm of lifter.rs, in its order, or one for several arms that push the same.
--- A refinement of the original: what stands here is the Rust's behaviour, and not Lua's. `raw` is the decoded word, as there. What an
--- arm works out from pc comes as an argument: where a skip or a jump leads, and the index that LOADKX takes.
+-- Document 01, "Records": one definition for each arm of lifter.rs, in its order, or one for
+-- several arms that push the same.
+-- A refinement of the original: what stands here is the Rust's behaviour, and not Lua's. `raw` is the decoded
+-- word, as there. What an arm works out from pc comes as an argument: where a skip or a jump leads, and
+-- the index that LOADKX takes.
 -- Assumes nothing.
 use Prim.Native.Nat.{ℕ, _+_, _-_}
 use mathlib.Core.Bool.{false, not}
@@ -12,17 +14,34 @@ use Rattle.values.specs.declared.ir.TypedOperand.{TypedOperand}
 use Rattle.values.specs.declared.ir.TypedOperand.the-variants as O
 use Rattle.values.specs.declared.ir.EffectTarget.the-variants as E
 use Rattle.values.specs.declared.ir.ImplicitEffect.{ImplicitEffect}
-use Rattle.values.specs.declared.ir.ImplicitEffect.the-variants.{NoEffect, CloseUpvalues, ConditionalSkip, CompanionPair}
+use Rattle.values.specs.declared.ir.ImplicitEffect.the-variants.{
+  NoEffect,
+  CloseUpvalues,
+  ConditionalSkip,
+  CompanionPair,
+}
 use Rattle.values.specs.declared.ir.CompanionRole.the-variants as role
 use Rattle.values.specs.declared.ir.OptionalPc.the-variants.{NoPc, Pc}
 use Rattle.families.specs.declared.builders.Body.{Body}
 use Rattle.families.specs.Shapes.{body, plain}
-use Rattle.families.specs.Parts.{plus, eventOf, constant, upvalue, upvalueTarget, rk, rkTarget, countLess, arguments, results}
+use Rattle.families.specs.Parts.{
+  plus,
+  eventOf,
+  constant,
+  upvalue,
+  upvalueTarget,
+  rk,
+  rkTarget,
+  countLess,
+  arguments,
+  results,
+}
 
 -- Move, Unm, Bnot, Not, Len
 abbrev pub unary : RawInstruction54 → Body
 unary raw =
-    plain (O.Register (raw .a) ∷ O.Register (raw .b) ∷ []) (E.Register (raw .b) ∷ []) (E.Register (raw .a) ∷ [])
+    plain (O.Register (raw .a) ∷ O.Register (raw .b) ∷ []) (E.Register (raw .b) ∷ [])
+    (E.Register (raw .a) ∷ [])
 
 -- Loadi, Loadf, Loadfalse, Lfalseskip, Loadtrue
 abbrev pub load : RawInstruction54 → TypedOperand → ImplicitEffect → Body
@@ -31,7 +50,8 @@ load raw value effect = body (O.Register (raw .a) ∷ value ∷ []) [] (E.Regist
 -- Loadk, Loadkx
 abbrev pub loadConstant : List ℕ → List ℕ → RawInstruction54 → ℕ → ImplicitEffect → Body
 loadConstant tags payloads raw index effect =
-    body (O.Register (raw .a) ∷ constant tags payloads index ∷ []) (E.Constant index ∷ []) (E.Register (raw .a) ∷ []) effect NoPc
+    body (O.Register (raw .a) ∷ constant tags payloads index ∷ []) (E.Constant index ∷ [])
+    (E.Register (raw .a) ∷ []) effect NoPc
 
 -- Loadnil
 abbrev pub loadnil : RawInstruction54 → Body
@@ -66,7 +86,8 @@ threeRegisters raw =
 -- Geti by C, and Addi, Shri, Shli by sC
 abbrev pub withImmediate : RawInstruction54 → TypedOperand → Body
 withImmediate raw value =
-    plain (O.Register (raw .a) ∷ O.Register (raw .b) ∷ value ∷ []) (E.Register (raw .b) ∷ []) (E.Register (raw .a) ∷ [])
+    plain (O.Register (raw .a) ∷ O.Register (raw .b) ∷ value ∷ []) (E.Register (raw .b) ∷ [])
+    (E.Register (raw .a) ∷ [])
 
 -- Getfield, and Addk to Bxork
 abbrev pub withConstant : List ℕ → List ℕ → RawInstruction54 → Body
@@ -101,7 +122,8 @@ setfield tags payloads raw =
 -- Newtable: B stands first, as the array's size, and C as the hash part's
 abbrev pub newtable : RawInstruction54 → Body
 newtable raw =
-    plain (O.Register (raw .a) ∷ O.Count (raw .b) false ∷ O.Count (raw .c) false ∷ []) [] (E.Register (raw .a) ∷ [])
+    plain (O.Register (raw .a) ∷ O.Count (raw .b) false ∷ O.Count (raw .c) false ∷ []) []
+    (E.Register (raw .a) ∷ [])
 
 -- SelfOp
 abbrev pub selfOp : List ℕ → List ℕ → RawInstruction54 → Body
@@ -121,13 +143,15 @@ mmbin pc raw = body [] [] [] (pairEffect pc raw) NoPc
 -- Mmbini
 abbrev pub mmbini : ℕ → RawInstruction54 → Body
 mmbini pc raw =
-    body (O.Register (raw .a) ∷ O.ImmediateInt (raw .sb) ∷ O.ExtraArg (raw .c) ∷ O.Flag (not (eqb (raw .k) 0)) ∷ []) [] []
+    body (O.Register (raw .a) ∷ O.ImmediateInt (raw .sb) ∷ O.ExtraArg (raw .c)
+    ∷ O.Flag (not (eqb (raw .k) 0)) ∷ []) [] []
     (pairEffect pc raw) NoPc
 
 -- Concat
 abbrev pub concat : RawInstruction54 → Body
 concat raw =
-    plain (O.Register (raw .a) ∷ O.Count (raw .b) false ∷ []) (E.RegisterRange (raw .a) (plus (raw .a) (raw .b) - 1) ∷ [])
+    plain (O.Register (raw .a) ∷ O.Count (raw .b) false ∷ [])
+    (E.RegisterRange (raw .a) (plus (raw .a) (raw .b) - 1) ∷ [])
     (E.Register (raw .a) ∷ [])
 
 -- Close
@@ -145,7 +169,8 @@ jmp raw dest = body (O.Jump (raw .sj) dest ∷ []) (E.JumpTarget dest ∷ []) []
 -- Eqi, Lti, Lei, Gti, Gei
 abbrev pub testImmediate : RawInstruction54 → ℕ → Body
 testImmediate raw skip =
-    body (O.Register (raw .a) ∷ O.ImmediateInt (raw .sb) ∷ O.Flag (not (eqb (raw .k) 0)) ∷ []) (E.Register (raw .a) ∷ []) []
+    body (O.Register (raw .a) ∷ O.ImmediateInt (raw .sb) ∷ O.Flag (not (eqb (raw .k) 0)) ∷ [])
+    (E.Register (raw .a) ∷ []) []
     (ConditionalSkip skip) NoPc
 
 -- Eq, Lt, Le, Eqk, Test, Testset with a skip; Return0 and unknown opcodes with nothing
@@ -155,7 +180,8 @@ bare effect = body [] [] [] effect NoPc
 -- Call
 abbrev pub call : RawInstruction54 → Body
 call raw =
-    plain (O.Register (raw .a) ∷ countLess (raw .b) ∷ countLess (raw .c) ∷ []) (E.Register (raw .a) ∷ arguments (raw .a) (raw .b))
+    plain (O.Register (raw .a) ∷ countLess (raw .b) ∷ countLess (raw .c) ∷ [])
+    (E.Register (raw .a) ∷ arguments (raw .a) (raw .b))
     (results (raw .a) (raw .c))
 
 -- Tailcall
@@ -177,17 +203,20 @@ loopJump raw offset dest = body (O.Register (raw .a) ∷ O.Jump offset dest ∷ 
 -- Tforcall
 abbrev pub tforcall : RawInstruction54 → Body
 tforcall raw =
-    plain (O.Register (raw .a) ∷ O.ImmediateInt (pos (raw .c)) ∷ []) (E.RegisterRange (raw .a) (plus (raw .a) 2) ∷ [])
+    plain (O.Register (raw .a) ∷ O.ImmediateInt (pos (raw .c)) ∷ [])
+    (E.RegisterRange (raw .a) (plus (raw .a) 2) ∷ [])
     (E.RegisterRange (plus (raw .a) 3) (plus (plus (raw .a) 2) (raw .c)) ∷ [])
 
 -- Setlist
 abbrev pub setlist : RawInstruction54 → Body
-setlist raw = plain (O.Register (raw .a) ∷ O.Count (raw .b) (eqb (raw .b) 0) ∷ []) (E.Register (raw .a) ∷ []) []
+setlist raw =
+    plain (O.Register (raw .a) ∷ O.Count (raw .b) (eqb (raw .b) 0) ∷ []) (E.Register (raw .a) ∷ []) []
 
 -- Closure
 abbrev pub closure : RawInstruction54 → Body
 closure raw =
-    plain (O.Register (raw .a) ∷ O.Prototype (raw .bx) ∷ []) (E.Prototype (raw .bx) ∷ []) (E.Register (raw .a) ∷ [])
+    plain (O.Register (raw .a) ∷ O.Prototype (raw .bx) ∷ []) (E.Prototype (raw .bx) ∷ [])
+    (E.Register (raw .a) ∷ [])
 
 -- Vararg
 abbrev pub vararg : RawInstruction54 → Body

@@ -1,5 +1,5 @@
--- What several arms of lifter.rs share: sums of registers, the event map, and operands and effects that ask the tables.
--- A refinement of the original. Assumes nothing.
+-- What several arms of lifter.rs share: sums of registers, the event map, and operands and effects that ask
+-- the tables. A refinement of the original. Assumes nothing.
 use Prim.Native.Nat.{ℕ, _+_, _-_}
 use mathlib.Core.List.{List, [], _∷_}
 use lib.Dec.{eqb, leb}
@@ -11,8 +11,8 @@ use Rattle.values.specs.declared.ir.EffectTarget.the-variants as E
 use Rattle.common.specs.Chain.{choose}
 use Rattle.values.specs.Values.{constantOf, nameOf}
 
--- "Register sums saturate at 255, and below at 0, one addition or subtraction at a time": a sum stops at 255; a difference is that
--- of ℕ, which stops at 0
+-- "Register sums saturate at 255, and below at 0, one addition or subtraction at a time":
+-- a sum stops at 255; a difference is that of ℕ, which stops at 0
 unfoldable pub plus : ℕ → ℕ → ℕ
 plus a b = choose (leb (a + b) 255) (a + b) 255
 

@@ -1,5 +1,5 @@
--- Document 01, "Records": "operands (at most 4), reads (3), writes (2)", and "Operand, read and write places past the count hold
--- register 0". The lists stand in the order in which lifter.rs pushes them.
+-- Document 01, "Records": "operands (at most 4), reads (3), writes (2)", and "Operand, read and write places
+-- past the count hold register 0". The lists stand in the order in which lifter.rs pushes them.
 -- Assumes nothing.
 use Prim.Native.Nat.{ℕ, zero, suc}
 use mathlib.Core.List.{List, [], _∷_}
@@ -40,7 +40,8 @@ unfoldable pub writesOf : List EffectTarget → Writes
 writesOf xs = record { slots = targetSlots 2 xs; count = length xs }
 
 -- what an arm of lifter.rs says: operands, reads, writes, implicit effect and jump target
-abbrev pub body : List TypedOperand → List EffectTarget → List EffectTarget → ImplicitEffect → OptionalPc → Body
+abbrev pub body : List TypedOperand → List EffectTarget → List EffectTarget
+    → ImplicitEffect → OptionalPc → Body
 body operands reads writes effect jump =
     record {
       operands = operandsOf operands;

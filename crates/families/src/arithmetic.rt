@@ -1,4 +1,5 @@
-// Arms of lifter.rs: Mmbin, Mmbini, Mmbink and Concat. The other arithmetic pushes what Gettable, Geti and Getfield do.
+// Arms of lifter.rs: Mmbin, Mmbini, Mmbink and Concat. The other arithmetic pushes what
+// Gettable, Geti and Getfield do.
 ghost use mathlib.Core.Path.{_≡_};
 ghost use Rattle.families.specs.Families as F;
 use crate::builders::*;

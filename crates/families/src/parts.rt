@@ -1,11 +1,23 @@
-// What several arms of lifter.rs share: sums of registers, the event map, and operands and effects that ask the tables.
+// What several arms of lifter.rs share: sums of registers, the event map, and operands and
+// effects that ask the tables.
 ghost use mathlib.Core.Path.{_≡_};
 ghost use mathlib.Core.List.{_∷_};
 ghost use Prim.Native.Nat.{_-_};
 ghost use lib.IntN.{pos};
 ghost use lib.Ieee.{binary64, ofInt};
 ghost use Rattle.families.specs.Shapes.{readsOf, writesOf};
-ghost use Rattle.families.specs.Parts.{plus, eventOf, constant, upvalue, upvalueTarget, rk, rkTarget, countLess, arguments, results};
+ghost use Rattle.families.specs.Parts.{
+  plus,
+  eventOf,
+  constant,
+  upvalue,
+  upvalueTarget,
+  rk,
+  rkTarget,
+  countLess,
+  arguments,
+  results,
+};
 use crate::builders::*;
 use fields::events::*;
 use values::ir::EffectTarget;
@@ -15,7 +27,8 @@ use values::ir::Writes;
 use values::lookup::constant_at;
 use values::lookup::upvalue_name;
 
-// Events of ltm.h that the opcode table has no need of; `__metamethod` is the name that lifter.rs has for every other event.
+// Events of ltm.h that the opcode table has no need of; `__metamethod` is the name that lifter.rs
+// has for every other event.
 
 const TM_EQ: u8 = 5;
 

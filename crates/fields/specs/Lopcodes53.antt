@@ -1,5 +1,6 @@
--- The fields of a word as lopcodes.h of Lua 5.3.6 takes them, in the header's own shape. C's operators, MASK1 and getarg are as in 5.4.8
--- (specs/Lopcodes.antt); sizes and positions are not. `Agreement` says that they are those of specs/Word53.antt.
+-- The fields of a word as lopcodes.h of Lua 5.3.6 takes them, in the header's own shape. C's operators, MASK1
+-- and getarg are as in 5.4.8 (specs/Lopcodes.antt); sizes and positions are not. `Agreement` says that they
+-- are those of specs/Word53.antt.
 -- Assumes nothing.
 use Prim.Native.Nat.{ℕ, _+_, _-_}
 use mathlib.Core.Path.{_≡_}

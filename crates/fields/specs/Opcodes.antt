@@ -1,4 +1,5 @@
--- The 83 opcodes, named and numbered as lopcodes.h of Lua 5.4.8 has them. Opcodes 0 to 82 are known, 83 to 127 not.
+-- The 83 opcodes, named and numbered as lopcodes.h of Lua 5.4.8 has them. Opcodes 0 to 82
+-- are known, 83 to 127 not.
 -- Assumes nothing.
 use Prim.Native.Nat.{ℕ, zero, suc}
 use mathlib.Core.Path.{_≡_}

@@ -1,11 +1,29 @@
--- luaP_opmodes of lopcodes.c, Lua 5.4.8, row for row, in the C's own shape. `Agreement` holds the opcode table's modes, and two of its
--- companions, against it.
+-- luaP_opmodes of lopcodes.c, Lua 5.4.8, row for row, in the C's own shape. `Agreement` holds the opcode
+-- table's modes, and two of its companions, against it.
 -- Assumes nothing.
 use Prim.Native.Nat.{ℕ}
 use mathlib.Core.Path.{_≡_}
 use mathlib.Core.List.{List, [], _∷_, map}
-use Rattle.fields.specs.Opcodes.{«OP_MOVE», «OP_LOADI», «OP_LOADF», «OP_LOADK», «OP_LOADKX», «OP_LOADFALSE», «OP_LFALSESKIP», «OP_LOADTRUE», «OP_LOADNIL», «OP_GETUPVAL», «OP_SETUPVAL», «OP_GETTABUP», «OP_GETTABLE», «OP_GETI», «OP_GETFIELD», «OP_SETTABUP», «OP_SETTABLE», «OP_SETI», «OP_SETFIELD», «OP_NEWTABLE», «OP_SELF», «OP_ADDI», «OP_ADDK», «OP_SUBK», «OP_MULK», «OP_MODK», «OP_POWK», «OP_DIVK», «OP_IDIVK», «OP_BANDK», «OP_BORK», «OP_BXORK», «OP_SHRI», «OP_SHLI», «OP_ADD», «OP_SUB», «OP_MUL», «OP_MOD», «OP_POW», «OP_DIV», «OP_IDIV», «OP_BAND», «OP_BOR», «OP_BXOR», «OP_SHL», «OP_SHR», «OP_MMBIN», «OP_MMBINI», «OP_MMBINK», «OP_UNM», «OP_BNOT», «OP_NOT», «OP_LEN», «OP_CONCAT», «OP_CLOSE», «OP_TBC», «OP_JMP», «OP_EQ», «OP_LT», «OP_LE», «OP_EQK», «OP_EQI», «OP_LTI», «OP_LEI», «OP_GTI», «OP_GEI», «OP_TEST», «OP_TESTSET», «OP_CALL», «OP_TAILCALL», «OP_RETURN», «OP_RETURN0», «OP_RETURN1», «OP_FORLOOP», «OP_FORPREP», «OP_TFORPREP», «OP_TFORCALL», «OP_TFORLOOP», «OP_SETLIST», «OP_CLOSURE», «OP_VARARG», «OP_VARARGPREP», «OP_EXTRAARG», «OpCode»}
-use Rattle.fields.specs.Table.{OpMode54, iABC, iABx, iAsBx, iAx, isJ, modeOf, Companion, alone, metamethodAfter, arithmeticBefore, jumpAfter, extraAfter, extraAfterIfK, callAtTarget, loopAfter, companionOf}
+use Rattle.fields.specs.Opcodes as op
+use Rattle.fields.specs.Table.{
+  OpMode54,
+  iABC,
+  iABx,
+  iAsBx,
+  iAx,
+  isJ,
+  modeOf,
+  Companion,
+  alone,
+  metamethodAfter,
+  arithmeticBefore,
+  jumpAfter,
+  extraAfter,
+  extraAfterIfK,
+  callAtTarget,
+  loopAfter,
+  companionOf,
+}
 
 -- opmode(mm, ot, it, t, a, m), and the opcode that the comment beside it names
 pub data Opmode : Type 0 where
@@ -14,89 +32,89 @@ pub data Opmode : Type 0 where
 --     MM OT IT T A mode opcode
 abbrev pub «luaP_opmodes» : List Opmode
 «luaP_opmodes» =
-    opmode 0 0 0 0 1 iABC «OP_MOVE»
-    ∷ opmode 0 0 0 0 1 iAsBx «OP_LOADI»
-    ∷ opmode 0 0 0 0 1 iAsBx «OP_LOADF»
-    ∷ opmode 0 0 0 0 1 iABx «OP_LOADK»
-    ∷ opmode 0 0 0 0 1 iABx «OP_LOADKX»
-    ∷ opmode 0 0 0 0 1 iABC «OP_LOADFALSE»
-    ∷ opmode 0 0 0 0 1 iABC «OP_LFALSESKIP»
-    ∷ opmode 0 0 0 0 1 iABC «OP_LOADTRUE»
-    ∷ opmode 0 0 0 0 1 iABC «OP_LOADNIL»
-    ∷ opmode 0 0 0 0 1 iABC «OP_GETUPVAL»
-    ∷ opmode 0 0 0 0 0 iABC «OP_SETUPVAL»
-    ∷ opmode 0 0 0 0 1 iABC «OP_GETTABUP»
-    ∷ opmode 0 0 0 0 1 iABC «OP_GETTABLE»
-    ∷ opmode 0 0 0 0 1 iABC «OP_GETI»
-    ∷ opmode 0 0 0 0 1 iABC «OP_GETFIELD»
-    ∷ opmode 0 0 0 0 0 iABC «OP_SETTABUP»
-    ∷ opmode 0 0 0 0 0 iABC «OP_SETTABLE»
-    ∷ opmode 0 0 0 0 0 iABC «OP_SETI»
-    ∷ opmode 0 0 0 0 0 iABC «OP_SETFIELD»
-    ∷ opmode 0 0 0 0 1 iABC «OP_NEWTABLE»
-    ∷ opmode 0 0 0 0 1 iABC «OP_SELF»
-    ∷ opmode 0 0 0 0 1 iABC «OP_ADDI»
-    ∷ opmode 0 0 0 0 1 iABC «OP_ADDK»
-    ∷ opmode 0 0 0 0 1 iABC «OP_SUBK»
-    ∷ opmode 0 0 0 0 1 iABC «OP_MULK»
-    ∷ opmode 0 0 0 0 1 iABC «OP_MODK»
-    ∷ opmode 0 0 0 0 1 iABC «OP_POWK»
-    ∷ opmode 0 0 0 0 1 iABC «OP_DIVK»
-    ∷ opmode 0 0 0 0 1 iABC «OP_IDIVK»
-    ∷ opmode 0 0 0 0 1 iABC «OP_BANDK»
-    ∷ opmode 0 0 0 0 1 iABC «OP_BORK»
-    ∷ opmode 0 0 0 0 1 iABC «OP_BXORK»
-    ∷ opmode 0 0 0 0 1 iABC «OP_SHRI»
-    ∷ opmode 0 0 0 0 1 iABC «OP_SHLI»
-    ∷ opmode 0 0 0 0 1 iABC «OP_ADD»
-    ∷ opmode 0 0 0 0 1 iABC «OP_SUB»
-    ∷ opmode 0 0 0 0 1 iABC «OP_MUL»
-    ∷ opmode 0 0 0 0 1 iABC «OP_MOD»
-    ∷ opmode 0 0 0 0 1 iABC «OP_POW»
-    ∷ opmode 0 0 0 0 1 iABC «OP_DIV»
-    ∷ opmode 0 0 0 0 1 iABC «OP_IDIV»
-    ∷ opmode 0 0 0 0 1 iABC «OP_BAND»
-    ∷ opmode 0 0 0 0 1 iABC «OP_BOR»
-    ∷ opmode 0 0 0 0 1 iABC «OP_BXOR»
-    ∷ opmode 0 0 0 0 1 iABC «OP_SHL»
-    ∷ opmode 0 0 0 0 1 iABC «OP_SHR»
-    ∷ opmode 1 0 0 0 0 iABC «OP_MMBIN»
-    ∷ opmode 1 0 0 0 0 iABC «OP_MMBINI»
-    ∷ opmode 1 0 0 0 0 iABC «OP_MMBINK»
-    ∷ opmode 0 0 0 0 1 iABC «OP_UNM»
-    ∷ opmode 0 0 0 0 1 iABC «OP_BNOT»
-    ∷ opmode 0 0 0 0 1 iABC «OP_NOT»
-    ∷ opmode 0 0 0 0 1 iABC «OP_LEN»
-    ∷ opmode 0 0 0 0 1 iABC «OP_CONCAT»
-    ∷ opmode 0 0 0 0 0 iABC «OP_CLOSE»
-    ∷ opmode 0 0 0 0 0 iABC «OP_TBC»
-    ∷ opmode 0 0 0 0 0 isJ «OP_JMP»
-    ∷ opmode 0 0 0 1 0 iABC «OP_EQ»
-    ∷ opmode 0 0 0 1 0 iABC «OP_LT»
-    ∷ opmode 0 0 0 1 0 iABC «OP_LE»
-    ∷ opmode 0 0 0 1 0 iABC «OP_EQK»
-    ∷ opmode 0 0 0 1 0 iABC «OP_EQI»
-    ∷ opmode 0 0 0 1 0 iABC «OP_LTI»
-    ∷ opmode 0 0 0 1 0 iABC «OP_LEI»
-    ∷ opmode 0 0 0 1 0 iABC «OP_GTI»
-    ∷ opmode 0 0 0 1 0 iABC «OP_GEI»
-    ∷ opmode 0 0 0 1 0 iABC «OP_TEST»
-    ∷ opmode 0 0 0 1 1 iABC «OP_TESTSET»
-    ∷ opmode 0 1 1 0 1 iABC «OP_CALL»
-    ∷ opmode 0 1 1 0 1 iABC «OP_TAILCALL»
-    ∷ opmode 0 0 1 0 0 iABC «OP_RETURN»
-    ∷ opmode 0 0 0 0 0 iABC «OP_RETURN0»
-    ∷ opmode 0 0 0 0 0 iABC «OP_RETURN1»
-    ∷ opmode 0 0 0 0 1 iABx «OP_FORLOOP»
-    ∷ opmode 0 0 0 0 1 iABx «OP_FORPREP»
-    ∷ opmode 0 0 0 0 0 iABx «OP_TFORPREP»
-    ∷ opmode 0 0 0 0 0 iABC «OP_TFORCALL»
-    ∷ opmode 0 0 0 0 1 iABx «OP_TFORLOOP»
-    ∷ opmode 0 0 1 0 0 iABC «OP_SETLIST»
-    ∷ opmode 0 0 0 0 1 iABx «OP_CLOSURE»
-    ∷ opmode 0 1 0 0 1 iABC «OP_VARARG»
-    ∷ opmode 0 0 1 0 1 iABC «OP_VARARGPREP»
-    ∷ opmode 0 0 0 0 0 iAx «OP_EXTRAARG»
+    opmode 0 0 0 0 1 iABC op.«OP_MOVE»
+    ∷ opmode 0 0 0 0 1 iAsBx op.«OP_LOADI»
+    ∷ opmode 0 0 0 0 1 iAsBx op.«OP_LOADF»
+    ∷ opmode 0 0 0 0 1 iABx op.«OP_LOADK»
+    ∷ opmode 0 0 0 0 1 iABx op.«OP_LOADKX»
+    ∷ opmode 0 0 0 0 1 iABC op.«OP_LOADFALSE»
+    ∷ opmode 0 0 0 0 1 iABC op.«OP_LFALSESKIP»
+    ∷ opmode 0 0 0 0 1 iABC op.«OP_LOADTRUE»
+    ∷ opmode 0 0 0 0 1 iABC op.«OP_LOADNIL»
+    ∷ opmode 0 0 0 0 1 iABC op.«OP_GETUPVAL»
+    ∷ opmode 0 0 0 0 0 iABC op.«OP_SETUPVAL»
+    ∷ opmode 0 0 0 0 1 iABC op.«OP_GETTABUP»
+    ∷ opmode 0 0 0 0 1 iABC op.«OP_GETTABLE»
+    ∷ opmode 0 0 0 0 1 iABC op.«OP_GETI»
+    ∷ opmode 0 0 0 0 1 iABC op.«OP_GETFIELD»
+    ∷ opmode 0 0 0 0 0 iABC op.«OP_SETTABUP»
+    ∷ opmode 0 0 0 0 0 iABC op.«OP_SETTABLE»
+    ∷ opmode 0 0 0 0 0 iABC op.«OP_SETI»
+    ∷ opmode 0 0 0 0 0 iABC op.«OP_SETFIELD»
+    ∷ opmode 0 0 0 0 1 iABC op.«OP_NEWTABLE»
+    ∷ opmode 0 0 0 0 1 iABC op.«OP_SELF»
+    ∷ opmode 0 0 0 0 1 iABC op.«OP_ADDI»
+    ∷ opmode 0 0 0 0 1 iABC op.«OP_ADDK»
+    ∷ opmode 0 0 0 0 1 iABC op.«OP_SUBK»
+    ∷ opmode 0 0 0 0 1 iABC op.«OP_MULK»
+    ∷ opmode 0 0 0 0 1 iABC op.«OP_MODK»
+    ∷ opmode 0 0 0 0 1 iABC op.«OP_POWK»
+    ∷ opmode 0 0 0 0 1 iABC op.«OP_DIVK»
+    ∷ opmode 0 0 0 0 1 iABC op.«OP_IDIVK»
+    ∷ opmode 0 0 0 0 1 iABC op.«OP_BANDK»
+    ∷ opmode 0 0 0 0 1 iABC op.«OP_BORK»
+    ∷ opmode 0 0 0 0 1 iABC op.«OP_BXORK»
+    ∷ opmode 0 0 0 0 1 iABC op.«OP_SHRI»
+    ∷ opmode 0 0 0 0 1 iABC op.«OP_SHLI»
+    ∷ opmode 0 0 0 0 1 iABC op.«OP_ADD»
+    ∷ opmode 0 0 0 0 1 iABC op.«OP_SUB»
+    ∷ opmode 0 0 0 0 1 iABC op.«OP_MUL»
+    ∷ opmode 0 0 0 0 1 iABC op.«OP_MOD»
+    ∷ opmode 0 0 0 0 1 iABC op.«OP_POW»
+    ∷ opmode 0 0 0 0 1 iABC op.«OP_DIV»
+    ∷ opmode 0 0 0 0 1 iABC op.«OP_IDIV»
+    ∷ opmode 0 0 0 0 1 iABC op.«OP_BAND»
+    ∷ opmode 0 0 0 0 1 iABC op.«OP_BOR»
+    ∷ opmode 0 0 0 0 1 iABC op.«OP_BXOR»
+    ∷ opmode 0 0 0 0 1 iABC op.«OP_SHL»
+    ∷ opmode 0 0 0 0 1 iABC op.«OP_SHR»
+    ∷ opmode 1 0 0 0 0 iABC op.«OP_MMBIN»
+    ∷ opmode 1 0 0 0 0 iABC op.«OP_MMBINI»
+    ∷ opmode 1 0 0 0 0 iABC op.«OP_MMBINK»
+    ∷ opmode 0 0 0 0 1 iABC op.«OP_UNM»
+    ∷ opmode 0 0 0 0 1 iABC op.«OP_BNOT»
+    ∷ opmode 0 0 0 0 1 iABC op.«OP_NOT»
+    ∷ opmode 0 0 0 0 1 iABC op.«OP_LEN»
+    ∷ opmode 0 0 0 0 1 iABC op.«OP_CONCAT»
+    ∷ opmode 0 0 0 0 0 iABC op.«OP_CLOSE»
+    ∷ opmode 0 0 0 0 0 iABC op.«OP_TBC»
+    ∷ opmode 0 0 0 0 0 isJ op.«OP_JMP»
+    ∷ opmode 0 0 0 1 0 iABC op.«OP_EQ»
+    ∷ opmode 0 0 0 1 0 iABC op.«OP_LT»
+    ∷ opmode 0 0 0 1 0 iABC op.«OP_LE»
+    ∷ opmode 0 0 0 1 0 iABC op.«OP_EQK»
+    ∷ opmode 0 0 0 1 0 iABC op.«OP_EQI»
+    ∷ opmode 0 0 0 1 0 iABC op.«OP_LTI»
+    ∷ opmode 0 0 0 1 0 iABC op.«OP_LEI»
+    ∷ opmode 0 0 0 1 0 iABC op.«OP_GTI»
+    ∷ opmode 0 0 0 1 0 iABC op.«OP_GEI»
+    ∷ opmode 0 0 0 1 0 iABC op.«OP_TEST»
+    ∷ opmode 0 0 0 1 1 iABC op.«OP_TESTSET»
+    ∷ opmode 0 1 1 0 1 iABC op.«OP_CALL»
+    ∷ opmode 0 1 1 0 1 iABC op.«OP_TAILCALL»
+    ∷ opmode 0 0 1 0 0 iABC op.«OP_RETURN»
+    ∷ opmode 0 0 0 0 0 iABC op.«OP_RETURN0»
+    ∷ opmode 0 0 0 0 0 iABC op.«OP_RETURN1»
+    ∷ opmode 0 0 0 0 1 iABx op.«OP_FORLOOP»
+    ∷ opmode 0 0 0 0 1 iABx op.«OP_FORPREP»
+    ∷ opmode 0 0 0 0 0 iABx op.«OP_TFORPREP»
+    ∷ opmode 0 0 0 0 0 iABC op.«OP_TFORCALL»
+    ∷ opmode 0 0 0 0 1 iABx op.«OP_TFORLOOP»
+    ∷ opmode 0 0 1 0 0 iABC op.«OP_SETLIST»
+    ∷ opmode 0 0 0 0 1 iABx op.«OP_CLOSURE»
+    ∷ opmode 0 1 0 0 1 iABC op.«OP_VARARG»
+    ∷ opmode 0 0 1 0 1 iABC op.«OP_VARARGPREP»
+    ∷ opmode 0 0 0 0 0 iAx op.«OP_EXTRAARG»
     ∷ []
 
 -- getOpMode
@@ -138,10 +156,10 @@ wantsArithmetic loopAfter = 0
 -- computed for all 83
 pub record Agreement : Type 0 where
   -- the rows name the opcodes in their order
-  pub names : map named «luaP_opmodes» ≡ «OpCode»
+  pub names : map named «luaP_opmodes» ≡ op.«OpCode»
   -- column 0 of the opcode table is the mode
-  pub modes : map getOpMode «luaP_opmodes» ≡ map modeOf «OpCode»
+  pub modes : map getOpMode «luaP_opmodes» ≡ map modeOf op.«OpCode»
   -- a test wants a JMP after it, and no other opcode does
-  pub tests : map testTMode «luaP_opmodes» ≡ map (λ o. wantsJump (companionOf o)) «OpCode»
+  pub tests : map testTMode «luaP_opmodes» ≡ map (λ o. wantsJump (companionOf o)) op.«OpCode»
   -- a metamethod word wants an arithmetic word before it, and no other opcode does
-  pub metamethods : map testMMMode «luaP_opmodes» ≡ map (λ o. wantsArithmetic (companionOf o)) «OpCode»
+  pub metamethods : map testMMMode «luaP_opmodes» ≡ map (λ o. wantsArithmetic (companionOf o)) op.«OpCode»

@@ -1,7 +1,15 @@
--- The step class, companion and fallback columns of the opcode table, packed: a byte for each opcode, eight opcodes to a number.
+-- The step class, companion and fallback columns of the opcode table, packed: a byte for each opcode,
+-- eight opcodes to a number.
 -- Assumes nothing.
 use Prim.Native.Nat.{ℕ, zero, suc, _+_, _*_, _/_, _%_, _^_}
-use Rattle.fields.specs.Table.{classNumber, classOf, companionNumber, companionOf, fallbackNumber, fallbackOf}
+use Rattle.fields.specs.Table.{
+  classNumber,
+  classOf,
+  companionNumber,
+  companionOf,
+  fallbackNumber,
+  fallbackOf,
+}
 
 -- the companion and the step class of an opcode in a byte
 abbrev pub companionAndClass : ℕ → ℕ

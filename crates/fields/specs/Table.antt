@@ -1,12 +1,22 @@
--- The opcode table: "for each of the 128 values one table of four columns gives the mode, the step class, the companion
--- wanted and the fallback rule". Each column is a list of rows, opcodes from the first to the last, and what all others have.
+-- The opcode table: "for each of the 128 values one table of four columns gives the mode, the step class, the
+-- companion wanted and the fallback rule". Each column is a list of rows, opcodes from the first to the last,
+-- and what all others have.
 -- Assumes nothing.
 use Prim.Native.Nat.{ℕ, zero, suc}
 use mathlib.Core.Bool.{cond}
 use mathlib.Core.List.{List, [], _∷_}
 use lib.Dec.{leb}
-use Rattle.fields.specs.Opcodes.{«OP_LOADI», «OP_LOADF», «OP_LOADK», «OP_LOADKX», «OP_LFALSESKIP», «OP_GETTABUP», «OP_GETFIELD», «OP_SETTABUP», «OP_SETFIELD», «OP_NEWTABLE», «OP_SELF», «OP_ADDI», «OP_SHR», «OP_MMBIN», «OP_MMBINK», «OP_UNM», «OP_BNOT», «OP_LEN», «OP_CONCAT», «OP_TBC», «OP_JMP», «OP_EQ», «OP_TESTSET», «OP_CALL», «OP_TAILCALL», «OP_RETURN1», «OP_FORLOOP», «OP_FORPREP», «OP_TFORPREP», «OP_TFORCALL», «OP_TFORLOOP», «OP_SETLIST», «OP_CLOSURE», «OP_EXTRAARG», «OP_UNKNOWN», «OP_LAST»}
-use Rattle.fields.specs.Events.{«TM_INDEX», «TM_NEWINDEX», «TM_LEN», «TM_UNM», «TM_BNOT», «TM_CONCAT», «TM_CALL», «TM_CLOSE»}
+use Rattle.fields.specs.Opcodes as op
+use Rattle.fields.specs.Events.{
+  «TM_INDEX»,
+  «TM_NEWINDEX»,
+  «TM_LEN»,
+  «TM_UNM»,
+  «TM_BNOT»,
+  «TM_CONCAT»,
+  «TM_CALL»,
+  «TM_CLOSE»,
+}
 
 -- the opcodes from the first to the last have what follows
 pub data Row (X : Type 0) : Type 0 where
@@ -38,14 +48,14 @@ modeNumber isJ = 5
 unfoldable pub modeOf : ℕ → OpMode54
 modeOf =
     lookup
-    (row «OP_LOADI» «OP_LOADF» iAsBx
-    ∷ row «OP_LOADK» «OP_LOADKX» iABx
-    ∷ row «OP_JMP» «OP_JMP» isJ
-    ∷ row «OP_FORLOOP» «OP_TFORPREP» iABx
-    ∷ row «OP_TFORLOOP» «OP_TFORLOOP» iABx
-    ∷ row «OP_CLOSURE» «OP_CLOSURE» iABx
-    ∷ row «OP_EXTRAARG» «OP_EXTRAARG» iAx
-    ∷ row «OP_UNKNOWN» «OP_LAST» noMode
+    (row op.«OP_LOADI» op.«OP_LOADF» iAsBx
+    ∷ row op.«OP_LOADK» op.«OP_LOADKX» iABx
+    ∷ row op.«OP_JMP» op.«OP_JMP» isJ
+    ∷ row op.«OP_FORLOOP» op.«OP_TFORPREP» iABx
+    ∷ row op.«OP_TFORLOOP» op.«OP_TFORLOOP» iABx
+    ∷ row op.«OP_CLOSURE» op.«OP_CLOSURE» iABx
+    ∷ row op.«OP_EXTRAARG» op.«OP_EXTRAARG» iAx
+    ∷ row op.«OP_UNKNOWN» op.«OP_LAST» noMode
     ∷ [])
     iABC
 
@@ -116,22 +126,22 @@ companionNumber loopAfter = 7
 -- Document 01's table of steps, row for row: opcodes, "Next word", "Bad unless".
 abbrev pub stepTable : List (Row (StepClass × Companion))
 stepTable =
-    row «OP_TAILCALL» «OP_RETURN1» (returning, alone)
-    ∷ row «OP_ADDI» «OP_SHR» (branching, metamethodAfter)
-    ∷ row «OP_MMBIN» «OP_MMBINK» (following, arithmeticBefore)
-    ∷ row «OP_EQ» «OP_TESTSET» (branching, jumpAfter)
-    ∷ row «OP_LFALSESKIP» «OP_LFALSESKIP» (skipping, alone)
-    ∷ row «OP_LOADKX» «OP_LOADKX» (skipping, extraAfter)
-    ∷ row «OP_NEWTABLE» «OP_NEWTABLE» (skipping, extraAfter)
-    ∷ row «OP_SETLIST» «OP_SETLIST» (skippingIfK, extraAfterIfK)
-    ∷ row «OP_JMP» «OP_JMP» (jumping, alone)
-    ∷ row «OP_FORLOOP» «OP_FORLOOP» (looping, alone)
-    ∷ row «OP_TFORLOOP» «OP_TFORLOOP» (looping, alone)
-    ∷ row «OP_FORPREP» «OP_FORPREP» (preparing, alone)
-    ∷ row «OP_TFORPREP» «OP_TFORPREP» (entering, callAtTarget)
-    ∷ row «OP_TFORCALL» «OP_TFORCALL» (following, loopAfter)
-    ∷ row «OP_EXTRAARG» «OP_EXTRAARG» (invalid, alone)
-    ∷ row «OP_UNKNOWN» «OP_LAST» (invalid, alone)
+    row op.«OP_TAILCALL» op.«OP_RETURN1» (returning, alone)
+    ∷ row op.«OP_ADDI» op.«OP_SHR» (branching, metamethodAfter)
+    ∷ row op.«OP_MMBIN» op.«OP_MMBINK» (following, arithmeticBefore)
+    ∷ row op.«OP_EQ» op.«OP_TESTSET» (branching, jumpAfter)
+    ∷ row op.«OP_LFALSESKIP» op.«OP_LFALSESKIP» (skipping, alone)
+    ∷ row op.«OP_LOADKX» op.«OP_LOADKX» (skipping, extraAfter)
+    ∷ row op.«OP_NEWTABLE» op.«OP_NEWTABLE» (skipping, extraAfter)
+    ∷ row op.«OP_SETLIST» op.«OP_SETLIST» (skippingIfK, extraAfterIfK)
+    ∷ row op.«OP_JMP» op.«OP_JMP» (jumping, alone)
+    ∷ row op.«OP_FORLOOP» op.«OP_FORLOOP» (looping, alone)
+    ∷ row op.«OP_TFORLOOP» op.«OP_TFORLOOP» (looping, alone)
+    ∷ row op.«OP_FORPREP» op.«OP_FORPREP» (preparing, alone)
+    ∷ row op.«OP_TFORPREP» op.«OP_TFORPREP» (entering, callAtTarget)
+    ∷ row op.«OP_TFORCALL» op.«OP_TFORCALL» (following, loopAfter)
+    ∷ row op.«OP_EXTRAARG» op.«OP_EXTRAARG» (invalid, alone)
+    ∷ row op.«OP_UNKNOWN» op.«OP_LAST» (invalid, alone)
     ∷ []
 
 unfoldable pub classOf : ℕ → StepClass
@@ -140,7 +150,8 @@ classOf opcode = lookup stepTable (following, alone) opcode .0
 unfoldable pub companionOf : ℕ → Companion
 companionOf opcode = lookup stepTable (following, alone) opcode .1
 
--- Column 3, the fallback rule: the metamethod that lifter.rs records, none, a fixed event or the one that C names.
+-- Column 3, the fallback rule: the metamethod that lifter.rs records, none, a fixed
+-- event or the one that C names.
 pub data FallbackRule : Type 0 where
   fixed : ℕ → FallbackRule
   byC : FallbackRule
@@ -155,16 +166,16 @@ fallbackNumber noFallback = 27
 unfoldable pub fallbackOf : ℕ → FallbackRule
 fallbackOf =
     lookup
-    (row «OP_GETTABUP» «OP_GETFIELD» (fixed «TM_INDEX»)
-    ∷ row «OP_SETTABUP» «OP_SETFIELD» (fixed «TM_NEWINDEX»)
-    ∷ row «OP_SELF» «OP_SELF» (fixed «TM_INDEX»)
-    ∷ row «OP_MMBIN» «OP_MMBINK» byC
-    ∷ row «OP_UNM» «OP_UNM» (fixed «TM_UNM»)
-    ∷ row «OP_BNOT» «OP_BNOT» (fixed «TM_BNOT»)
-    ∷ row «OP_LEN» «OP_LEN» (fixed «TM_LEN»)
-    ∷ row «OP_CONCAT» «OP_CONCAT» (fixed «TM_CONCAT»)
-    ∷ row «OP_TBC» «OP_TBC» (fixed «TM_CLOSE»)
-    ∷ row «OP_CALL» «OP_TAILCALL» (fixed «TM_CALL»)
+    (row op.«OP_GETTABUP» op.«OP_GETFIELD» (fixed «TM_INDEX»)
+    ∷ row op.«OP_SETTABUP» op.«OP_SETFIELD» (fixed «TM_NEWINDEX»)
+    ∷ row op.«OP_SELF» op.«OP_SELF» (fixed «TM_INDEX»)
+    ∷ row op.«OP_MMBIN» op.«OP_MMBINK» byC
+    ∷ row op.«OP_UNM» op.«OP_UNM» (fixed «TM_UNM»)
+    ∷ row op.«OP_BNOT» op.«OP_BNOT» (fixed «TM_BNOT»)
+    ∷ row op.«OP_LEN» op.«OP_LEN» (fixed «TM_LEN»)
+    ∷ row op.«OP_CONCAT» op.«OP_CONCAT» (fixed «TM_CONCAT»)
+    ∷ row op.«OP_TBC» op.«OP_TBC» (fixed «TM_CLOSE»)
+    ∷ row op.«OP_CALL» op.«OP_TAILCALL» (fixed «TM_CALL»)
     ∷ [])
     noFallback
 

@@ -1,9 +1,9 @@
--- The opcode table of Lua 5.3.6 (request C-24): for each of the 64 values the mode, the step class and the companion wanted. No Rust records exist
--- for these words, and so no fallback rule.
+-- The opcode table of Lua 5.3.6 (request C-24): for each of the 64 values the mode, the step class and the
+-- companion wanted. No Rust records exist for these words, and so no fallback rule.
 -- Assumes nothing.
 use Prim.Native.Nat.{ℕ, _+_, _*_}
 use mathlib.Core.List.{List, [], _∷_}
-use Rattle.fields.specs.Opcodes53.{«OP_LOADK», «OP_LOADKX», «OP_LOADBOOL», «OP_JMP», «OP_EQ», «OP_LE», «OP_TEST», «OP_TESTSET», «OP_RETURN», «OP_FORLOOP», «OP_FORPREP», «OP_TFORCALL», «OP_TFORLOOP», «OP_SETLIST», «OP_CLOSURE», «OP_EXTRAARG», «OP_UNKNOWN», «OP_LAST»}
+use Rattle.fields.specs.Opcodes53 as op
 use Rattle.fields.specs.Table.{Row, row, lookup}
 
 -- Column 0, the mode: enum OpMode; unknown opcodes have none.
@@ -24,13 +24,13 @@ modeNumber iAx = 4
 unfoldable pub modeOf : ℕ → OpMode
 modeOf =
     lookup
-    (row «OP_LOADK» «OP_LOADKX» iABx
-    ∷ row «OP_JMP» «OP_JMP» iAsBx
-    ∷ row «OP_FORLOOP» «OP_FORPREP» iAsBx
-    ∷ row «OP_TFORLOOP» «OP_TFORLOOP» iAsBx
-    ∷ row «OP_CLOSURE» «OP_CLOSURE» iABx
-    ∷ row «OP_EXTRAARG» «OP_EXTRAARG» iAx
-    ∷ row «OP_UNKNOWN» «OP_LAST» noMode
+    (row op.«OP_LOADK» op.«OP_LOADKX» iABx
+    ∷ row op.«OP_JMP» op.«OP_JMP» iAsBx
+    ∷ row op.«OP_FORLOOP» op.«OP_FORPREP» iAsBx
+    ∷ row op.«OP_TFORLOOP» op.«OP_TFORLOOP» iAsBx
+    ∷ row op.«OP_CLOSURE» op.«OP_CLOSURE» iABx
+    ∷ row op.«OP_EXTRAARG» op.«OP_EXTRAARG» iAx
+    ∷ row op.«OP_UNKNOWN» op.«OP_LAST» noMode
     ∷ [])
     iABC
 
@@ -89,23 +89,24 @@ companionNumber extraAfter = 2
 companionNumber extraAfterUnlessC = 3
 companionNumber loopAfter = 4
 
--- "Bad there are EXTRAARG, opcodes 47 to 63, .. a test (EQ, LT, LE, TEST, TESTSET) without JMP after it, LOADKX or SETLIST with C 0 without EXTRAARG
--- after it, and TFORCALL without TFORLOOP after it." CALL and "TAILCALL step[..] to p+1, where a C function returns", as all others do.
+-- "Bad there are EXTRAARG, opcodes 47 to 63, .. a test (EQ, LT, LE, TEST, TESTSET) without JMP after it,
+-- LOADKX or SETLIST with C 0 without EXTRAARG after it, and TFORCALL without TFORLOOP after it." CALL and
+-- "TAILCALL step[..] to p+1, where a C function returns", as all others do.
 abbrev pub stepTable : List (Row (StepClass × Companion))
 stepTable =
-    row «OP_RETURN» «OP_RETURN» (returning, alone)
-    ∷ row «OP_EQ» «OP_LE» (comparing, jumpAfter)
-    ∷ row «OP_TEST» «OP_TESTSET» (branching, jumpAfter)
-    ∷ row «OP_LOADKX» «OP_LOADKX» (skipping, extraAfter)
-    ∷ row «OP_LOADBOOL» «OP_LOADBOOL» (skippingIfC, alone)
-    ∷ row «OP_SETLIST» «OP_SETLIST» (skippingUnlessC, extraAfterUnlessC)
-    ∷ row «OP_JMP» «OP_JMP» (jumping, alone)
-    ∷ row «OP_FORPREP» «OP_FORPREP» (jumping, alone)
-    ∷ row «OP_FORLOOP» «OP_FORLOOP» (looping, alone)
-    ∷ row «OP_TFORLOOP» «OP_TFORLOOP» (looping, alone)
-    ∷ row «OP_TFORCALL» «OP_TFORCALL» (following, loopAfter)
-    ∷ row «OP_EXTRAARG» «OP_EXTRAARG» (invalid, alone)
-    ∷ row «OP_UNKNOWN» «OP_LAST» (invalid, alone)
+    row op.«OP_RETURN» op.«OP_RETURN» (returning, alone)
+    ∷ row op.«OP_EQ» op.«OP_LE» (comparing, jumpAfter)
+    ∷ row op.«OP_TEST» op.«OP_TESTSET» (branching, jumpAfter)
+    ∷ row op.«OP_LOADKX» op.«OP_LOADKX» (skipping, extraAfter)
+    ∷ row op.«OP_LOADBOOL» op.«OP_LOADBOOL» (skippingIfC, alone)
+    ∷ row op.«OP_SETLIST» op.«OP_SETLIST» (skippingUnlessC, extraAfterUnlessC)
+    ∷ row op.«OP_JMP» op.«OP_JMP» (jumping, alone)
+    ∷ row op.«OP_FORPREP» op.«OP_FORPREP» (jumping, alone)
+    ∷ row op.«OP_FORLOOP» op.«OP_FORLOOP» (looping, alone)
+    ∷ row op.«OP_TFORLOOP» op.«OP_TFORLOOP» (looping, alone)
+    ∷ row op.«OP_TFORCALL» op.«OP_TFORCALL» (following, loopAfter)
+    ∷ row op.«OP_EXTRAARG» op.«OP_EXTRAARG» (invalid, alone)
+    ∷ row op.«OP_UNKNOWN» op.«OP_LAST» (invalid, alone)
     ∷ []
 
 unfoldable pub classOf : ℕ → StepClass
@@ -114,7 +115,8 @@ classOf opcode = lookup stepTable (following, alone) opcode .0
 unfoldable pub companionOf : ℕ → Companion
 companionOf opcode = lookup stepTable (following, alone) opcode .1
 
--- the columns as bytes, which the code packs: the companion and the step class of an opcode in one, and the mode
+-- the columns as bytes, which the code packs: the companion and the step class of an
+-- opcode in one, and the mode
 abbrev pub companionAndClass : ℕ → ℕ
 companionAndClass opcode = companionNumber (companionOf opcode) * 16 + classNumber (classOf opcode)
 

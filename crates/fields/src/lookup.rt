@@ -3,13 +3,24 @@ ghost use mathlib.Core.Path.{_≡_};
 ghost use Prim.Native.Nat.{_+_, _*_, _<_};
 ghost use lib.ListN.{getD};
 ghost use Rattle.fields.specs.Word.{opcodeOf};
-ghost use Rattle.fields.specs.Table.{opcodeTable, modeNumber, modeOf, classNumber, classOf, companionNumber, companionOf, fallbackNumber, fallbackOf};
+ghost use Rattle.fields.specs.Table.{
+  opcodeTable,
+  modeNumber,
+  modeOf,
+  classNumber,
+  classOf,
+  companionNumber,
+  companionOf,
+  fallbackNumber,
+  fallbackOf,
+};
 use crate::packed::byte;
 use crate::packed::companion_and_class;
 use crate::packed::eight_fallbacks;
 use crate::table::TABLE;
 
-// By value: reading a constant array copies it, so a loop takes the table once and lends it to the functions below.
+// By value: reading a constant array copies it, so a loop takes the table once and lends
+// it to the functions below.
 pub fn table() -> [u8; 512]
     ensures { λ r. ⌜ r ≡ opcodeTable ⌝ }
 {

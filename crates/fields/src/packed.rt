@@ -1,12 +1,14 @@
-// Three columns of the opcode table as numbers in the code, for single calls. A read of the constant table copies all of it, 10 to
-// 20 ns; this is a load. Loops lend a copy of the table instead (`lookup`); both are proved to say what the table's definition says.
+// Three columns of the opcode table as numbers in the code, for single calls. A read of the constant table
+// copies all of it, 10 to 20 ns; this is a load. Loops lend a copy of the table instead (`lookup`);
+// both are proved to say what the table's definition says.
 ghost use mathlib.Core.Path.{_≡_};
 ghost use Prim.Native.Nat.{_<_};
 ghost use Rattle.fields.specs.Word.{opcodeOf};
 ghost use Rattle.fields.specs.Packed.{companionAndClass, ruleOf, eightOf, byteOf};
 
-// Eight opcodes from 8 * block on, a byte each, the first lowest: 16 times the companion wanted, plus the step class.
-// The unknown blocks stand one by one too: the feed then loads one byte, with no test of the block before it.
+// Eight opcodes from 8 * block on, a byte each, the first lowest: 16 times the companion wanted,
+// plus the step class. The unknown blocks stand one by one too: the feed then loads one byte, with no
+// test of the block before it.
 fn eight_steps(block: u32) -> u64
     requires { ⌜ block < 16 ⌝ }
     ensures { λ r. ⌜ r ≡ eightOf companionAndClass block ⌝ }

@@ -6,7 +6,8 @@ ghost use Rattle.fields.specs.Packed.{eightOf};
 ghost use Rattle.fields.specs.Table53.{companionAndClass, modeByte};
 use crate::packed::byte;
 
-// Eight opcodes from 8 * block on, a byte each, the first lowest: 16 times the companion wanted, plus the step class.
+// Eight opcodes from 8 * block on, a byte each, the first lowest: 16 times the companion
+// wanted, plus the step class.
 fn eight_steps(block: u32) -> u64
     requires { ⌜ block < 8 ⌝ }
     ensures { λ r. ⌜ r ≡ eightOf companionAndClass block ⌝ }

@@ -1,5 +1,5 @@
-// The opcode table: for each of the 128 opcode values its mode, step class, companion wanted and fallback rule.
-// Document 01 asks for one constant table of 512 numbers; specs/Table.antt says what stands in it.
+// The opcode table: for each of the 128 opcode values its mode, step class, companion wanted and fallback
+// rule. Document 01 asks for one constant table of 512 numbers; specs/Table.antt says what stands in it.
 use crate::columns::*;
 use crate::events::*;
 

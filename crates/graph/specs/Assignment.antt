@@ -1,5 +1,6 @@
--- Request C-15, "Registers set before use", over any graph whose words read registers and set them: definite assignment. For one register, the
--- words that some path reaches without its being set are those that are reachable when the edges are cut on which it is set.
+-- Request C-15, "Registers set before use", over any graph whose words read registers and set them:
+-- definite assignment. For one register, the words that some path reaches without its being set are those
+-- that are reachable when the edges are cut on which it is set.
 -- Assumes nothing.
 use mathlib.Core.Path.{_≡_}
 use mathlib.Core.Logic.{_⊎_, _↔_}
@@ -41,15 +42,17 @@ UnsetAlong t p [] = Unit {0}
 UnsetAlong t p (q ∷ qs) = (t p q ≡ false) × UnsetAlong t q qs
 
 module _ (g : Graph) (u : Usage) (parameters : ℕ) where
-  -- "on every course from word 0 each register named as read was a parameter or was named as written earlier on that course": a word's own write
-  -- does not serve its own read, and only the steps that the course takes count
+  -- "on every course from word 0 each register named as read was a parameter or was named as written
+  -- earlier on that course": a word's own write does not serve its own read, and only the steps
+  -- that the course takes count
   abbrev pub SetBeforeUse : Type 0
   SetBeforeUse =
-      (before : List ℕ) (p : ℕ) (after : List ℕ) → Path g (before ++ (p ∷ after)) → (r : ℕ) → u .reads p r ≡ true
+      (before : List ℕ) (p : ℕ) (after : List ℕ) → Path g (before ++ (p ∷ after)) → (r : ℕ)
+      → u .reads p r ≡ true
       → (r < parameters) ⊎ SetOn (λ x y. u .sets x y r) (before ++ (p ∷ []))
 
-  -- "some course breaks this" at word p: one that ends there, with a register that p reads, that is no parameter, and that no step of the course sets,
-  -- "also where that path was broken before"
+  -- "some course breaks this" at word p: one that ends there, with a register that p reads, that is no
+  -- parameter, and that no step of the course sets, "also where that path was broken before"
   pub record Breaks (p : ℕ) : Type 0 where
     pub rest : List ℕ
     pub path : Path g (0 ∷ rest)
@@ -77,7 +80,8 @@ someBelow t (suc k) = t k || someBelow t k
 
 -- word p reads register r, no parameter, and is reachable with the edges cut on which r is set
 unfoldable pub readsUnset : Graph → Usage → ℕ → ℕ → ℕ → Bool
-readsUnset g u parameters p r = leb parameters r && (u .reads p r && eqb (markOf (cut g (λ x y. u .sets x y r)) p) 1)
+readsUnset g u parameters p r =
+    leb parameters r && (u .reads p r && eqb (markOf (cut g (λ x y. u .sets x y r)) p) 1)
 
 -- word p does so of some register
 unfoldable pub unsetAt : Graph → Usage → ℕ → ℕ → Bool
@@ -93,7 +97,8 @@ pub record Assignment (g : Graph) (u : Usage) (parameters : ℕ) : Type 0 where
   -- at each word
   pub breaks : (p : ℕ) → ((unsetAt g u parameters p ≡ true) × (p < g .size)) ↔ Breaks g u parameters p
   -- "the place is the lowest word at which one does"
-  pub place : (p : ℕ) → ((lowestUnset g u parameters ≡ p) × (p < g .size)) ↔ (Breaks g u parameters p × ((q : ℕ) → q < p → Breaks g u parameters q → ⊥))
+  pub place : (p : ℕ) → ((lowestUnset g u parameters ≡ p) × (p < g .size))
+      ↔ (Breaks g u parameters p × ((q : ℕ) → q < p → Breaks g u parameters q → ⊥))
   -- there is none exactly if every course sets before use
   pub none : (g .size ≤ lowestUnset g u parameters) ↔ SetBeforeUse g u parameters
 

@@ -1,4 +1,5 @@
--- Request C-22, "For a word w, count the steps from reachable words that pass strictly over w, forward or back", over any graph: crossing edges.
+-- Request C-22, "For a word w, count the steps from reachable words that pass strictly over w, forward or
+-- back", over any graph: crossing edges.
 -- Assumes nothing.
 use mathlib.Core.Path.{_≡_}
 use mathlib.Core.Logic.{_⊎_, _↔_}
@@ -26,12 +27,14 @@ crosses w p q = (ltb p w && ltb w q) || (ltb q w && ltb w p)
 -- the edges from p to the words of a list that pass over w
 abbrev pub crossingFrom : ℕ → ℕ → List ℕ → List Edge
 crossingFrom w p [] = []
-crossingFrom w p (q ∷ qs) = cond (crosses w p q) (record { from = p; to = q } ∷ crossingFrom w p qs) (crossingFrom w p qs)
+crossingFrom w p (q ∷ qs) =
+    cond (crosses w p q) (record { from = p; to = q } ∷ crossingFrom w p qs) (crossingFrom w p qs)
 
 -- those from the reachable words below k
 unfoldable pub crossingBelow : Graph → ℕ → ℕ → List Edge
 crossingBelow g w zero = []
-crossingBelow g w (suc k) = cond (eqb (markOf g k) 1) (crossingFrom w k (g .successors k)) [] ++ crossingBelow g w k
+crossingBelow g w (suc k) =
+    cond (eqb (markOf g k) 1) (crossingFrom w k (g .successors k)) [] ++ crossingBelow g w k
 
 -- "the steps from reachable words that pass strictly over w", and how many they are
 abbrev pub crossingEdges : Graph → ℕ → List Edge
@@ -56,7 +59,8 @@ Different (x ∷ xs) = (In x xs → ⊥) × Different xs
 
 pub record Crossing (g : Graph) (w : ℕ) : Type 0 where
   -- what is counted are exactly the edges from reachable words that pass over w
-  pub listed : (e : Edge) → Listed e (crossingEdges g w) ↔ (Reachable g (e .from) × In (e .to) (g .successors (e .from)) × Crosses w e)
+  pub listed : (e : Edge) → Listed e (crossingEdges g w)
+      ↔ (Reachable g (e .from) × In (e .to) (g .successors (e .from)) × Crosses w e)
   -- each of them once
   pub once : ((p : ℕ) → Different (g .successors p)) → EachOnce (crossingEdges g w)
   -- "past the end the crossing count is 0"

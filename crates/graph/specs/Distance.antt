@@ -1,4 +1,5 @@
--- Request C-22, "the fewest words to the next serving step or return, counting the word itself", over any graph: the distance to service.
+-- Request C-22, "the fewest words to the next serving step or return, counting the word itself", over any
+-- graph: the distance to service.
 -- Assumes nothing.
 use mathlib.Core.Path.{_≡_}
 use mathlib.Core.Logic.{_⊎_}
@@ -8,8 +9,8 @@ use Prim.Native.Nat.{ℕ, zero, suc, _+_, _-_, _≤_, _<_, min}
 use lib.ListN.{length}
 use Rattle.graph.specs.Graph.{Graph, In, Lawful, Reachable, Segment}
 
--- "a return or a word with a serving step". "A return .. is a word that is not bad and has no step": where no word that is met is bad, one
--- with no step is a return
+-- "a return or a word with a serving step". "A return .. is a word that is not bad and has no step":
+-- where no word that is met is bad, one with no step is a return
 abbrev pub Ends : Graph → ℕ → Type 0
 Ends g p = (g .successors p ≡ []) ⊎ ((q : ℕ) × In q (g .successors p) × (g .serves p q ≡ true))
 
@@ -49,14 +50,18 @@ lastOf p (q ∷ qs) = lastOf q qs
 -- "The fewest is exact"
 pub record Distance (g : Graph) : Type 0 where
   -- "a stretch of that many words from there ends at a return or a word with a serving step"
-  pub reached : (p : ℕ) → Reachable g p → (ps : List ℕ) × Segment g p ps × Ends g (lastOf p ps) × (length (p ∷ ps) ≡ distanceOf g p)
+  pub reached : (p : ℕ) → Reachable g p
+      → (ps : List ℕ) × Segment g p ps × Ends g (lastOf p ps) × (length (p ∷ ps) ≡ distanceOf g p)
   -- "and no shorter one does"
-  pub fewest : (p : ℕ) (ps : List ℕ) → Segment g p ps → Ends g (lastOf p ps) → distanceOf g p ≤ length (p ∷ ps)
+  pub fewest : (p : ℕ) (ps : List ℕ)
+      → Segment g p ps → Ends g (lastOf p ps) → distanceOf g p ≤ length (p ∷ ps)
   -- so every reachable word has one, of at least a word and at most as many as are left
   pub some : (p : ℕ) → Reachable g p → 0 < distanceOf g p
   pub few : (p : ℕ) → p < g .size → distanceOf g p + p ≤ g .size
-  -- the pass from the highest word down that finds all of them; f stands for the distances of the words above p
-  pub turn : (f : ℕ → ℕ) (p : ℕ) → p < g .size → ((q : ℕ) → p < q → q < g .size → f q ≡ distanceOf g q) → distanceOf g p ≡ nearer g f p
+  -- the pass from the highest word down that finds all of them; f stands for the
+  -- distances of the words above p
+  pub turn : (f : ℕ → ℕ) (p : ℕ)
+      → p < g .size → ((q : ℕ) → p < q → q < g .size → f q ≡ distanceOf g q) → distanceOf g p ≡ nearer g f p
 
 abbrev pub Distances : Type 0
 Distances = (g : Graph) → Lawful g → Distance g

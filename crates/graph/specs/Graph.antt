@@ -1,4 +1,5 @@
--- Document 01, "Longest run", over any graph: which words follow which, and which edges serve. Nothing here knows what a word is.
+-- Document 01, "Longest run", over any graph: which words follow which, and which edges serve.
+-- Nothing here knows what a word is.
 -- Assumes nothing.
 use mathlib.Core.Path.{_≡_}
 use mathlib.Core.Logic.{_⊎_}
@@ -35,7 +36,8 @@ abbrev pub Along : Graph → ℕ → List ℕ → Type 0
 Along g p [] = p < g .size
 Along g p (q ∷ qs) = (p < g .size) × In q (g .successors p) × Along g q qs
 
--- "A course is one or more word numbers below n: first 0, then each a step from the one before, ending anywhere."
+-- "A course is one or more word numbers below n: first 0, then each a step from the one
+-- before, ending anywhere."
 abbrev pub Path : Graph → List ℕ → Type 0
 Path g [] = ⊥
 Path g (p ∷ ps) = (p ≡ 0) × Along g p ps
@@ -51,7 +53,8 @@ abbrev pub Unserved : Graph → ℕ → List ℕ → Type 0
 Unserved g p [] = Unit {0}
 Unserved g p (q ∷ qs) = (g .serves p q ≡ false) × Unserved g q qs
 
--- "A stretch is one or more consecutive words of a course with no serving step between them": p, where it starts, and ps
+-- "A stretch is one or more consecutive words of a course with no serving step between them":
+-- p, where it starts, and ps
 pub record Segment (g : Graph) (p : ℕ) (ps : List ℕ) : Type 0 where
   pub before : List ℕ
   pub after : List ℕ

@@ -1,4 +1,5 @@
--- What a search and a pass over a graph go by, and whoever argues over paths: the laws that other crates cite.
+-- What a search and a pass over a graph go by, and whoever argues over paths:
+-- the laws that other crates cite.
 -- Assumes nothing.
 use mathlib.Core.Path.{_≡_}
 use mathlib.Core.Logic.{_↔_}
@@ -34,10 +35,12 @@ pub record Passing (g : Graph) (w : ℕ → ℕ) : Type 0 where
   pub unmarked : (p : ℕ) → markOf g p ≡ 0 → lengthOf g w p ≡ 0
   -- f stands for the lengths of the words above p
   pub marked :
-      (f : ℕ → ℕ) (p : ℕ) → p < g .size → markOf g p ≡ 1 → ((q : ℕ) → p < q → q < g .size → f q ≡ lengthOf g w q)
+      (f : ℕ → ℕ) (p : ℕ) → p < g .size → markOf g p ≡ 1
+      → ((q : ℕ) → p < q → q < g .size → f q ≡ lengthOf g w q)
       → lengthOf g w p ≡ w p + best g p f (g .successors p)
   -- the longest and the first are found in any numbers that are the lengths
-  pub longest-found : (f : ℕ → ℕ) → ((p : ℕ) → p < g .size → f p ≡ lengthOf g w p) → most f (g .size) ≡ longest g w
+  pub longest-found : (f : ℕ → ℕ)
+      → ((p : ℕ) → p < g .size → f p ≡ lengthOf g w p) → most f (g .size) ≡ longest g w
   pub first-found :
       (f : ℕ → ℕ) → ((p : ℕ) → p < g .size → f p ≡ lengthOf g w p)
       → lowest (λ p. eqb (f p) (longest g w)) (g .size) ≡ first g w

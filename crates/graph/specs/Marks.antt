@@ -1,5 +1,5 @@
--- The reachable marks, computed: a word is reachable if no more steps than there are words lead to it from word 0. `Meaning` says
--- what they mean.
+-- The reachable marks, computed: a word is reachable if no more steps than there are words lead to it from
+-- word 0. `Meaning` says what they mean.
 -- Assumes nothing.
 use mathlib.Core.Bool.{Bool, false, cond, _||_}
 use mathlib.Core.List.{List, [], _∷_}

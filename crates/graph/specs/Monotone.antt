@@ -1,5 +1,6 @@
--- Request C-18, "every table between them, entry by entry, gives a run between the two reports": heavier words make no run lighter, over any
--- graph. It says nothing of the first word: two tables may have their heaviest segments elsewhere.
+-- Request C-18, "every table between them, entry by entry, gives a run between the two reports":
+-- heavier words make no run lighter, over any graph. It says nothing of the first word: two tables may have
+-- their heaviest segments elsewhere.
 -- Assumes nothing.
 use Prim.Native.Nat.{ℕ, _≤_}
 use Rattle.graph.specs.Graph.{Graph}

@@ -24,10 +24,12 @@ pub record Claims : Type 0 where
 abbrev pub ReadInto : List ℕ → ℕ → List ℕ → Type 0
 ReadInto buffer n input = take n buffer ≡ take (length buffer) input
 
--- the buffer is large enough: of whatever input its first n bytes were read, the answer to them is that to the input
+-- the buffer is large enough: of whatever input its first n bytes were read, the answer to
+-- them is that to the input
 abbrev pub Enough : List ℕ → ℕ → Type 0
 Enough buffer n = (input : List ℕ) → ReadInto buffer n input → answerOf (take n buffer) ≡ answerOf input
 
--- n counts bytes at the start of the page. The second part follows from the first; to write them out takes both
+-- n counts bytes at the start of the page. The second part follows from the first;
+-- to write them out takes both
 abbrev pub Counted : ℕ → List ℕ → Type 0
 Counted n page = (n ≤ length page) × (n ≡ length (take n page))

@@ -5,8 +5,8 @@ ghost use lib.ListN.{length};
 ghost use Rattle.common.specs.Lists.{put};
 ghost use Rattle.listing.specs.Answer.{firstCell, secondCell, lineAt, listingOf};
 use crate::paper::put_text;
-use runs::edges::Successors;
 use sheet::Cell;
+use sweep::edges::Successors;
 
 // Bytes in a word's line.
 const ROW: usize = 31;
@@ -56,9 +56,11 @@ pub(crate) fn put_listing(
     first: usize,
     page: &mut [u8],
 ) -> usize
-    requires { ⌜ (length (now words) ≤ length (now lengths)) × (31 * length (now words) + 13 ≤ length (now page)) ⌝ }
+    requires { ⌜ (length (now words) ≤ length (now lengths))
+        × (31 * length (now words) + 13 ≤ length (now page)) ⌝ }
     ensures { λ r. ⌜ r ≡ 31 * length (now (words .entry)) + 13 ⌝ }
-    ensures { λ _. ⌜ now (page .exit) ≡ put (now (page .entry)) 0 (listingOf (now (words .entry)) (now (lengths .entry)) longest first) ⌝ }
+    ensures { λ _. ⌜ now (page .exit)
+        ≡ put (now (page .entry)) 0 (listingOf (now (words .entry)) (now (lengths .entry)) longest first) ⌝ }
 {
     let n = words.len();
     let mut p = 0;

@@ -25,8 +25,9 @@ fn put_refusal(number: u8, place: usize, page: &mut [u8]) -> usize
     13
 }
 
-// Puts what is to be written for words, and answers how long it is. Of the run's refusals only 7 and 8 can come: 4,096
-// words are below 32,768 (1), the parts that are lent have a place for each word (6), and no weight is 0 (18).
+// Puts what is to be written for words, and answers how long it is. Of the run's refusals only 7
+// and 8 can come: 4,096 words are below 32,768 (1), the parts that are lent have a place for each word
+// (6), and no weight is 0 (18).
 fn put_run(words: &[u32], page: &mut [u8]) -> usize
     requires { ⌜ (length (now words) ≤ mostLines) × (pageLength ≤ length (now page)) ⌝ }
     ensures { λ r. ⌜ r ≡ length (runText (now (words .entry))) ⌝ }
@@ -78,7 +79,8 @@ fn put_answer(text: &[u8], page: &mut [u8]) -> usize
 fn put_held(buffer: &[u8], n: usize, page: &mut [u8]) -> usize
     requires { ⌜ pageLength ≤ length (now page) ⌝ }
     ensures { λ r. ⌜ r ≡ length (answerOf (take n (now (buffer .entry)))) ⌝ }
-    ensures { λ _. ⌜ now (page .exit) ≡ put (now (page .entry)) 0 (answerOf (take n (now (buffer .entry)))) ⌝ }
+    ensures { λ _. ⌜ now (page .exit)
+        ≡ put (now (page .entry)) 0 (answerOf (take n (now (buffer .entry)))) ⌝ }
 {
     if n < buffer.len() {
         return put_answer(&buffer[..n], page);
@@ -86,12 +88,13 @@ fn put_held(buffer: &[u8], n: usize, page: &mut [u8]) -> usize
     put_answer(buffer, page)
 }
 
-// From what was read to what the program writes. The buffer is lent whole, so that its size is in the type, and n of its
-// bytes were read: they decide, however long the input is (`Enough`). What is to be written stands at the start of the
-// page, and its count is answered.
+// From what was read to what the program writes. The buffer is lent whole, so that its size is in the type,
+// and n of its bytes were read: they decide, however long the input is (`Enough`). What is to be written
+// stands at the start of the page, and its count is answered.
 pub fn answer(buffer: &[u8; BUFFER], n: usize, page: &mut [u8; PAGE]) -> usize
     ensures { λ r. ⌜ r ≡ length (answerOf (take n (now (buffer .entry)))) ⌝ }
-    ensures { λ _. ⌜ now (page .exit) ≡ put (now (page .entry)) 0 (answerOf (take n (now (buffer .entry)))) ⌝ }
+    ensures { λ _. ⌜ now (page .exit)
+        ≡ put (now (page .entry)) 0 (answerOf (take n (now (buffer .entry)))) ⌝ }
     ensures { λ _. ⌜ Enough (now (buffer .entry)) n ⌝ }
     ensures { λ r. ⌜ Counted r (now (page .exit)) ⌝ }
 {

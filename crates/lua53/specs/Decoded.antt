@@ -1,4 +1,5 @@
--- A word's fields as the C interface gives them, each with its own name and value, and the number of its opcode's mode.
+-- A word's fields as the C interface gives them, each with its own name and value, and the
+-- number of its opcode's mode.
 -- Assumes nothing.
 use Prim.Native.Nat.{ℕ}
 use Rattle.fields.specs.declared.word53.RawInstruction53.{RawInstruction53}

@@ -17,9 +17,12 @@ pub extern "C" fn lawendeb_longest_runs_53(
     marks: &mut [u8],
     lengths: &mut [u32],
 ) -> FlatRange
-    ensures { λ r. ⌜ r ≡ flatRange (runsOf (scriptOf Lua53 (now (words .entry))) (now (low .entry)) (now (high .entry)) (length (now (marks .entry))) (length (now (lengths .entry)))) ⌝ }
-    ensures { λ _. ⌜ now (marks .exit) ≡ marksAfterBoth (scriptOf Lua53 (now (words .entry))) (now (low .entry)) (now (high .entry)) (now (marks .entry)) (now (lengths .entry)) ⌝ }
-    ensures { λ _. ⌜ now (lengths .exit) ≡ lengthsAfterBoth (scriptOf Lua53 (now (words .entry))) (now (low .entry)) (now (high .entry)) (now (marks .entry)) (now (lengths .entry)) ⌝ }
+    ensures { λ r. ⌜ r ≡ flatRange (runsOf (scriptOf Lua53 (now (words .entry))) (now (low .entry))
+        (now (high .entry)) (length (now (marks .entry))) (length (now (lengths .entry)))) ⌝ }
+    ensures { λ _. ⌜ now (marks .exit) ≡ marksAfterBoth (scriptOf Lua53 (now (words .entry)))
+        (now (low .entry)) (now (high .entry)) (now (marks .entry)) (now (lengths .entry)) ⌝ }
+    ensures { λ _. ⌜ now (lengths .exit) ≡ lengthsAfterBoth (scriptOf Lua53 (now (words .entry)))
+        (now (low .entry)) (now (high .entry)) (now (marks .entry)) (now (lengths .entry)) ⌝ }
 {
     flat_range(runs::longest_runs(Version::Lua53, words, low, high, marks, lengths))
 }

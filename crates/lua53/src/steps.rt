@@ -25,9 +25,12 @@ pub extern "C" fn lawendeb_longest_run_53(
     marks: &mut [u8],
     lengths: &mut [u32],
 ) -> FlatRun
-    ensures { λ r. ⌜ r ≡ flatRun (runOf (scriptOf Lua53 (now (words .entry))) (now (weights .entry)) (length (now (marks .entry))) (length (now (lengths .entry)))) ⌝ }
-    ensures { λ _. ⌜ now (marks .exit) ≡ marksAfter (scriptOf Lua53 (now (words .entry))) (now (weights .entry)) (now (marks .entry)) (now (lengths .entry)) ⌝ }
-    ensures { λ _. ⌜ now (lengths .exit) ≡ lengthsAfter (scriptOf Lua53 (now (words .entry))) (now (weights .entry)) (now (marks .entry)) (now (lengths .entry)) ⌝ }
+    ensures { λ r. ⌜ r ≡ flatRun (runOf (scriptOf Lua53 (now (words .entry))) (now (weights .entry))
+        (length (now (marks .entry))) (length (now (lengths .entry)))) ⌝ }
+    ensures { λ _. ⌜ now (marks .exit) ≡ marksAfter (scriptOf Lua53 (now (words .entry)))
+        (now (weights .entry)) (now (marks .entry)) (now (lengths .entry)) ⌝ }
+    ensures { λ _. ⌜ now (lengths .exit) ≡ lengthsAfter (scriptOf Lua53 (now (words .entry)))
+        (now (weights .entry)) (now (marks .entry)) (now (lengths .entry)) ⌝ }
 {
     flat_run(runs::longest_run(Version::Lua53, words, weights, marks, lengths))
 }

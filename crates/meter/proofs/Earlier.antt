@@ -6,7 +6,7 @@ use native.Mathlib.Omega.{arith}
 use lib.Dec.{ltb, leb, eqb}
 use borrow.Author.Tests.{leb-false, ltb-true, ltb-false, lt-ltb, le-ltb}
 use Rattle.common.specs.Limits.{mostWords}
-use Rattle.runs.specs.Steps.{unitWeight}
+use Rattle.sweep.specs.Steps.{unitWeight}
 use Rattle.runs.specs.Script.{Script, graphOf, Sound}
 use Rattle.runs.specs.Weights.{heaviestWeight}
 use Rattle.runs.specs.Counted.{ones}

@@ -1,5 +1,5 @@
--- What owners read first: a meter just begun, and lent the weights of the run at each feed, never shows a count above the longest run, and on
--- some path it shows it.
+-- What owners read first: a meter just begun, and lent the weights of the run at each feed, never shows a
+-- count above the longest run, and on some path it shows it.
 -- Beside it, request C-19: the highest that it holds is the largest count that it showed.
 -- Assumes nothing.
 use mathlib.Core.Path.{_≡_}
@@ -27,8 +27,10 @@ pub record ShownOn (s : Scale) (m : Meter) (count : ℕ) : Type 0 where
 
 pub record Bound (s : Scale) (m : Meter) (longest : ℕ) : Type 0 where
   -- a meter just begun and fed a path refuses none of its words
-  pub taken : (words : List ℕ) → Path (s .graph) words → meterAnswers s (beginOf m) (feeds words) ≡ replicate (length words) «ACCEPTED»
-  -- it never shows a count above L: not on a path, of which each beginning is a path, nor after any other calls
+  pub taken : (words : List ℕ)
+      → Path (s .graph) words → meterAnswers s (beginOf m) (feeds words) ≡ replicate (length words) «ACCEPTED»
+  -- it never shows a count above L: not on a path, of which each beginning is a path,
+  -- nor after any other calls
   pub never : (calls : List Call) → meterAfter s (beginOf m) calls .count ≤ longest
   -- and on some path it shows L
   pub reached : ShownOn s m longest
@@ -39,9 +41,11 @@ fresh m = resetOf (beginOf m)
 
 pub record Worst (s : Scale) (m : Meter) (longest : ℕ) : Type 0 where
   -- "then fed a course", it refuses none of its words
-  pub taken : (words : List ℕ) → Path (s .graph) words → meterAnswers s (fresh m) (feeds words) ≡ replicate (length words) «ACCEPTED»
+  pub taken : (words : List ℕ)
+      → Path (s .graph) words → meterAnswers s (fresh m) (feeds words) ≡ replicate (length words) «ACCEPTED»
   -- it "shows as highest the largest count it showed"
   pub highest : (words : List ℕ) → Path (s .graph) words
       → meterAfter s (fresh m) (feeds words) .highest ≡ largest (countsShown s (fresh m) (feeds words))
   -- "never above L"
-  pub never : (words : List ℕ) → Path (s .graph) words → meterAfter s (fresh m) (feeds words) .highest ≤ longest
+  pub never : (words : List ℕ)
+      → Path (s .graph) words → meterAfter s (fresh m) (feeds words) .highest ≤ longest

@@ -1,9 +1,11 @@
--- A meter whose feeds are each lent weights of their own: "Its count is then still what the words since the last service weighed, each by the weights of
--- its own feed, and nothing is lost or wraps" (include/lawendeb.h; request C-17 asks for the same weights only of a meter compared with a run).
--- The book keeps with each word what it weighed when it was fed. proofs/Changing.antt proves `FollowsBook` for any sound script of at most 32,768
--- words, any meter just begun and any list of calls; a table that 18 refuses is answered 18, and changes nothing.
--- A feed that counts on from the larger of the count and what the last word weighs by its own table is the same with
--- weights that stay, where a count is never below what the last word weighs: it is wrong by this statement alone.
+-- A meter whose feeds are each lent weights of their own: "Its count is then still what the words
+-- since the last service weighed, each by the weights of its own feed, and nothing is lost or wraps"
+-- (include/lawendeb.h; request C-17 asks for the same weights only of a meter compared with a run).
+-- The book keeps with each word what it weighed when it was fed. proofs/Changing.antt proves `FollowsBook`
+-- for any sound script of at most 32,768 words, any meter just begun and any list of calls;
+-- a table that 18 refuses is answered 18, and changes nothing.
+-- A feed that counts on from the larger of the count and what the last word weighs by its own table is the same
+-- with weights that stay, where a count is never below what the last word weighs: this statement alone refuses it.
 -- Assumes nothing.
 use mathlib.Core.Path.{_≡_}
 use mathlib.Core.Bool.{Bool, cond, _||_}
@@ -66,7 +68,8 @@ module _ (ws : Script) where
       b
 
   abbrev pub bookFed : Book → List ℕ → ℕ → Book
-  bookFed b weights q = cond (refusesWeights weights) b (written b weights q (writes (graphOf ws) (wordsOf (b .path)) q))
+  bookFed b weights q =
+      cond (refusesWeights weights) b (written b weights q (writes (graphOf ws) (wordsOf (b .path)) q))
 
   abbrev pub bookCalled : Book → Call → Book
   bookCalled b begin = record { path = []; tally = b .tally }
@@ -78,7 +81,8 @@ module _ (ws : Script) where
   bookAfter b (c ∷ cs) = bookAfter (bookCalled b c) cs
 
   abbrev pub bookAnswer : Book → List ℕ → ℕ → ℕ
-  bookAnswer b weights q = cond (refusesWeights weights) «WEIGHTS_REFUSED» (cond (writes (graphOf ws) (wordsOf (b .path)) q) «ACCEPTED» «NO_STEP»)
+  bookAnswer b weights q = cond (refusesWeights weights) «WEIGHTS_REFUSED»
+      (cond (writes (graphOf ws) (wordsOf (b .path)) q) «ACCEPTED» «NO_STEP»)
 
   abbrev pub bookAnswers : Book → List Call → List ℕ
   bookAnswers b [] = []
@@ -99,7 +103,8 @@ module _ (ws : Script) where
   abbrev pub meterAnswers : Meter → List Call → List ℕ
   meterAnswers m [] = []
   meterAnswers m (begin ∷ cs) = meterAnswers (beginOf m) cs
-  meterAnswers m (feed weights q ∷ cs) = feedOf (scaleOf ws weights) m q .answer .number ∷ meterAnswers (feedOf (scaleOf ws weights) m q .meter) cs
+  meterAnswers m (feed weights q ∷ cs) = feedOf (scaleOf ws weights) m q .answer .number
+      ∷ meterAnswers (feedOf (scaleOf ws weights) m q .meter) cs
   meterAnswers m (reset ∷ cs) = meterAnswers (resetOf m) cs
 
 -- the weights are bytes, as those of every lent table are

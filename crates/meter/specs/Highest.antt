@@ -1,5 +1,5 @@
--- Request C-19, "the highest count a meter has shown, held in the meter", after any list of calls. proofs/Highest.antt proves `HighestAfter`
--- for any meter.
+-- Request C-19, "the highest count a meter has shown, held in the meter", after any list of calls.
+-- proofs/Highest.antt proves `HighestAfter` for any meter.
 -- Assumes nothing.
 use mathlib.Core.Path.{_≡_}
 use mathlib.Core.Bool.{Bool, true, false, cond}
@@ -13,7 +13,8 @@ use Rattle.meter.specs.Feed.{Scale, beginOf, resetOf, feedOf}
 use Rattle.meter.specs.Model.{Call, begin, feed, reset}
 use Rattle.meter.specs.Calls.{meterCalled, meterAfter}
 
--- the count that a feed shows, before those that are shown later: a feed that is refused changes nothing and shows none
+-- the count that a feed shows, before those that are shown later: a feed that is refused
+-- changes nothing and shows none
 abbrev pub shownBy : Fed → List ℕ → List ℕ
 shownBy f later = cond (eqb (f .answer .number) «ACCEPTED») (f .meter .count ∷ later) later
 
@@ -48,10 +49,13 @@ atReset s m (c ∷ cs) = cond (hasReset (c ∷ cs)) (atReset s (meterCalled s m 
 
 pub record HighestAfter (s : Scale) (m : Meter) (calls : List Call) : Type 0 where
   -- the highest is the larger of the one at the last reset, or the start, and the largest count shown since
-  pub highest : meterAfter s m calls .highest ≡ max (atReset s m calls .highest) (largest (countsShown s (atReset s m calls) (sinceReset calls)))
-  -- "A new reset sets it to the count of that moment": so that after a reset it is the largest count shown from that moment on
+  pub highest : meterAfter s m calls .highest
+      ≡ max (atReset s m calls .highest) (largest (countsShown s (atReset s m calls) (sinceReset calls)))
+  -- "A new reset sets it to the count of that moment": so that after a reset it is the largest count
+  -- shown from that moment on
   pub at-reset : hasReset calls ≡ true → atReset s m calls .highest ≡ atReset s m calls .count
   -- the calls since that moment lead on to the meter after all of them
   pub since : meterAfter s (atReset s m calls) (sinceReset calls) ≡ meterAfter s m calls
-  -- and it is not below the count if it was not at the start: number 11 refuses no meter for its highest that it let through before the calls
+  -- and it is not below the count if it was not at the start: number 11 refuses no meter for its highest that
+  -- it let through before the calls
   pub covers : m .count ≤ m .highest → meterAfter s m calls .count ≤ meterAfter s m calls .highest

@@ -1,4 +1,5 @@
--- The reference model: document 01's "Feeding book (what demand 3 holds a meter against)", over any graph of words.
+-- The reference model: document 01's "Feeding book (what demand 3 holds a meter
+-- against)", over any graph of words.
 -- Assumes nothing.
 use mathlib.Core.Bool.{Bool, true, false, cond, _&&_, _||_}
 use mathlib.Core.List.{List, [], _∷_, _++_}
@@ -8,7 +9,8 @@ use Rattle.common.specs.Numbers.{«ACCEPTED», «NO_STEP»}
 use Rattle.graph.specs.Graph.{Graph, weigh}
 use Rattle.meter.specs.Feed.{follows}
 
--- "the calls: begin, or feed with its word number". Request C-19: "Demand 3's lists may hold resets, which its book passes over"
+-- "the calls: begin, or feed with its word number". Request C-19: "Demand 3's lists may hold resets,
+-- which its book passes over"
 pub data Call : Type 0 where
   begin : Call
   feed : ℕ → Call
@@ -28,7 +30,8 @@ abbrev pub lastFrom : ℕ → List ℕ → ℕ
 lastFrom p [] = p
 lastFrom p (q ∷ qs) = lastFrom q qs
 
--- "writes q at the course's end if the course is empty, q is 0 and n is above 0, or if q is a step from the course's last word"
+-- "writes q at the course's end if the course is empty, q is 0 and n is above 0, or if q is a step
+-- from the course's last word"
 abbrev pub writes : Graph → List ℕ → ℕ → Bool
 writes g [] q = eqb q 0 && ltb 0 (g .size)
 writes g (p ∷ ps) q = follows g (lastFrom p ps) q
@@ -81,8 +84,8 @@ abbrev pub anyServes : Graph → ℕ → List ℕ → Bool
 anyServes g p [] = false
 anyServes g p (q ∷ qs) = g .serves p q || anyServes g q qs
 
--- the words of a course "from the word its last serving step leads to (all of them if none serves ..)": words go as long as a
--- serving step is left
+-- the words of a course "from the word its last serving step leads to (all of them if none serves ..)":
+-- words go as long as a serving step is left
 abbrev pub sinceService : Graph → ℕ → List ℕ → List ℕ
 sinceService g p [] = p ∷ []
 sinceService g p (q ∷ qs) = cond (anyServes g p (q ∷ qs)) (sinceService g q qs) (p ∷ q ∷ qs)

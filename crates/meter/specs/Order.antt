@@ -1,5 +1,6 @@
--- "Checks run in this order": of a feed's checks, which condition gives which number exactly, with those before it not holding, by the documents' own
--- numbers: 1, then 18 ("after 1 in the meter"), then 11, then 10. proofs/Order.antt proves it for any scale, meter and word number.
+-- "Checks run in this order": of a feed's checks, which condition gives which number exactly, with those
+-- before it not holding, by the documents' own numbers: 1, then 18 ("after 1 in the meter"), then 11,
+-- then 10. proofs/Order.antt proves it for any scale, meter and word number.
 -- Assumes nothing.
 use mathlib.Core.Path.{_≡_}
 use mathlib.Core.Logic.{_↔_, _⊎_}
@@ -36,8 +37,8 @@ module _ (s : Scale) (m : Meter) (q : ℕ) where
   abbrev pub Weighed : Type 0
   Weighed = (s .graph .size ≤ 32768) × (refusesWeights (s .table) ≡ false)
 
-  -- 10 before 11, 11 before 18, 18 before 1, a highest that 11 leaves out, in definition and code alike, is refused
-  -- here
+  -- 10 before 11, 11 before 18, 18 before 1, a highest that 11 leaves out, in definition and
+  -- code alike, is refused here
   pub record Order : Type 0 where
     pub one : (number ≡ 1) ↔ (32768 < s .graph .size)
     pub eighteen : (number ≡ 18) ↔ ((s .graph .size ≤ 32768) × (refusesWeights (s .table) ≡ true))

@@ -4,7 +4,18 @@ ghost use Prim.Native.Nat.{_*_, _<_, _≤_, max};
 ghost use Rattle.common.specs.Limits.{mostWords};
 ghost use Rattle.runs.specs.Script.{scriptOf, lua54, graphOf};
 ghost use Rattle.runs.specs.Weights.{heaviestWeight};
-ghost use Rattle.meter.specs.Feed.{scaleOf, beginOf, resetOf, oneService, showing, movedTo, isForeign, isStray, refusal, feedOf};
+ghost use Rattle.meter.specs.Feed.{
+  scaleOf,
+  beginOf,
+  resetOf,
+  oneService,
+  showing,
+  movedTo,
+  isForeign,
+  isStray,
+  refusal,
+  feedOf,
+};
 use common::limits::MOST_WORDS;
 use fields::version::Version;
 
@@ -26,8 +37,9 @@ const HEAVIEST: usize = 255;
 // Document 01, "Meter": services stay at this.
 const CEILING: u32 = 4294967295;
 
-// Four numbers in the order of document 01 and the highest of request C-19, laid out as C lays them out. A number for `begun`, not a bool:
-// a bool of 2 from a C caller would have no meaning, while a number does: 0 is not begun, any other is.
+// Four numbers in the order of document 01 and the highest of request C-19, laid out as C lays them out.
+// A number for `begun`, not a bool: a bool of 2 from a C caller would have no meaning, while a number does:
+// 0 is not begun, any other is.
 #[repr(C)]
 pub struct Meter {
     pub begun: u32,
@@ -39,7 +51,8 @@ pub struct Meter {
     pub highest: u32,
 }
 
-// "Each answer carries its number, 0 when accepted, and a place, 0 unless named.": what a feed answers, as C gets it.
+// "Each answer carries its number, 0 when accepted, and a place, 0 unless named.":
+// what a feed answers, as C gets it.
 #[repr(C)]
 pub struct FeedAnswer {
     pub number: u64,
@@ -156,14 +169,15 @@ fn show_count(last: u32, count: u32, services: u32, before: u32) -> Meter
 // The meter at q. What the checks leave is small enough to add to and to keep in 32 bits.
 fn moved(version: Version, words: &[u32], weights: &[u8], m: Meter, q: usize) -> Meter
     requires { ⌜ (q < mostWords) × (m .count ≤ heaviestWeight * mostWords) ⌝ }
-    ensures { λ r. ⌜ r ≡ movedTo (scaleOf (scriptOf version (now (words .entry))) (now (weights .entry))) m q ⌝ }
+    ensures { λ r. ⌜
+        r ≡ movedTo (scaleOf (scriptOf version (now (words .entry))) (now (weights .entry))) m q ⌝ }
 {
     let to = q as u32;
     let weight = runs::script::weight_at(version, words, weights, q);
     if m.begun == 0 {
         return show_count(to, weight, m.services, m.highest);
     }
-    if runs::edges::serves(wide(m.last), q) {
+    if sweep::edges::serves(wide(m.last), q) {
         return show_count(to, weight, one_service(m.services), m.highest);
     }
     show_count(to, m.count + weight, m.services, m.highest)
@@ -182,9 +196,11 @@ fn refused(m: Meter, number: u64, place: usize) -> Fed
     }
 }
 
-// A feed of word q of a script of either version, in bounded time: of the words only those are read that decide the edge and the weight.
+// A feed of word q of a script of either version, in bounded time: of the words only those are read that
+// decide the edge and the weight.
 pub fn feed_script(version: Version, words: &[u32], weights: &[u8], m: Meter, q: usize) -> Fed
-    ensures { λ r. ⌜ r ≡ feedOf (scaleOf (scriptOf version (now (words .entry))) (now (weights .entry))) m q ⌝ }
+    ensures { λ r. ⌜
+        r ≡ feedOf (scaleOf (scriptOf version (now (words .entry))) (now (weights .entry))) m q ⌝ }
 {
     if MOST_WORDS < words.len() {
         return refused(m, TOO_MANY_WORDS, 0);

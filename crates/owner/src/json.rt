@@ -6,13 +6,14 @@ use crate::showing::is_marked;
 use crate::showing::unmarked;
 use crate::titles::NO_LIMIT;
 use common::numbers::MALFORMED_CHUNK;
+use fields::version::Version;
 use pages::Sheet;
 use pages::byte_at;
 use pages::number;
 use pages::put;
 use pages::word_at;
-use runs::edges::Successors;
-use runs::successors::successors;
+use runs::script::successors;
+use sweep::edges::Successors;
 
 fn put_escape(page: &mut [u8], s: Sheet, b: u8) -> Sheet {
     let mut digits = [0u8; 16];
@@ -75,7 +76,7 @@ fn put_numbers(page: &mut [u8], s: Sheet, before: &[u8], list: &[u32], n: usize)
 
 // The words that can follow word p.
 fn put_steps(page: &mut [u8], s: Sheet, words: &[u32], p: usize) -> Sheet {
-    let w = successors(words, p);
+    let w = successors(Version::Lua54, words, p);
     match w {
         Successors::Invalid => {
             return put(page, s, b"[]");

@@ -7,12 +7,13 @@ use fields::opcodes::OP_SHR;
 use fields::opcodes::OP_TAILCALL;
 use fields::opcodes::OP_TESTSET;
 use fields::opcodes::OP_TFORCALL;
+use fields::version::Version;
 use fields::word::opcode;
 use pages::word_at;
-use runs::edges::Successors;
-use runs::edges::serves;
-use runs::successors::successors;
+use runs::script::successors;
 use std::num::wrapping_add_usize;
+use sweep::edges::Successors;
+use sweep::edges::serves;
 
 // How the run goes on from a word.
 pub enum Way {
@@ -48,7 +49,7 @@ fn is_call(word: u32) -> bool {
 
 // How the run ends at word p.
 pub(crate) fn ending(words: &[u32], p: usize) -> Way {
-    let s = successors(words, p);
+    let s = successors(Version::Lua54, words, p);
     match s {
         Successors::Invalid => Way::Returns,
         Successors::Stop => Way::Returns,
@@ -69,7 +70,7 @@ pub(crate) fn going(words: &[u32], p: usize, q: usize) -> Way {
     if is_arithmetic(word_at(words, p)) {
         return Way::Straight;
     }
-    let s = successors(words, p);
+    let s = successors(Version::Lua54, words, p);
     match s {
         Successors::Invalid => Way::Straight,
         Successors::Stop => Way::Straight,
@@ -103,7 +104,7 @@ pub(crate) fn landing(words: &[u32], p: usize) -> usize {
     if opcode(word_at(words, p)) != OP_JMP {
         return p;
     }
-    let s = successors(words, p);
+    let s = successors(Version::Lua54, words, p);
     let Successors::One(q) = s else {
         return p;
     };

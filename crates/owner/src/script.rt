@@ -1,4 +1,5 @@
 // A function of a compiled script, as it is told. Nothing else here calls the libraries of compiled files, of the path and of registers.
+use fields::version::Version;
 use index::Choice;
 use pages::first;
 use pages::first_words;
@@ -54,7 +55,14 @@ pub(crate) fn measured(
     let head = index::head_by(bytes, Choice::Place(at));
     let counts = index::words_by(bytes, Choice::Place(at), words);
     let n = counts.words as usize;
-    let run = witness::longest_path(first_words(words, n), weights, marks, lengths, path);
+    let run = witness::longest_path(
+        Version::Lua54,
+        first_words(words, n),
+        weights,
+        marks,
+        lengths,
+        path,
+    );
     match run {
         PathRun::Accepted {
             longest,

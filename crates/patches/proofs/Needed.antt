@@ -15,7 +15,7 @@ use Rattle.graph.specs.Marks.{leads, markOf}
 use Rattle.graph.specs.Longest.{within, heaviest, lengthOf, most, longest, first}
 use Rattle.graph.proofs.Laws as graph
 use Rattle.runs.specs.Script.{scriptOf, graphOf}
-use Rattle.runs.specs.Steps.{unless, one, ordered, two, servesOf}
+use Rattle.sweep.specs.Steps.{unless, one, ordered, two, servesOf}
 use Rattle.runs.specs.Successors.{opcodeAt, isBetween, companionPresent, successorsOf}
 use Rattle.runs.specs.Successors53 as steps53
 use Rattle.runs.specs.Weights.{lowestZero, refusesWeights}

@@ -14,8 +14,8 @@ use Rattle.fields.specs.Table53.{StepClass, following, returning, branching, co
 use Rattle.fields.specs.Laws.{all}
 use Rattle.fields.proofs.Laws as fields
 use Rattle.graph.specs.Graph.{In}
-use Rattle.runs.specs.declared.edges.Successors.{Successors}
-use Rattle.runs.specs.Steps.{unless, one, two, isInvalid, listOf}
+use Rattle.sweep.specs.declared.edges.Successors.{Successors}
+use Rattle.sweep.specs.Steps.{unless, one, two, isInvalid, listOf}
 use Rattle.runs.specs.Successors53.{opcodeAt, nextOf, standsAt, companionPresent, successorsOf}
 use Rattle.patches.specs.Reading.{SameAt}
 use Rattle.patches.specs.Reading53.{speaksOfNext, looksAtNext, SameAround, Reading}

@@ -1,4 +1,5 @@
-// What the test programs print with, on standard output. No contract can say what is written, so none promises anything.
+// What the test programs print with, on standard output. No contract can say what is written,
+// so none promises anything.
 use libc::STDOUT_FILENO;
 
 pub fn text(bytes: &[u8]) {
@@ -19,7 +20,8 @@ pub fn end() {
     text(b"\n");
 }
 
-// Numbers of fewer bits: a parameter is known to fit its type, where an element or a loop's local asks for a proof.
+// Numbers of fewer bits: a parameter is known to fit its type, where an element or a
+// loop's local asks for a proof.
 pub fn number_u8(x: u8) {
     number(x as u64);
 }

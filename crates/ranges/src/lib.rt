@@ -1,5 +1,6 @@
-// The C interface of runs by two tables of weights. It makes an archive of its own: beside a second caller of the settling pass the compiler would
-// not put that pass into `lawendeb_longest_run` any more, which then takes about a fifth more time.
+// The C interface of runs by two tables of weights. It makes an archive of its own: beside a second caller
+// of the settling pass the compiler would not put that pass into `lawendeb_longest_run` any more, which then
+// takes about a fifth more time.
 ghost use mathlib.Core.Path.{_≡_};
 ghost use lib.ListN.{length};
 ghost use Rattle.runs.specs.Script.{lua54};
@@ -55,9 +56,12 @@ pub extern "C" fn lawendeb_longest_runs(
     marks: &mut [u8],
     lengths: &mut [u32],
 ) -> FlatRange
-    ensures { λ r. ⌜ r ≡ flatRange (runsOf (lua54 (now (words .entry))) (now (low .entry)) (now (high .entry)) (length (now (marks .entry))) (length (now (lengths .entry)))) ⌝ }
-    ensures { λ _. ⌜ now (marks .exit) ≡ marksAfterBoth (lua54 (now (words .entry))) (now (low .entry)) (now (high .entry)) (now (marks .entry)) (now (lengths .entry)) ⌝ }
-    ensures { λ _. ⌜ now (lengths .exit) ≡ lengthsAfterBoth (lua54 (now (words .entry))) (now (low .entry)) (now (high .entry)) (now (marks .entry)) (now (lengths .entry)) ⌝ }
+    ensures { λ r. ⌜ r ≡ flatRange (runsOf (lua54 (now (words .entry))) (now (low .entry)) (now (high .entry))
+        (length (now (marks .entry))) (length (now (lengths .entry)))) ⌝ }
+    ensures { λ _. ⌜ now (marks .exit) ≡ marksAfterBoth (lua54 (now (words .entry))) (now (low .entry))
+        (now (high .entry)) (now (marks .entry)) (now (lengths .entry)) ⌝ }
+    ensures { λ _. ⌜ now (lengths .exit) ≡ lengthsAfterBoth (lua54 (now (words .entry))) (now (low .entry))
+        (now (high .entry)) (now (marks .entry)) (now (lengths .entry)) ⌝ }
 {
     flat_range(runs::longest_runs(Version::Lua54, words, low, high, marks, lengths))
 }

@@ -429,8 +429,17 @@ module _ (n : ℕ) (tags payloads names : List ℕ) (bytes room : ℕ) where
             let e = sym (b .place-3 h) in
             (subst (UnknownAt n tags payloads names bytes room) e (there (unknownTagAt tags) (λ i. Known (getD tags i 0) → ⊥) unknown (length tags) (b .three .0 h .3)), λ i u. omega (arith, b .place-3 h, least (unknownTagAt tags) (λ i. Known (getD tags i 0) → ⊥) unknown (length tags) i u));
         place-4 = λ h.
-            let e = sym (b .place-4 h) in
-            (subst (StringPastAt n tags payloads names bytes room) e (there (stringPastAt tags payloads bytes) (λ i. ((getD tags i 0 ≡ 4) ⊎ (getD tags i 0 ≡ 20)) × EndsPast bytes (getD payloads i 0)) strings (length tags) (b .four .0 h .4)), λ i u. omega (arith, b .place-4 h, least (stringPastAt tags payloads bytes) (λ i. ((getD tags i 0 ≡ 4) ⊎ (getD tags i 0 ≡ 20)) × EndsPast bytes (getD payloads i 0)) strings (length tags) i u));
+            let e = sym (b .place-4 h) in (
+              subst (StringPastAt n tags payloads names bytes room) e (there (stringPastAt tags payloads bytes)
+                  (λ i. ((getD tags i 0 ≡ 4) ⊎ (getD tags i 0 ≡ 20)) × EndsPast bytes (getD payloads i 0)) strings
+                  (length tags) (b .four .0 h .4)),
+              λ i u. omega (
+                arith,
+                b .place-4 h,
+                least (stringPastAt tags payloads bytes) (λ i. ((getD tags i 0 ≡ 4) ⊎ (getD tags i 0 ≡ 20))
+                    × EndsPast bytes (getD payloads i 0)) strings (length tags) i u,
+              ),
+            );
         place-5 = λ h l.
             let few-names = le-ltb mostNames (length names) l in
             let e = sym (b .place-5 h few-names) in

@@ -19,6 +19,8 @@ pub record PlanLaws (words tags payloads names : List ℕ) (bytes room : ℕ) : 
   pub within-words : planOf (length words) tags payloads names bytes room .count ≤ length words
   pub within-room : planOf (length words) tags payloads names bytes room .count ≤ room
   -- none where there are too many words
-  pub few-words : (i : ℕ) → i < planOf (length words) tags payloads names bytes room .count → length words ≤ mostWords
+  pub few-words : (i : ℕ)
+      → i < planOf (length words) tags payloads names bytes room .count → length words ≤ mostWords
   -- and below the count there is a record for each word
-  pub recorded : Recorded words tags payloads names (planOf (length words) tags payloads names bytes room .count)
+  pub recorded :
+      Recorded words tags payloads names (planOf (length words) tags payloads names bytes room .count)

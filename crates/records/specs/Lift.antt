@@ -1,6 +1,7 @@
--- Document 01, "Records": the record of a word. A refinement of the original: lift_instruction_54 of lifter.rs, whose behaviour it is,
--- with its corners. Which arm an opcode takes stands here, the arms themselves in crate families. The fallback comes from the opcode table's
--- fourth column, which is the Rust's; of the columns that are Lua's a record takes nothing.
+-- Document 01, "Records": the record of a word. A refinement of the original: lift_instruction_54 of
+-- lifter.rs, whose behaviour it is, with its corners. Which arm an opcode takes stands here, the arms
+-- themselves in crate families. The fallback comes from the opcode table's fourth column, which is the
+-- Rust's; of the columns that are Lua's a record takes nothing.
 -- Assumes nothing.
 use Prim.Native.Nat.{ℕ, _+_, _-_, _^_}
 use mathlib.Core.Bool.{true, false}
@@ -10,7 +11,7 @@ use lib.IntN.{ℤ, pos, negsuc, _+ℤ_, negℤ}
 use lib.Ieee.{binary64, ofInt}
 use lib.ListN.{length, getD}
 use Rattle.fields.specs.declared.word.RawInstruction54.{RawInstruction54}
-use Rattle.fields.specs.Opcodes.{«OP_MOVE», «OP_LOADI», «OP_LOADF», «OP_LOADK», «OP_LOADKX», «OP_LOADFALSE», «OP_LFALSESKIP», «OP_LOADTRUE», «OP_LOADNIL», «OP_GETUPVAL», «OP_SETUPVAL», «OP_GETTABUP», «OP_GETTABLE», «OP_GETI», «OP_GETFIELD», «OP_SETTABUP», «OP_SETTABLE», «OP_SETI», «OP_SETFIELD», «OP_NEWTABLE», «OP_SELF», «OP_ADDI», «OP_BXORK», «OP_SHLI», «OP_SHR», «OP_MMBIN», «OP_MMBINI», «OP_MMBINK», «OP_LEN», «OP_CONCAT», «OP_CLOSE», «OP_TBC», «OP_JMP», «OP_EQK», «OP_GEI», «OP_TESTSET», «OP_CALL», «OP_TAILCALL», «OP_RETURN», «OP_RETURN0», «OP_RETURN1», «OP_FORLOOP», «OP_FORPREP», «OP_TFORPREP», «OP_TFORCALL», «OP_TFORLOOP», «OP_SETLIST», «OP_CLOSURE», «OP_VARARG», «OP_VARARGPREP», «OP_EXTRAARG»}
+use Rattle.fields.specs.Opcodes as op
 use Rattle.fields.specs.Word.{fieldsOf, opcodeOf, cOf, bxOf, axOf, sjOf}
 use Rattle.fields.specs.Table.{FallbackRule, fixed, byC, noFallback, fallbackOf}
 use Rattle.values.specs.declared.ir.TypedOperand.the-variants as O
@@ -34,7 +35,7 @@ use Rattle.families.specs.Families as F
 unfoldable pub extendedIndex : List ℕ → ℕ → ℕ
 extendedIndex words pc =
     choose (ltb (pc + 1) (length words))
-    (choose (eqb (opcodeOf (getD words (pc + 1) 0)) «OP_EXTRAARG») (axOf (getD words (pc + 1) 0)) 0)
+    (choose (eqb (opcodeOf (getD words (pc + 1) 0)) op.«OP_EXTRAARG») (axOf (getD words (pc + 1) 0)) 0)
     0
 
 -- "A JMP target below 0 becomes 2^64 plus it"
@@ -58,92 +59,93 @@ back pc word raw = F.loopJump raw (negℤ (pos (bxOf word))) (pc + 1 - bxOf word
 -- up to LOADNIL
 unfoldable pub loads : List ℕ → List ℕ → List ℕ → ℕ → RawInstruction54 → ℕ → Body
 loads words tags payloads pc raw opcode =
-    choose (eqb opcode «OP_MOVE») (F.unary raw)
-    (choose (eqb opcode «OP_LOADI») (F.load raw (O.ImmediateInt (raw .sbx)) NoEffect)
-    (choose (eqb opcode «OP_LOADF») (F.load raw (O.ImmediateFloat (ofInt binary64 (raw .sbx))) NoEffect)
-    (choose (eqb opcode «OP_LOADK») (F.loadConstant tags payloads raw (raw .bx) NoEffect)
-    (choose (eqb opcode «OP_LOADKX») (F.loadConstant tags payloads raw (extendedIndex words pc) (CompanionPair (pc + 1) role.ExtraArg))
-    (choose (eqb opcode «OP_LOADFALSE») (F.load raw (O.Flag false) NoEffect)
-    (choose (eqb opcode «OP_LFALSESKIP») (F.load raw (O.Flag false) (ConditionalSkip (pc + 2)))
-    (choose (eqb opcode «OP_LOADTRUE») (F.load raw (O.Flag true) NoEffect)
+    choose (eqb opcode op.«OP_MOVE») (F.unary raw)
+    (choose (eqb opcode op.«OP_LOADI») (F.load raw (O.ImmediateInt (raw .sbx)) NoEffect)
+    (choose (eqb opcode op.«OP_LOADF») (F.load raw (O.ImmediateFloat (ofInt binary64 (raw .sbx))) NoEffect)
+    (choose (eqb opcode op.«OP_LOADK») (F.loadConstant tags payloads raw (raw .bx) NoEffect)
+    (choose (eqb opcode op.«OP_LOADKX»)
+    (F.loadConstant tags payloads raw (extendedIndex words pc) (CompanionPair (pc + 1) role.ExtraArg))
+    (choose (eqb opcode op.«OP_LOADFALSE») (F.load raw (O.Flag false) NoEffect)
+    (choose (eqb opcode op.«OP_LFALSESKIP») (F.load raw (O.Flag false) (ConditionalSkip (pc + 2)))
+    (choose (eqb opcode op.«OP_LOADTRUE») (F.load raw (O.Flag true) NoEffect)
     -- LOADNIL
     (F.loadnil raw))))))))
 
 -- GETUPVAL to SELF
 unfoldable pub tables : List ℕ → List ℕ → List ℕ → RawInstruction54 → ℕ → Body
 tables tags payloads names raw opcode =
-    choose (eqb opcode «OP_GETUPVAL») (F.getupval names raw)
-    (choose (eqb opcode «OP_SETUPVAL») (F.setupval names raw)
-    (choose (eqb opcode «OP_GETTABUP») (F.gettabup tags payloads names raw)
-    (choose (eqb opcode «OP_GETTABLE») (F.threeRegisters raw)
-    (choose (eqb opcode «OP_GETI») (F.withImmediate raw (O.ImmediateInt (pos (raw .c))))
-    (choose (eqb opcode «OP_GETFIELD») (F.withConstant tags payloads raw)
-    (choose (eqb opcode «OP_SETTABUP») (F.settabup tags payloads names raw)
-    (choose (eqb opcode «OP_SETTABLE») (F.settable tags payloads raw)
-    (choose (eqb opcode «OP_SETI») (F.seti tags payloads raw)
-    (choose (eqb opcode «OP_SETFIELD») (F.setfield tags payloads raw)
-    (choose (eqb opcode «OP_NEWTABLE») (F.newtable raw)
+    choose (eqb opcode op.«OP_GETUPVAL») (F.getupval names raw)
+    (choose (eqb opcode op.«OP_SETUPVAL») (F.setupval names raw)
+    (choose (eqb opcode op.«OP_GETTABUP») (F.gettabup tags payloads names raw)
+    (choose (eqb opcode op.«OP_GETTABLE») (F.threeRegisters raw)
+    (choose (eqb opcode op.«OP_GETI») (F.withImmediate raw (O.ImmediateInt (pos (raw .c))))
+    (choose (eqb opcode op.«OP_GETFIELD») (F.withConstant tags payloads raw)
+    (choose (eqb opcode op.«OP_SETTABUP») (F.settabup tags payloads names raw)
+    (choose (eqb opcode op.«OP_SETTABLE») (F.settable tags payloads raw)
+    (choose (eqb opcode op.«OP_SETI») (F.seti tags payloads raw)
+    (choose (eqb opcode op.«OP_SETFIELD») (F.setfield tags payloads raw)
+    (choose (eqb opcode op.«OP_NEWTABLE») (F.newtable raw)
     -- SELF
     (F.selfOp tags payloads raw)))))))))))
 
 -- ADDI to CONCAT
 unfoldable pub arithmetic : List ℕ → List ℕ → ℕ → RawInstruction54 → ℕ → Body
 arithmetic tags payloads pc raw opcode =
-    choose (eqb opcode «OP_ADDI») (F.withImmediate raw (O.ImmediateInt (raw .sc)))
+    choose (eqb opcode op.«OP_ADDI») (F.withImmediate raw (O.ImmediateInt (raw .sc)))
     -- ADDK to BXORK
-    (choose (leb opcode «OP_BXORK») (F.withConstant tags payloads raw)
+    (choose (leb opcode op.«OP_BXORK») (F.withConstant tags payloads raw)
     -- SHRI, SHLI
-    (choose (leb opcode «OP_SHLI») (F.withImmediate raw (O.ImmediateInt (raw .sc)))
+    (choose (leb opcode op.«OP_SHLI») (F.withImmediate raw (O.ImmediateInt (raw .sc)))
     -- ADD to SHR
-    (choose (leb opcode «OP_SHR») (F.threeRegisters raw)
-    (choose (eqb opcode «OP_MMBINI») (F.mmbini pc raw)
+    (choose (leb opcode op.«OP_SHR») (F.threeRegisters raw)
+    (choose (eqb opcode op.«OP_MMBINI») (F.mmbini pc raw)
     -- MMBIN, MMBINK
-    (choose (leb opcode «OP_MMBINK») (F.mmbin pc raw)
+    (choose (leb opcode op.«OP_MMBINK») (F.mmbin pc raw)
     -- UNM, BNOT, NOT, LEN
-    (choose (leb opcode «OP_LEN») (F.unary raw)
+    (choose (leb opcode op.«OP_LEN») (F.unary raw)
     -- CONCAT
     (F.concat raw)))))))
 
 -- CLOSE to TESTSET
 unfoldable pub control : ℕ → ℕ → RawInstruction54 → ℕ → Body
 control pc word raw opcode =
-    choose (eqb opcode «OP_CLOSE») (F.close raw)
-    (choose (eqb opcode «OP_TBC») (F.tbc raw)
-    (choose (eqb opcode «OP_JMP») (F.jmp raw (jmpTarget pc word))
+    choose (eqb opcode op.«OP_CLOSE») (F.close raw)
+    (choose (eqb opcode op.«OP_TBC») (F.tbc raw)
+    (choose (eqb opcode op.«OP_JMP») (F.jmp raw (jmpTarget pc word))
     -- EQ, LT, LE, EQK
-    (choose (leb opcode «OP_EQK») (F.bare (ConditionalSkip (pc + 2)))
+    (choose (leb opcode op.«OP_EQK») (F.bare (ConditionalSkip (pc + 2)))
     -- EQI, LTI, LEI, GTI, GEI
-    (choose (leb opcode «OP_GEI») (F.testImmediate raw (pc + 2))
+    (choose (leb opcode op.«OP_GEI») (F.testImmediate raw (pc + 2))
     -- TEST, TESTSET
     (F.bare (ConditionalSkip (pc + 2)))))))
 
 -- CALL to EXTRAARG, and unknown opcodes: "then operands, effects, fallback, target and companion are empty"
 unfoldable pub calls : ℕ → ℕ → RawInstruction54 → ℕ → Body
 calls pc word raw opcode =
-    choose (eqb opcode «OP_CALL») (F.call raw)
-    (choose (eqb opcode «OP_TAILCALL») (F.tailcall raw)
-    (choose (eqb opcode «OP_RETURN») (F.return raw)
-    (choose (eqb opcode «OP_RETURN0») (F.bare NoEffect)
-    (choose (eqb opcode «OP_RETURN1») (F.return1 raw)
-    (choose (eqb opcode «OP_FORLOOP») (back pc word raw)
-    (choose (eqb opcode «OP_FORPREP») (ahead pc word raw)
-    (choose (eqb opcode «OP_TFORPREP») (ahead pc word raw)
-    (choose (eqb opcode «OP_TFORCALL») (F.tforcall raw)
-    (choose (eqb opcode «OP_TFORLOOP») (back pc word raw)
-    (choose (eqb opcode «OP_SETLIST») (F.setlist raw)
-    (choose (eqb opcode «OP_CLOSURE») (F.closure raw)
-    (choose (eqb opcode «OP_VARARG») (F.vararg raw)
-    (choose (eqb opcode «OP_VARARGPREP») (F.varargprep raw)
-    (choose (eqb opcode «OP_EXTRAARG») (F.extraarg raw)
+    choose (eqb opcode op.«OP_CALL») (F.call raw)
+    (choose (eqb opcode op.«OP_TAILCALL») (F.tailcall raw)
+    (choose (eqb opcode op.«OP_RETURN») (F.return raw)
+    (choose (eqb opcode op.«OP_RETURN0») (F.bare NoEffect)
+    (choose (eqb opcode op.«OP_RETURN1») (F.return1 raw)
+    (choose (eqb opcode op.«OP_FORLOOP») (back pc word raw)
+    (choose (eqb opcode op.«OP_FORPREP») (ahead pc word raw)
+    (choose (eqb opcode op.«OP_TFORPREP») (ahead pc word raw)
+    (choose (eqb opcode op.«OP_TFORCALL») (F.tforcall raw)
+    (choose (eqb opcode op.«OP_TFORLOOP») (back pc word raw)
+    (choose (eqb opcode op.«OP_SETLIST») (F.setlist raw)
+    (choose (eqb opcode op.«OP_CLOSURE») (F.closure raw)
+    (choose (eqb opcode op.«OP_VARARG») (F.vararg raw)
+    (choose (eqb opcode op.«OP_VARARGPREP») (F.varargprep raw)
+    (choose (eqb opcode op.«OP_EXTRAARG») (F.extraarg raw)
     -- unknown
     (F.bare NoEffect)))))))))))))))
 
 unfoldable pub bodyOf : List ℕ → List ℕ → List ℕ → List ℕ → ℕ → ℕ → RawInstruction54 → ℕ → Body
 bodyOf words tags payloads names pc word raw opcode =
-    choose (leb opcode «OP_LOADNIL») (loads words tags payloads pc raw opcode)
-    (choose (leb opcode «OP_SELF») (tables tags payloads names raw opcode)
-    (choose (leb opcode «OP_CONCAT») (arithmetic tags payloads pc raw opcode)
-    (choose (leb opcode «OP_TESTSET») (control pc word raw opcode) (calls pc word raw opcode))))
+    choose (leb opcode op.«OP_LOADNIL») (loads words tags payloads pc raw opcode)
+    (choose (leb opcode op.«OP_SELF») (tables tags payloads names raw opcode)
+    (choose (leb opcode op.«OP_CONCAT») (arithmetic tags payloads pc raw opcode)
+    (choose (leb opcode op.«OP_TESTSET») (control pc word raw opcode) (calls pc word raw opcode))))
 
 -- What stands beside the arms
 
@@ -157,19 +159,20 @@ fallbackBy noFallback c = NoFallback
 unfoldable pub before : ℕ → OptionalPc
 before pc = choose (eqb pc 0) NoPc (Pc (pc - 1))
 
--- the word that lifter.rs names as a record's companion: the EXTRAARG that LOADKX takes, there or not; the word before 46 to 48 and EXTRAARG;
--- and no other opcode has one (NEWTABLE's EXTRAARG is "unmentioned"). What lvm.c wants beside a word is another matter: it stands in the opcode
--- table, and no record takes it from there.
+-- the word that lifter.rs names as a record's companion: the EXTRAARG that LOADKX takes, there or
+-- not; the word before 46 to 48 and EXTRAARG; and no other opcode has one (NEWTABLE's EXTRAARG is
+-- "unmentioned"). What lvm.c wants beside a word is another matter: it stands in the opcode table, and no
+-- record takes it from there.
 unfoldable pub companionPc : ℕ → ℕ → OptionalPc
 companionPc opcode pc =
-    choose (eqb opcode «OP_LOADKX») (Pc (pc + 1))
-    (choose (eqb opcode «OP_MMBIN») (before pc)
-    (choose (eqb opcode «OP_MMBINI») (before pc)
-    (choose (eqb opcode «OP_MMBINK») (before pc) (choose (eqb opcode «OP_EXTRAARG») (before pc) NoPc))))
+    choose (eqb opcode op.«OP_LOADKX») (Pc (pc + 1))
+    (choose (eqb opcode op.«OP_MMBIN») (before pc)
+    (choose (eqb opcode op.«OP_MMBINI») (before pc)
+    (choose (eqb opcode op.«OP_MMBINK») (before pc) (choose (eqb opcode op.«OP_EXTRAARG») (before pc) NoPc))))
 
 -- "Confidence is Unverified exactly for opcodes above 82"
 unfoldable pub confidenceOf : ℕ → Confidence
-confidenceOf opcode = choose (leb opcode «OP_EXTRAARG») Reviewed Unverified
+confidenceOf opcode = choose (leb opcode op.«OP_EXTRAARG») Reviewed Unverified
 
 -- The record
 

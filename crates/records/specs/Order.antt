@@ -1,6 +1,7 @@
--- "Checks run in this order", of lifting: which condition gives which of 1 to 6 exactly, with those before it not
--- holding, and which place, by document 01's own numbers. Two of them in another order, another limit, another tag or
--- another place, in definition and code alike, is refused here. proofs/Order.antt proves it for any lengths and lists.
+-- "Checks run in this order", of lifting: which condition gives which of 1 to 6 exactly, with those before
+-- it not holding, and which place, by document 01's own numbers. Two of them in another order, another limit,
+-- another tag or another place, in definition and code alike, is refused here. proofs/Order.antt proves it
+-- for any lengths and lists.
 -- Assumes nothing.
 use mathlib.Core.Path.{_≡_}
 use mathlib.Core.Logic.{_↔_, _⊎_}

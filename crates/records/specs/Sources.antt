@@ -1,4 +1,5 @@
--- Where what a record says comes from: a constant, an upvalue's name and a float are those of the lent tables and of the word itself.
+-- Where what a record says comes from: a constant, an upvalue's name and a float are those of the lent
+-- tables and of the word itself.
 -- Assumes nothing.
 use Prim.Native.Nat.{ℕ}
 use mathlib.Core.Path.{_≡_}

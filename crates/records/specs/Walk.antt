@@ -1,5 +1,5 @@
--- Document 01: "Records, too, go into the caller's own list of records", one per word. The caller's list after lift_proto_lua54, and
--- what it says of each element.
+-- Document 01: "Records, too, go into the caller's own list of records", one per word. The caller's list
+-- after lift_proto_lua54, and what it says of each element.
 -- Assumes nothing.
 use Prim.Native.Nat.{ℕ, zero, suc, _<_, _≤_}
 use mathlib.Core.Path.{_≡_}
@@ -22,17 +22,22 @@ use Rattle.records.specs.Lift.{liftOf}
 use Rattle.records.specs.Refusals.{answerOf, planOf}
 
 -- the records of the first n words, in the first n places of a list
-abbrev pub filled : List ℕ → List ℕ → List ℕ → List ℕ → ℕ → List SemanticInstruction → List SemanticInstruction
+abbrev pub filled : List ℕ → List ℕ → List ℕ → List ℕ → ℕ → List SemanticInstruction
+    → List SemanticInstruction
 filled words tags payloads names zero records = records
-filled words tags payloads names (suc pc) records = set (filled words tags payloads names pc records) pc (liftOf words tags payloads names pc)
+filled words tags payloads names (suc pc) records =
+    set (filled words tags payloads names pc records) pc (liftOf words tags payloads names pc)
 
 -- the caller's records afterwards, as many as the plan says
-abbrev pub recordsAfter : List ℕ → List ℕ → List ℕ → List ℕ → ℕ → List SemanticInstruction → List SemanticInstruction
+abbrev pub recordsAfter : List ℕ → List ℕ → List ℕ → List ℕ → ℕ → List SemanticInstruction
+    → List SemanticInstruction
 recordsAfter words tags payloads names bytes records =
-    filled words tags payloads names (planOf (length words) tags payloads names bytes (length records) .count) records
+    filled words tags payloads names
+    (planOf (length words) tags payloads names bytes (length records) .count) records
 
 -- What that list is, element by element: `d` stands for what is read past its end.
-pub record ElementWise (words tags payloads names : List ℕ) (bytes : ℕ) (records : List SemanticInstruction) : Type 0 where
+pub record ElementWise (words tags payloads names : List ℕ) (bytes : ℕ)
+    (records : List SemanticInstruction) : Type 0 where
   -- no record is added or lost
   pub same-length : length (recordsAfter words tags payloads names bytes records) ≡ length records
   -- accepted: record i is the lift of word i, for i below n
@@ -51,7 +56,8 @@ pub record ElementWise (words tags payloads names : List ℕ) (bytes : ℕ) (rec
       eqb (answerOf (length words) tags payloads names bytes (length records) .number) «ACCEPTED» ≡ false
       → recordsAfter words tags payloads names bytes records ≡ records
 
--- The record of one word, by value: the answer of lifting with room for each word, and the record, where there is one.
+-- The record of one word, by value: the answer of lifting with room for each word, and the
+-- record, where there is one.
 
 -- what stands in place of a record that there is not
 unfoldable pub blankRecord : SemanticInstruction
@@ -79,10 +85,12 @@ liftedBy plan pc instruction =
 
 abbrev pub liftedOf : List ℕ → List ℕ → List ℕ → List ℕ → ℕ → ℕ → Lifted
 liftedOf words tags payloads names bytes pc =
-    liftedBy (planOf (length words) tags payloads names bytes (length words)) pc (liftOf words tags payloads names pc)
+    liftedBy (planOf (length words) tags payloads names bytes (length words)) pc
+    (liftOf words tags payloads names pc)
 
--- The record of one word, by value, with no answer: for a caller that has made the plan once for all words, and then asks for the words
--- below its count. Past 32,768 words, or past the words, there is none.
+-- The record of one word, by value, with no answer: for a caller that has made the plan once for all words,
+-- and then asks for the words below its count. Past 32,768 words, or past the words, there is none.
 unfoldable pub recordOrBlank : List ℕ → List ℕ → List ℕ → List ℕ → ℕ → SemanticInstruction
 recordOrBlank words tags payloads names pc =
-    choose (ltb mostWords (length words)) blankRecord (choose (ltb pc (length words)) (liftOf words tags payloads names pc) blankRecord)
+    choose (ltb mostWords (length words)) blankRecord
+    (choose (ltb pc (length words)) (liftOf words tags payloads names pc) blankRecord)

@@ -2,7 +2,18 @@
 ghost use mathlib.Core.Path.{_≡_};
 ghost use Prim.Native.Nat.{_<_};
 ghost use Rattle.common.specs.Limits.{mostWords};
-ghost use Rattle.records.specs.Lift.{extendedIndex, jmpTarget, ahead, back, loads, tables, arithmetic, control, calls, bodyOf};
+ghost use Rattle.records.specs.Lift.{
+  extendedIndex,
+  jmpTarget,
+  ahead,
+  back,
+  loads,
+  tables,
+  arithmetic,
+  control,
+  calls,
+  bodyOf,
+};
 use families::arithmetic::*;
 use families::builders::Body;
 use families::calls::*;
@@ -41,7 +52,8 @@ fn extended_index(words: &[u32], pc: usize) -> usize
     }
 }
 
-// The target is worked out in numbers that are not negative: what it would be less the offset, and if that is below 0, 2^64 more.
+// The target is worked out in numbers that are not negative: what it would be less the offset, and if
+// that is below 0, 2^64 more.
 fn jmp_target(pc: usize, word: u32) -> usize
     requires { ⌜ pc < mostWords ⌝ }
     ensures { λ r. ⌜ r ≡ jmpTarget pc word ⌝ }
@@ -80,7 +92,8 @@ fn lift_loads(
     opcode: u8,
 ) -> Body
     requires { ⌜ pc < mostWords ⌝ }
-    ensures { λ r. ⌜ r ≡ loads (now (words .entry)) (now (tags .entry)) (now (payloads .entry)) pc raw opcode ⌝ }
+    ensures { λ r. ⌜
+        r ≡ loads (now (words .entry)) (now (tags .entry)) (now (payloads .entry)) pc raw opcode ⌝ }
 {
     match opcode {
         OP_MOVE => lift_unary(raw),
@@ -129,7 +142,8 @@ fn lift_tables(
     raw: RawInstruction54,
     opcode: u8,
 ) -> Body
-    ensures { λ r. ⌜ r ≡ tables (now (tags .entry)) (now (payloads .entry)) (now (names .entry)) raw opcode ⌝ }
+    ensures { λ r. ⌜
+        r ≡ tables (now (tags .entry)) (now (payloads .entry)) (now (names .entry)) raw opcode ⌝ }
 {
     match opcode {
         OP_GETUPVAL => lift_getupval(names, raw),
@@ -233,7 +247,8 @@ pub(crate) fn lift_body(
     opcode: u8,
 ) -> Body
     requires { ⌜ pc < mostWords ⌝ }
-    ensures { λ r. ⌜ r ≡ bodyOf (now (words .entry)) (now (tags .entry)) (now (payloads .entry)) (now (names .entry)) pc word raw opcode ⌝ }
+    ensures { λ r. ⌜ r ≡ bodyOf (now (words .entry)) (now (tags .entry)) (now (payloads .entry))
+        (now (names .entry)) pc word raw opcode ⌝ }
 {
     if opcode <= OP_LOADNIL {
         lift_loads(words, tags, payloads, pc, raw, opcode)

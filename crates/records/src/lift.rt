@@ -24,7 +24,8 @@ use values::ir::ImplicitEffect;
 use values::ir::OptionalPc;
 use values::ir::SemanticInstruction;
 
-// A record by value, and the answer: an enum cannot hold the arrays of a record, so a flag says whether there is one.
+// A record by value, and the answer: an enum cannot hold the arrays of a record, so a flag
+// says whether there is one.
 pub struct Lifted {
     pub answer: Answer,
     pub present: bool,
@@ -86,7 +87,8 @@ pub(crate) fn lift_at<'a>(
     pc: usize,
 ) -> SemanticInstruction
     requires { ⌜ (pc < length (now words)) × (length (now words) ≤ mostWords) ⌝ }
-    ensures { λ r. ⌜ r ≡ liftOf (now (words .entry)) (now (tags .entry)) (now (payloads .entry)) (now (names .entry)) pc ⌝ }
+    ensures { λ r. ⌜ r ≡ liftOf (now (words .entry)) (now (tags .entry)) (now (payloads .entry))
+        (now (names .entry)) pc ⌝ }
 {
     let raw_word = words[pc];
     let raw = decode(raw_word);
@@ -139,7 +141,8 @@ pub fn lift_word<'a>(
     bytes: &'a [u8],
     pc: usize,
 ) -> Lifted
-    ensures { λ r. ⌜ r ≡ liftedOf (now (words .entry)) (now (tags .entry)) (now (payloads .entry)) (now (names .entry)) (length (now (bytes .entry))) pc ⌝ }
+    ensures { λ r. ⌜ r ≡ liftedOf (now (words .entry)) (now (tags .entry)) (now (payloads .entry))
+        (now (names .entry)) (length (now (bytes .entry))) pc ⌝ }
 {
     let plan = planned(words, tags, payloads, names, bytes, words.len());
     let answer = plan.answer;
@@ -159,7 +162,8 @@ pub fn lift_word<'a>(
     }
 }
 
-// One record by value, for a caller that has made the plan once for all words: the tables need no check to be read.
+// One record by value, for a caller that has made the plan once for all words: the tables
+// need no check to be read.
 pub fn record_or_blank<'a>(
     words: &'a [u32],
     tags: &'a [u8],
@@ -167,7 +171,8 @@ pub fn record_or_blank<'a>(
     names: &'a [u64],
     pc: usize,
 ) -> SemanticInstruction
-    ensures { λ r. ⌜ r ≡ recordOrBlank (now (words .entry)) (now (tags .entry)) (now (payloads .entry)) (now (names .entry)) pc ⌝ }
+    ensures { λ r. ⌜ r ≡ recordOrBlank (now (words .entry)) (now (tags .entry)) (now (payloads .entry))
+        (now (names .entry)) pc ⌝ }
 {
     if MOST_WORDS < words.len() {
         return blank_record();

@@ -97,7 +97,8 @@ fn check(
     bytes: usize,
     room: usize,
 ) -> Answer
-    ensures { λ r. ⌜ r ≡ answerOf n (now (tags .entry)) (now (payloads .entry)) (now (names .entry)) bytes room ⌝ }
+    ensures { λ r. ⌜
+        r ≡ answerOf n (now (tags .entry)) (now (payloads .entry)) (now (names .entry)) bytes room ⌝ }
 {
     if MOST_WORDS < n {
         return refuse(TOO_MANY_WORDS, 0);
@@ -141,7 +142,8 @@ pub fn planned<'a>(
     bytes: &'a [u8],
     room: usize,
 ) -> Plan
-    ensures { λ r. ⌜ r ≡ planOf (length (now (words .entry))) (now (tags .entry)) (now (payloads .entry)) (now (names .entry)) (length (now (bytes .entry))) room ⌝ }
+    ensures { λ r. ⌜ r ≡ planOf (length (now (words .entry))) (now (tags .entry)) (now (payloads .entry))
+        (now (names .entry)) (length (now (bytes .entry))) room ⌝ }
 {
     let answer = check(words.len(), tags, payloads, names, bytes.len(), room);
     let number = answer.number;

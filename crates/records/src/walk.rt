@@ -17,8 +17,10 @@ pub fn lift_proto_lua54<'a, 'b>(
     bytes: &'a [u8],
     records: &'b mut [SemanticInstruction],
 ) -> Answer
-    ensures { λ r. ⌜ (r ≡ planOf (length (now (words .entry))) (now (tags .entry)) (now (payloads .entry)) (now (names .entry)) (length (now (bytes .entry))) (length (now (records .entry))) .answer)
-        × (now (records .exit) ≡ recordsAfter (now (words .entry)) (now (tags .entry)) (now (payloads .entry)) (now (names .entry)) (length (now (bytes .entry))) (now (records .entry))) ⌝ }
+    ensures { λ r. ⌜ (r ≡ planOf (length (now (words .entry))) (now (tags .entry)) (now (payloads .entry))
+        (now (names .entry)) (length (now (bytes .entry))) (length (now (records .entry))) .answer)
+        × (now (records .exit) ≡ recordsAfter (now (words .entry)) (now (tags .entry)) (now (payloads .entry))
+        (now (names .entry)) (length (now (bytes .entry))) (now (records .entry))) ⌝ }
 {
     let plan = planned(words, tags, payloads, names, bytes, records.len());
     let n = plan.count;

@@ -1,6 +1,6 @@
--- Request C-21, "Acceptance is tried .., lowest script first, in one pair of work slices, which keep what the last run
--- tried left" and "whatever the longest run gives for the lowest script it refuses": what `acceptance` comes to, of at
--- most four scripts. Every run tried has slices of the lengths that were lent.
+-- Request C-21, "Acceptance is tried .., lowest script first, in one pair of work slices, which keep what
+-- the last run tried left" and "whatever the longest run gives for the lowest script it refuses": what
+-- `acceptance` comes to, of at most four scripts. Every run tried has slices of the lengths that were lent.
 -- Assumes nothing.
 use mathlib.Core.Path.{_≡_}
 use mathlib.Core.Logic.{_⊎_}
@@ -33,8 +33,8 @@ module _ (w0 w1 w2 w3 : List ℕ) (k : ℕ) (marks lengths : List ℕ) where
   abbrev pub leftBelow : ℕ → Tried
   leftBelow i = acceptance w0 w1 w2 w3 i marks lengths
 
-  -- script i is the last that is tried: all below it were accepted, and it is refused or there is none after it. What
-  -- the slices hold is what its run leaves of what the runs below it left
+  -- script i is the last that is tried: all below it were accepted, and it is refused or there is none after
+  -- it. What the slices hold is what its run leaves of what the runs below it left
   pub record LastTried (marks-now lengths-now : List ℕ) : Type 0 where
     pub script : ℕ
     pub known : script < k

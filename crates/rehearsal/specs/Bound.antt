@@ -1,5 +1,5 @@
--- Document 02, C-21: "with k scripts no wait between two turns of an unfinished script exceeds (k - 1) times q".
--- proofs/Bound.antt proves it for any graphs, any choices and any number of words.
+-- Document 02, C-21: "with k scripts no wait between two turns of an unfinished script exceeds (k - 1) times
+-- q". proofs/Bound.antt proves it for any graphs, any choices and any number of words.
 -- Assumes nothing.
 use mathlib.Core.List.{List, [], _∷_}
 use Prim.Native.Nat.{ℕ, _*_, _-_, _≤_}

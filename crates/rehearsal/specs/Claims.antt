@@ -1,5 +1,5 @@
--- Request C-21: what is claimed of the answer that `rehearse` gives, a field for each sentence. proofs/Claims.antt
--- proves `Claims` of all inputs.
+-- Request C-21: what is claimed of the answer that `rehearse` gives, a field for each sentence.
+-- proofs/Claims.antt proves `Claims` of all inputs.
 -- Assumes nothing.
 use mathlib.Core.Path.{_≡_}
 use mathlib.Core.Logic.{_↔_}
@@ -13,7 +13,18 @@ use Rattle.rehearsal.specs.Machine.{Event}
 use Rattle.rehearsal.specs.Waits.{longestWait, WaitIn, Waits, turnsOf}
 use Rattle.rehearsal.specs.Schedule.{Scheduled}
 use Rattle.rehearsal.specs.Paths.{OnPath, Proper}
-use Rattle.rehearsal.specs.Rehearse.{outOfRange, scriptAt, graphsOf, rehearsed, rehearseOf, marksLeft, lengthsLeft, numberOf, placeOf, waitOf}
+use Rattle.rehearsal.specs.Rehearse.{
+  outOfRange,
+  scriptAt,
+  graphsOf,
+  rehearsed,
+  rehearseOf,
+  marksLeft,
+  lengthsLeft,
+  numberOf,
+  placeOf,
+  waitOf,
+}
 use Rattle.rehearsal.specs.Accepting.{runNumber, LowestRefused, LastTried}
 
 -- "1 to 4 accepted scripts", "q from 1 to 1,000", "a lent list of 0s and 1s"
@@ -68,7 +79,8 @@ module _ (w0 w1 w2 w3 : List ℕ) (k q : ℕ) (choices : List ℕ) (limit : ℕ)
         × (lengthsLeft w0 w1 w2 w3 k q choices limit marks lengths ≡ lengths)
     -- "then whatever the longest run gives for the lowest script it refuses"
     pub lowest :
-        InRange k q choices → (numberOf (rehearseOf w0 w1 w2 w3 k q choices limit marks lengths) ≡ «ACCEPTED» → ⊥)
+        InRange k q choices
+        → (numberOf (rehearseOf w0 w1 w2 w3 k q choices limit marks lengths) ≡ «ACCEPTED» → ⊥)
         → LowestRefused w0 w1 w2 w3 k marks lengths
         (numberOf (rehearseOf w0 w1 w2 w3 k q choices limit marks lengths))
         (placeOf (rehearseOf w0 w1 w2 w3 k q choices limit marks lengths))

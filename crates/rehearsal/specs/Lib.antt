@@ -1,4 +1,5 @@
--- Over the longest run: scripts in rotation, what they run, how long each waits, and the whole outcome of a rehearsal.
+-- Over the longest run: scripts in rotation, what they run, how long each waits, and the
+-- whole outcome of a rehearsal.
 pub mod Machine
 pub mod Waits
 pub mod Schedule

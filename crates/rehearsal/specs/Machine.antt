@@ -1,5 +1,5 @@
--- Request C-21: a machine that runs scripts in rotation, one word at a step, over any graphs. Its trace is all that
--- it ran.
+-- Request C-21: a machine that runs scripts in rotation, one word at a step, over any graphs.
+-- Its trace is all that it ran.
 -- Assumes nothing.
 use mathlib.Core.Bool.{Bool, cond, _||_}
 use mathlib.Core.List.{List, [], _∷_, _++_}
@@ -18,8 +18,8 @@ pub record Event : Type 0 where
   pub nth : ℕ
 
 pub record State : Type 0 where
-  -- "in rotation, the first given first, finished ones passed over": the scripts that have not returned, each with
-  -- the word it is at. The first has the turn; after it, it goes to the end
+  -- "in rotation, the first given first, finished ones passed over": the scripts that have not returned, each
+  -- with the word it is at. The first has the turn; after it, it goes to the end
   pub queue : List Task
   -- words of this turn that have run
   pub used : ℕ
@@ -33,8 +33,8 @@ pub data Step : Type 0 where
 abbrev pub taskAt : ℕ → ℕ → Task
 taskAt script word = record { script = script; word = word }
 
--- "A lent list of 0s and 1s chooses the lower or higher step at words with two." A return has no step. "A word runs
--- with its choice, so without one it has not run"
+-- "A lent list of 0s and 1s chooses the lower or higher step at words with two." A return has no step.
+-- "A word runs with its choice, so without one it has not run"
 abbrev pub moveOf : List ℕ → ℕ → List ℕ → Move
 moveOf choices taken [] = Return
 moveOf choices taken (a ∷ []) = Go a taken
@@ -50,7 +50,8 @@ module _ (graphs : ℕ → Graph) (q : ℕ) (choices : List ℕ) where
   -- the word of t runs, or a choice is needed and none is left
   abbrev pub moved : Task → List Task → ℕ → ℕ → Move → Step
   moved t rest used taken Return =
-      ran (record { script = t .script; word = t .word; nth = used }) (record { queue = rest; used = 0; taken = taken })
+      ran (record { script = t .script; word = t .word; nth = used })
+      (record { queue = rest; used = 0; taken = taken })
   moved t rest used taken Starve = halt
   moved t rest used taken (Go to at) =
       ran
@@ -69,8 +70,8 @@ module _ (graphs : ℕ → Graph) (q : ℕ) (choices : List ℕ) where
   followed halt more = []
   followed (ran e s) more = e ∷ more s
 
-  -- "The rehearsal stops when all have returned, a choice is needed and none is left, or a stated number of words ..
-  -- is used."
+  -- "The rehearsal stops when all have returned, a choice is needed and none is left, or a stated
+  -- number of words .. is used."
   unfoldable pub trace : ℕ → State → List Event
   trace zero s = []
   trace (suc left) s = followed (stepFrom (s .queue) (s .used) (s .taken)) (trace left)

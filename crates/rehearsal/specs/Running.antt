@@ -28,7 +28,8 @@ turned g p taken ran (Go to at) on = cond (g .serves p to) (Over (ran + 1) to at
 unfoldable pub turnOf : Graph → List ℕ → ℕ → ℕ → ℕ → ℕ → Turn
 turnOf g choices zero p taken ran = Over ran p taken
 turnOf g choices (suc room) p taken ran =
-    turned g p taken ran (moveOf choices taken (g .successors p)) (λ to at. turnOf g choices room to at (ran + 1))
+    turned g p taken ran (moveOf choices taken (g .successors p))
+    (λ to at. turnOf g choices room to at (ran + 1))
 
 abbrev pub tallyAt : Tallies → ℕ → Tally
 tallyAt b i = cond (eqb i 0) (b .first) (cond (eqb i 1) (b .second) (cond (eqb i 2) (b .third) (b .fourth)))
@@ -100,7 +101,8 @@ staged st (Over n p at) =
 
 module _ (graphs : ℕ → Graph) (q : ℕ) (choices : List ℕ) where
   abbrev pub firstTurn : Stage → Turn
-  firstTurn st = turnOf (graphs (st .queue .a .script)) choices (min q (st .left)) (st .queue .a .word) (st .taken) 0
+  firstTurn st =
+      turnOf (graphs (st .queue .a .script)) choices (min q (st .left)) (st .queue .a .word) (st .taken) 0
 
   unfoldable pub nextStage : Stage → Stage
   nextStage st = staged st (firstTurn st)
@@ -114,7 +116,12 @@ startStage k limit =
     record {
       queue = record { size = k; a = taskAt 0 0; b = taskAt 1 0; c = taskAt 2 0; d = taskAt 3 0 };
       tallies =
-          record { first = newTally limit; second = newTally limit; third = newTally limit; fourth = newTally limit };
+          record {
+            first = newTally limit;
+            second = newTally limit;
+            third = newTally limit;
+            fourth = newTally limit;
+          };
       left = limit;
       taken = 0;
     }

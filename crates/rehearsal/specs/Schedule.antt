@@ -1,6 +1,6 @@
--- Request C-21, "in rotation, the first given first, finished ones passed over ..": what a trace is, a sentence at a
--- time, told by its events alone, with no queue. proofs/Schedule.antt proves `Scheduled` of every trace of the
--- machine, over any graphs, choices and limit.
+-- Request C-21, "in rotation, the first given first, finished ones passed over ..": what a trace is, a
+-- sentence at a time, told by its events alone, with no queue. proofs/Schedule.antt proves `Scheduled` of
+-- every trace of the machine, over any graphs, choices and limit.
 -- Assumes nothing.
 use mathlib.Core.Path.{_≡_}
 use mathlib.Core.Logic.{_⊎_}
@@ -40,8 +40,8 @@ module _ (graphs : ℕ → Graph) (k q : ℕ) (choices : List ℕ) (limit : ℕ)
   Returned j [] = ⊥
   Returned j (e ∷ before) = ((e .script ≡ j) × (stepsOf e ≡ [])) ⊎ Returned j before
 
-  -- where a word with these steps leads, so many choices being used up: "A lent list of 0s and 1s chooses the lower
-  -- or higher step at words with two"
+  -- where a word with these steps leads, so many choices being used up: "A lent list of 0s and 1s chooses the
+  -- lower or higher step at words with two"
   abbrev pub LeadsTo : List ℕ → ℕ → ℕ → Type 0
   LeadsTo [] used to = ⊥
   LeadsTo (a ∷ []) used to = to ≡ a
@@ -103,8 +103,8 @@ module _ (graphs : ℕ → Graph) (k q : ℕ) (choices : List ℕ) (limit : ℕ)
     pub needs : needed (stepsOf event) ≡ 1
     pub none : usedUp before ≡ length choices
 
-  -- "The rehearsal stops when all have returned, a choice is needed and none is left, or a stated number of words ..
-  -- is used"
+  -- "The rehearsal stops when all have returned, a choice is needed and none is left, or a stated
+  -- number of words .. is used"
   abbrev pub Stops : List Event → Type 0
   Stops before = ((j : ℕ) → j < k → Returned j before) ⊎ (Starves before ⊎ (length before ≡ limit))
 

@@ -61,9 +61,15 @@ pub extern "C" fn lawendeb_rehearse(
     marks: &mut [u8],
     lengths: &mut [u32],
 ) -> FlatRehearsal
-    ensures { λ r. ⌜ r ≡ flatRehearsal (rehearseOf (now (w0 .entry)) (now (w1 .entry)) (now (w2 .entry)) (now (w3 .entry)) count quantum (now (choices .entry)) limit (now (marks .entry)) (now (lengths .entry))) ⌝ }
-    ensures { λ _. ⌜ now (marks .exit) ≡ marksLeft (now (w0 .entry)) (now (w1 .entry)) (now (w2 .entry)) (now (w3 .entry)) count quantum (now (choices .entry)) limit (now (marks .entry)) (now (lengths .entry)) ⌝ }
-    ensures { λ _. ⌜ now (lengths .exit) ≡ lengthsLeft (now (w0 .entry)) (now (w1 .entry)) (now (w2 .entry)) (now (w3 .entry)) count quantum (now (choices .entry)) limit (now (marks .entry)) (now (lengths .entry)) ⌝ }
+    ensures { λ r. ⌜
+        r ≡ flatRehearsal (rehearseOf (now (w0 .entry)) (now (w1 .entry)) (now (w2 .entry)) (now (w3 .entry))
+        count quantum (now (choices .entry)) limit (now (marks .entry)) (now (lengths .entry))) ⌝ }
+    ensures { λ _. ⌜ now (marks .exit)
+        ≡ marksLeft (now (w0 .entry)) (now (w1 .entry)) (now (w2 .entry)) (now (w3 .entry)) count quantum
+        (now (choices .entry)) limit (now (marks .entry)) (now (lengths .entry)) ⌝ }
+    ensures { λ _. ⌜ now (lengths .exit)
+        ≡ lengthsLeft (now (w0 .entry)) (now (w1 .entry)) (now (w2 .entry)) (now (w3 .entry)) count quantum
+        (now (choices .entry)) limit (now (marks .entry)) (now (lengths .entry)) ⌝ }
 {
     flat_rehearsal(rehearse(
         w0,

@@ -1,5 +1,5 @@
-// What a rehearsal is made of: a script in the ready queue, what becomes of a word, what a turn comes to, and the
-// running numbers.
+// What a rehearsal is made of: a script in the ready queue, what becomes of a word, what a turn comes
+// to, and the running numbers.
 
 // A script that has not returned, and the word it is at.
 pub struct Task {
@@ -27,9 +27,9 @@ pub enum Turn {
     Starved(u32),
 }
 
-// The running numbers of a script: 1 if it had a turn, else 0; the words that were left when its last one ended; and its
-// longest wait. A wait is then the difference of two numbers of words left, so that a turn touches its own script's
-// numbers only.
+// The running numbers of a script: 1 if it had a turn, else 0; the words that were left when its last one
+// ended; and its longest wait. A wait is then the difference of two numbers of words left, so that a turn
+// touches its own script's numbers only.
 pub struct Tally {
     pub turned: u32,
     pub ended: u32,

@@ -21,9 +21,14 @@ pub fn rehearse(
     marks: &mut [u8],
     lengths: &mut [u32],
 ) -> Rehearsal
-    ensures { λ r. ⌜ r ≡ rehearseOf (now (w0 .entry)) (now (w1 .entry)) (now (w2 .entry)) (now (w3 .entry)) count quantum (now (choices .entry)) limit (now (marks .entry)) (now (lengths .entry)) ⌝ }
-    ensures { λ _. ⌜ now (marks .exit) ≡ marksLeft (now (w0 .entry)) (now (w1 .entry)) (now (w2 .entry)) (now (w3 .entry)) count quantum (now (choices .entry)) limit (now (marks .entry)) (now (lengths .entry)) ⌝ }
-    ensures { λ _. ⌜ now (lengths .exit) ≡ lengthsLeft (now (w0 .entry)) (now (w1 .entry)) (now (w2 .entry)) (now (w3 .entry)) count quantum (now (choices .entry)) limit (now (marks .entry)) (now (lengths .entry)) ⌝ }
+    ensures { λ r. ⌜ r ≡ rehearseOf (now (w0 .entry)) (now (w1 .entry)) (now (w2 .entry)) (now (w3 .entry))
+        count quantum (now (choices .entry)) limit (now (marks .entry)) (now (lengths .entry)) ⌝ }
+    ensures { λ _. ⌜ now (marks .exit)
+        ≡ marksLeft (now (w0 .entry)) (now (w1 .entry)) (now (w2 .entry)) (now (w3 .entry)) count quantum
+        (now (choices .entry)) limit (now (marks .entry)) (now (lengths .entry)) ⌝ }
+    ensures { λ _. ⌜ now (lengths .exit)
+        ≡ lengthsLeft (now (w0 .entry)) (now (w1 .entry)) (now (w2 .entry)) (now (w3 .entry)) count quantum
+        (now (choices .entry)) limit (now (marks .entry)) (now (lengths .entry)) ⌝ }
 {
     if out_of_range(count, quantum, choices) {
         return Rehearsal::Refused {

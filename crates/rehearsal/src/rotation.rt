@@ -76,7 +76,8 @@ fn next_turn(
     st: Stage,
 ) -> Stage
     requires { ⌜ Fine st × (0 < st .left) ⌝ }
-    ensures { λ r. ⌜ r ≡ nextStage (graphsOf (now (w0 .entry)) (now (w1 .entry)) (now (w2 .entry)) (now (w3 .entry))) quantum (now (choices .entry)) st ⌝ }
+    ensures { λ r. ⌜ r ≡ nextStage (graphsOf (now (w0 .entry)) (now (w1 .entry)) (now (w2 .entry))
+        (now (w3 .entry))) quantum (now (choices .entry)) st ⌝ }
 {
     let queue = st.queue;
     let tallies = st.tallies;
@@ -187,7 +188,8 @@ pub(crate) fn play(
     limit: u32,
 ) -> Tallies
     requires { ⌜ (0 < count) × (count ≤ 4) × (0 < quantum) ⌝ }
-    ensures { λ r. ⌜ ((i : ℕ) → i < 4 → tallyAt r i .longest ≡ longestWait i (rehearsed (now (w0 .entry)) (now (w1 .entry)) (now (w2 .entry)) (now (w3 .entry)) count quantum (now (choices .entry)) limit)) ⌝ }
+    ensures { λ r. ⌜ ((i : ℕ) → i < 4 → tallyAt r i .longest ≡ longestWait i (rehearsed (now (w0 .entry))
+        (now (w1 .entry)) (now (w2 .entry)) (now (w3 .entry)) count quantum (now (choices .entry)) limit)) ⌝ }
 {
     let mut st = start(count, limit);
     while 0 < st.left {

@@ -14,15 +14,15 @@ use Rattle.fields.specs.Word53.{opcodeOf, aOf, cOf, sbxOf}
 use Rattle.fields.specs.Table53.{StepClass, following, returning, branching, comparing, skipping, skippingIfC, skippingUnlessC, jumping, looping, invalid, classNumber, classOf, Companion, alone, jumpAfter, extraAfter, extraAfterUnlessC, loopAfter, companionOf}
 use Rattle.fields.specs.Laws.{all}
 use Rattle.fields.proofs.Laws.{laws}
-use Rattle.runs.specs.declared.edges.Successors.{Successors}
-use Rattle.runs.specs.declared.edges.Successors.the-variants.{Invalid}
+use Rattle.sweep.specs.declared.edges.Successors.{Successors}
+use Rattle.sweep.specs.declared.edges.Successors.the-variants.{Invalid}
 use Rattle.runs.specs.Columns53.{classFrom}
-use Rattle.runs.specs.Steps.{unless, isInvalid, listOf}
+use Rattle.sweep.specs.Steps.{unless, isInvalid, listOf}
 use Rattle.runs.specs.Successors53.{opcodeAt, nextOf, standsAt, companionPresent, successorsOf}
 use Rattle.runs.specs.Ways.{integers}
 use Rattle.runs.specs.Bad53.{opcode, aboveOne, zeroC, sbx, between, nextIs, returns, skips, jumps, loops, tests, nextWords, anyOutside, unknown, lacksJump, lacksExtra, lacksLoop, isBad, ByNumber}
 use Rattle.runs.proofs.Columns53.{class-back}
-use Rattle.runs.proofs.Steps.{let-through}
+use Rattle.sweep.proofs.Steps.{let-through}
 use Rattle.runs.proofs.NextWords.{Same, itself, one-by, two-same}
 use Rattle.runs.proofs.ByNumber.{both, either, agreed, stepsTo, nothing, one-outside, two-outside, refused, let-on}
 

@@ -12,16 +12,16 @@ use Rattle.fields.specs.Word.{opcodeOf, kOf, bxOf, sjOf}
 use Rattle.fields.specs.Table.{StepClass, following, returning, branching, skipping, skippingIfK, jumping, looping, preparing, entering, invalid, classNumber, classOf, Companion, alone, metamethodAfter, arithmeticBefore, jumpAfter, extraAfter, extraAfterIfK, callAtTarget, loopAfter, companionNumber, companionOf}
 use Rattle.fields.specs.Laws.{all}
 use Rattle.fields.proofs.Laws.{laws}
-use Rattle.runs.specs.declared.edges.Successors.{Successors}
-use Rattle.runs.specs.declared.edges.Successors.the-variants.{Invalid}
+use Rattle.sweep.specs.declared.edges.Successors.{Successors}
+use Rattle.sweep.specs.declared.edges.Successors.the-variants.{Invalid}
 use Rattle.runs.specs.Columns.{classFrom, companionFrom}
-use Rattle.runs.specs.Steps.{unless, isInvalid, listOf}
+use Rattle.sweep.specs.Steps.{unless, isInvalid, listOf}
 use Rattle.runs.specs.Successors.{opcodeAt, isBetween, nextOf, standsAt, companionPresent, successorsOf}
 use Rattle.runs.specs.Ways.{integers}
 use Rattle.runs.specs.Bad53.{between, anyOutside}
 use Rattle.runs.specs.Bad54.{opcode, kIsOne, bx, sj, nextWords, isAt, is, lacks, isBad, ByNumber}
 use Rattle.runs.proofs.Columns.{class-back, companion-back}
-use Rattle.runs.proofs.Steps.{let-through}
+use Rattle.sweep.proofs.Steps.{let-through}
 use Rattle.runs.proofs.NextWords.{Same, itself, one-by, two-same}
 use Rattle.runs.proofs.ByNumber.{both, either, agreed, stepsTo, nothing, one-outside, two-outside, refused, let-on}
 

@@ -6,9 +6,9 @@ use mathlib.Core.Bool.{Bool, true, false, cond, not, _||_, Bool·beq, true≢fal
 use mathlib.Core.List.{List, [], _∷_}
 use lib.Dec.{T, ltb}
 use lib.IntN.{ℤ, pos, negsuc}
-use Rattle.runs.specs.declared.edges.Successors.{Successors}
-use Rattle.runs.specs.declared.edges.Successors.the-variants.{Invalid, Stop, One, Two}
-use Rattle.runs.specs.Steps.{unless, one, two, isInvalid, ordered}
+use Rattle.sweep.specs.declared.edges.Successors.{Successors}
+use Rattle.sweep.specs.declared.edges.Successors.the-variants.{Invalid, Stop, One, Two}
+use Rattle.sweep.specs.Steps.{unless, one, two, isInvalid, ordered}
 use Rattle.runs.specs.Bad53.{outside}
 
 -- A test of a Boolean either way, which antt computes.

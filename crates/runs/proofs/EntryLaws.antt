@@ -7,9 +7,9 @@ use Rattle.runs.specs.EntryLaws.{EntryLaws}
 use Rattle.fields.specs.declared.version.Version.{Version}
 use Rattle.runs.specs.Script.{scriptOf}
 use Rattle.runs.specs.Run.{lowestInvalid}
-use Rattle.runs.specs.Entries.{entries, stepsOf, lowestBy}
+use Rattle.sweep.specs.Entries.{entries, stepsOf, lowestBy}
 use Rattle.runs.specs.Outcome.{Searched}
-use Rattle.runs.proofs.Entries.{entries-stay, entries-length, entry-is, entry-next, entry-target, entry-stop, entry-invalid, entry-both, carries}
+use Rattle.sweep.proofs.Laws as sweep
 use Rattle.runs.proofs.Outcome.{outcome-kept, outcome-words}
 use Rattle.runs.proofs.Searched.{fill-asks}
 
@@ -17,17 +17,13 @@ lowest-is : (version : Version) (words m l : List ℕ) → Searched (scriptOf ve
     → lowestBy (length (entries l)) (stepsOf (entries l)) ≡ lowestInvalid (scriptOf version words)
 unfolding lowestInvalid
 lowest-is version words m l s =
-    carries .lowest-invalid (length words) (scriptOf version words .steps) (entries l) (s .settled)
+    sweep.laws .carries .lowest-invalid (length words) (scriptOf version words .steps) (entries l) (s .settled)
 
 pub entry-laws : EntryLaws
 entry-laws =
     record {
-      kinds = λ e p. record { invalid = entry-invalid e p; returns = entry-stop e p; next = entry-next e p; target = entry-target e p; both = entry-both e p };
-      entry-is = entry-is;
-      as-long = entries-length;
-      kept = entries-stay;
       asks = λ version ws m l s. fill-asks version ws s;
-      graph-is = λ version ws m l s. carries .graph _ _ (entries l) (s .settled);
+      graph-is = λ version ws m l s. sweep.laws .carries .graph _ _ (entries l) (s .settled);
       lowest-is = lowest-is;
       outcome =
           λ ws weights m l few a b weighed some m′ l′ d.

@@ -10,7 +10,7 @@ use Rattle.runs.specs.Weights.{heaviestWeight}
 use Rattle.runs.specs.Run.{runOf}
 use Rattle.runs.specs.Demand.{Demand}
 use Rattle.runs.specs.Laws.{Enough, Laws}
-use Rattle.runs.proofs.Steps.{forward, serving}
+use Rattle.sweep.proofs.Laws as sweep
 use Rattle.runs.proofs.Lawful.{lawful, sound}
 use Rattle.runs.proofs.Lvm as lvm54
 use Rattle.runs.proofs.Lvm53 as lvm53
@@ -43,8 +43,8 @@ pub laws : Laws
 laws =
     record {
       sound = sound;
-      serving = λ version ws. serving;
-      forward = forward;
+      serving = λ version ws. sweep.laws .serving;
+      forward = sweep.laws .forward;
       slot54 = λ ws weights p. ap (λ (i : ℕ). getD weights i 0) (low-seven (getD ws p 0));
       slot53 = λ ws weights p. ap (λ (i : ℕ). getD weights i 0) (low-six (getD ws p 0));
       agreement = lvm54.agreement-holds;

@@ -8,9 +8,7 @@ pub mod Columns53
 pub mod Counted
 pub mod Cut
 pub mod Demand
-pub mod Entries
 pub mod EntryLaws
-pub mod Held
 pub mod Lawful
 pub mod Nine
 pub mod Order
@@ -19,14 +17,10 @@ pub mod Laws
 pub mod Lvm
 pub mod Lvm53
 pub mod Masks
-pub mod Measures
-pub mod Moves
 pub mod NextWords
 pub mod Outcome
 pub mod Searched
 pub mod Slices
-pub mod Steps
-pub mod Turn
 pub mod Ways
 pub mod Weights
 pub mod Words

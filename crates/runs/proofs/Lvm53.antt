@@ -18,7 +18,7 @@ use Rattle.fields.specs.Table53.{StepClass, following, returning, branching, co
 use Rattle.fields.specs.Laws.{all}
 use Rattle.fields.proofs.Laws.{laws}
 use Rattle.runs.specs.Columns53.{classFrom, companionFrom}
-use Rattle.runs.specs.Steps.{one, two, isInvalid, listOf}
+use Rattle.sweep.specs.Steps.{one, two, isInvalid, listOf}
 use Rattle.runs.specs.Successors53.{opcodeAt, nextOf, standsAt, companionPresent, successorsOf}
 use Rattle.runs.specs.Lvm53.{Body, still, loadkx, loadbool, jmp, compare, test, call, tailcall, leave, forloop, forprep, tforcall, tforloop, setlist, assert0, absent, dojump, donextjump, compared, waysOf, bodyOf, bodyAt, waysAt, goesOn, Agreement}
 use Rattle.runs.specs.Ways.{Way, fetch, targetsOf, integers, Alike}

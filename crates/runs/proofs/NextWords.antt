@@ -8,10 +8,10 @@ use native.Mathlib.Omega.{arith}
 use lib.Dec.{ltb}
 use lib.IntN.{ℤ, pos, negsuc, _+ℤ_, +ℤ-assoc, +ℤ-comm, +ℤ-idr}
 use borrow.Author.Tests.{ltb-false}
-use Rattle.runs.specs.declared.edges.Successors.{Successors}
-use Rattle.runs.specs.declared.edges.Successors.the-variants.{One, Two}
+use Rattle.sweep.specs.declared.edges.Successors.{Successors}
+use Rattle.sweep.specs.declared.edges.Successors.the-variants.{One, Two}
 use Rattle.graph.specs.Graph.{In}
-use Rattle.runs.specs.Steps.{unless, one, ordered, two, isInvalid, listOf}
+use Rattle.sweep.specs.Steps.{unless, one, ordered, two, isInvalid, listOf}
 use Rattle.runs.specs.Ways.{integers}
 
 -- Sets of next words.

@@ -12,7 +12,7 @@ use Rattle.graph.specs.Longest.{longest, first}
 use Rattle.graph.proofs.Ceiling.{ceiling}
 use Rattle.runs.specs.declared.longest.Run.{Run}
 use Rattle.runs.specs.declared.longest.Run.the-variants.{Accepted, Refused}
-use Rattle.runs.specs.Steps.{unitWeight}
+use Rattle.sweep.specs.Steps.{unitWeight}
 use Rattle.runs.specs.Script.{Script, Sound, graphOf, weightOf}
 use Rattle.runs.specs.Weights.{refusesWeights, weightsPlace}
 use Rattle.runs.specs.Run.{numberOf, longestOf, lowestInvalid, runOf}

@@ -18,12 +18,11 @@ use Rattle.fields.specs.declared.version.Version.{Version}
 use Rattle.runs.specs.declared.longest.Run.the-variants.{Accepted, Refused}
 use Rattle.runs.specs.Script.{Script, scriptOf, graphOf, weightOf}
 use Rattle.runs.specs.Run.{lowestInvalid}
-use Rattle.runs.specs.Entries.{entries, graphIn, Settled}
-use Rattle.runs.specs.SearchInvariants.{Lent, Held, Marked, Marks}
-use Rattle.runs.specs.PassInvariants.{Lengths, FillAsks, Fills, at}
+use Rattle.sweep.specs.Entries.{entries, graphIn, Settled}
+use Rattle.sweep.specs.SearchInvariants.{Lent, Held, Marked, Marks}
+use Rattle.sweep.specs.PassInvariants.{Lengths, FillAsks, Fills, at}
 use Rattle.runs.specs.Outcome.{Searched, Decided}
-use Rattle.runs.proofs.Entries.{carries}
-use Rattle.runs.proofs.Held.{held-of}
+use Rattle.sweep.proofs.Laws as sweep
 use Rattle.runs.proofs.Lawful.{lawful, sound}
 use Rattle.runs.proofs.Outcome.{decided-invalid, decided-accepted}
 
@@ -44,12 +43,12 @@ module _ (version : Version) (words : List ℕ) where
 
   module _ (l : List ℕ) (s : Settled (ws .size) (ws .steps) (entries l)) where
     graph-is : graphIn (entries l) ≡ graphOf ws
-    graph-is = carries .graph (ws .size) (ws .steps) (entries l) s
+    graph-is = sweep.laws .carries .graph (ws .size) (ws .steps) (entries l) s
 
     module _ {m l₀ : List ℕ} (k : Lent (ws .size) m l₀) (same : length l ≡ length l₀) where
       -- what the search asks
       pub held-settled : Held m l
-      held-settled = held-of (ws .size) (ws .steps) m l₀ l law k s same
+      held-settled = sweep.laws .held (ws .size) (ws .steps) m l₀ l law k s same
 
       -- what it leaves
       pub searched : {m′ l′ : List ℕ} → Marks l m′ l′ → length m′ ≡ length m → length l′ ≡ length l → Searched ws m′ l′
@@ -85,7 +84,7 @@ module _ (version : Version) (words : List ℕ) where
 
       lowest : i ≡ lowestInvalid ws
       unfolding lowestInvalid
-      lowest = f .lowest-invalid ∙ carries .lowest-invalid (ws .size) (ws .steps) (entries l) (s .settled)
+      lowest = f .lowest-invalid ∙ sweep.laws .carries .lowest-invalid (ws .size) (ws .steps) (entries l) (s .settled)
 
       passing : Passing (graphOf ws) w
       passing = laws .passing (graphOf ws) law w

@@ -10,8 +10,8 @@ use lib.IntN.{ℤ, pos, _+ℤ_}
 use borrow.Author.Tests.{eqb-true}
 use Rattle.fields.specs.Laws.{all}
 use Rattle.fields.proofs.Laws.{laws}
-use Rattle.runs.specs.declared.edges.Successors.{Successors}
-use Rattle.runs.specs.Steps.{unless, isInvalid, listOf}
+use Rattle.sweep.specs.declared.edges.Successors.{Successors}
+use Rattle.sweep.specs.Steps.{unless, isInvalid, listOf}
 use Rattle.runs.specs.Ways.{Way, fetch, jumped, integers, Alike}
 use Rattle.runs.proofs.NextWords.{Same, passed, held, one-later}
 

@@ -10,13 +10,13 @@ use borrow.Author.Tests.{lt-ltb, le-ltb}
 use Rattle.common.specs.Limits.{mostWords}
 use Rattle.fields.specs.Word53.{aOf, cOf}
 use Rattle.fields.specs.Table53.{StepClass, following, returning, branching, comparing, skipping, skippingIfC, skippingUnlessC, jumping, looping, invalid, classOf, companionOf}
-use Rattle.runs.specs.declared.edges.Successors.the-variants.{Invalid}
+use Rattle.sweep.specs.declared.edges.Successors.the-variants.{Invalid}
 use Rattle.runs.specs.Columns53.{classFrom, companionFrom}
-use Rattle.runs.specs.Steps.{unless, one, two, Below}
+use Rattle.sweep.specs.Steps.{unless, one, two, Below}
 use Rattle.runs.specs.Successors53.{opcodeAt, nextOf, standsAt, companionPresent, successorsOf}
-use Rattle.runs.specs.Entries.{Packs}
-use Rattle.runs.proofs.Steps.{let-through, by-test, picked, one-below, two-below, Nexts, nexts-picked, nexts-unless, nexts-one, nexts-up, nexts-down}
-use Rattle.runs.proofs.Entries.{packs-of}
+use Rattle.sweep.specs.Entries.{Packs}
+use Rattle.sweep.proofs.Steps.{let-through, by-test, picked, one-below, two-below, Nexts, nexts-picked, nexts-unless, nexts-one, nexts-up, nexts-down}
+use Rattle.sweep.proofs.Settling.{packs-of}
 
 -- a word, by the columns of its opcode
 module _ (ws : List ℕ) (p : ℕ) where

@@ -1,5 +1,6 @@
--- Request C-24's bad words and next words of Lua 5.3, by the numbers of the opcodes and by a word's bits: no table, no name and no macro stands between the
--- request and these. `ByNumber` says that the steps of specs/Successors53.antt are these, for every list of words.
+-- Request C-24's bad words and next words of Lua 5.3, by the numbers of the opcodes and by a word's bits:
+-- no table, no name and no macro stands between the request and these. `ByNumber` says that the steps of
+-- specs/Successors53.antt are these, for every list of words.
 -- Assumes nothing.
 use Prim.Native.Nat.{ℕ, _+_, _/_, _%_, _<_}
 use mathlib.Core.Path.{_≡_}
@@ -10,7 +11,7 @@ use lib.Dec.{ltb, leb, eqb}
 use lib.IntN.{ℤ, pos, negsuc, _+ℤ_, _-ℤ_}
 use lib.ListN.{length, getD}
 use Rattle.graph.specs.Graph.{In}
-use Rattle.runs.specs.Steps.{isInvalid, listOf}
+use Rattle.sweep.specs.Steps.{isInvalid, listOf}
 use Rattle.runs.specs.Ways.{integers}
 use Rattle.runs.specs.Successors53.{successorsOf}
 
@@ -40,7 +41,8 @@ returns w = eqb (opcode w) 38
 
 -- LOADKX, LOADBOOL with C, SETLIST with C 0, and a comparison, whose result of 0 or 1 is no A above 1
 abbrev pub skips : ℕ → Bool
-skips w = eqb (opcode w) 2 || eqb (opcode w) 3 && not (zeroC w) || eqb (opcode w) 43 && zeroC w || between 31 33 (opcode w) && aboveOne w
+skips w = eqb (opcode w) 2 || eqb (opcode w) 3 && not (zeroC w) || eqb (opcode w) 43 && zeroC w
+    || between 31 33 (opcode w) && aboveOne w
 
 -- JMP, FORPREP
 abbrev pub jumps : ℕ → Bool
@@ -54,7 +56,8 @@ loops w = eqb (opcode w) 39 || eqb (opcode w) 42
 abbrev pub tests : ℕ → Bool
 tests w = between 31 35 (opcode w)
 
--- where word p, w, goes on; "TAILCALL steps to p+1, where a C function returns", and so do CALL and all others
+-- where word p, w, goes on; "TAILCALL steps to p+1, where a C function returns", and
+-- so do CALL and all others
 abbrev pub nextWords : ℕ → ℕ → List ℤ
 nextWords w p =
     cond (returns w) []

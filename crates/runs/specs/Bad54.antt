@@ -1,5 +1,6 @@
--- Document 01's table of steps of Lua 5.4, by its own numbers and a word's bits: no table of ours, no name and no macro stands between the document
--- and these. `ByNumber` says that the steps of specs/Successors.antt are these, for every list of words.
+-- Document 01's table of steps of Lua 5.4, by its own numbers and a word's bits: no table of ours, no name
+-- and no macro stands between the document and these. `ByNumber` says that the steps of specs/Successors.antt
+-- are these, for every list of words.
 -- Assumes nothing.
 use Prim.Native.Nat.{ℕ, _+_, _-_, _/_, _%_, _<_}
 use mathlib.Core.Path.{_≡_}
@@ -10,7 +11,7 @@ use lib.Dec.{ltb, leb, eqb}
 use lib.IntN.{ℤ, pos, _+ℤ_, _-ℤ_}
 use lib.ListN.{length, getD}
 use Rattle.graph.specs.Graph.{In}
-use Rattle.runs.specs.Steps.{isInvalid, listOf}
+use Rattle.sweep.specs.Steps.{isInvalid, listOf}
 use Rattle.runs.specs.Ways.{integers}
 use Rattle.runs.specs.Successors.{successorsOf}
 use Rattle.runs.specs.Bad53.{between, anyOutside}
@@ -86,9 +87,9 @@ module _ (ws : List ℕ) (p : ℕ) where
   abbrev pub isBad : Bool
   isBad = lacks || anyOutside (length ws) (nextWords word p)
 
--- a table in which 24 of the 25 arithmetic rows ask for nothing after them, or 46 to 49 may follow, in fields'
--- definition and code alike, is refused here; so are ADD that falls straight through, and FORPREP that goes on by its
--- target alone
+-- a table in which 24 of the 25 arithmetic rows ask for nothing after them, or 46 to 49 may follow, in
+-- fields' definition and code alike, is refused here; so are ADD that falls straight through, and FORPREP
+-- that goes on by its target alone
 pub record ByNumber : Type 0 where
   -- these words are bad, and no others
   pub bad : (ws : List ℕ) (p : ℕ) → p < length ws → isInvalid (successorsOf ws p) ≡ isBad ws p

@@ -1,34 +1,20 @@
--- Request C-15: the steps of a function's words, some of them cut, and the marks that a search over the others leaves. What `mark_cut` answers.
+-- Request C-15: the steps of a function's words, some of them cut, and the marks that a search over the
+-- others leaves. What `mark_cut` answers.
 -- Assumes nothing.
 use mathlib.Core.Path.{_≡_}
 use mathlib.Core.Bool.{Bool, cond, _&&_}
 use mathlib.Core.List.{List}
-use Prim.Native.Nat.{ℕ, _/_, _%_, _≤_, _<_}
-use lib.Dec.{leb, ltb, eqb}
+use Prim.Native.Nat.{ℕ, _≤_, _<_}
+use lib.Dec.{leb, ltb}
 use lib.ListN.{length, getD}
 use Rattle.common.specs.Limits.{mostWords}
 use Rattle.common.specs.Lists.{over}
 use Rattle.graph.specs.Graph.{Graph, Lawful}
 use Rattle.graph.specs.Marks.{markOf}
-use Rattle.runs.specs.declared.edges.Successors.{Successors}
-use Rattle.runs.specs.declared.edges.Successors.the-variants.{Invalid, Stop, One, Two}
-use Rattle.runs.specs.Steps.{graphBy}
+use Rattle.sweep.specs.declared.edges.Successors.{Successors}
+use Rattle.sweep.specs.Steps.{graphBy}
+use Rattle.sweep.specs.Cut.{cutSteps}
 use Rattle.runs.specs.Successors.{successorsOf}
-
--- a number says which steps of a word are cut: the first, or only one, if the number is odd; the second, if its half is
-abbrev pub cutsFirst : ℕ → Bool
-cutsFirst number = eqb (number % 2) 1
-
-abbrev pub cutsSecond : ℕ → Bool
-cutsSecond number = eqb (number / 2 % 2) 1
-
--- the steps that are left
-unfoldable pub cutSteps : ℕ → Successors → Successors
-cutSteps number Invalid = Invalid
-cutSteps number Stop = Stop
-cutSteps number (One a) = cond (cutsFirst number) Stop (One a)
-cutSteps number (Two a b) =
-    cond (cutsFirst number) (cond (cutsSecond number) Stop (One b)) (cond (cutsSecond number) (One a) (Two a b))
 
 -- of word p, by the number at p; where there is none, nothing is cut
 abbrev pub stepsCut : List ℕ → List ℕ → ℕ → Successors
@@ -44,7 +30,8 @@ searches n marks work = ltb 0 n && (leb n mostWords && (leb n marks && leb n wor
 module _ (ws cuts marks work : List ℕ) where
   -- the marks slice afterwards
   unfoldable pub marksCut : List ℕ
-  marksCut = cond (searches (length ws) (length marks) (length work)) (over (markOf (graphCut ws cuts)) (length ws) marks) marks
+  marksCut = cond (searches (length ws) (length marks) (length work))
+      (over (markOf (graphCut ws cuts)) (length ws) marks) marks
 
   -- the other, in which the search works
   unfoldable pub workCut : List ℕ
@@ -54,5 +41,6 @@ module _ (ws cuts marks work : List ℕ) where
 pub record CutLaws : Type 0 where
   pub lawful : (ws cuts : List ℕ) → Lawful (graphCut ws cuts)
   pub searched :
-      (ws cuts marks work : List ℕ) → 0 < length ws → length ws ≤ mostWords → length ws ≤ length marks → length ws ≤ length work
+      (ws cuts marks work : List ℕ)
+      → 0 < length ws → length ws ≤ mostWords → length ws ≤ length marks → length ws ≤ length work
       → marksCut ws cuts marks work ≡ over (markOf (graphCut ws cuts)) (length ws) marks

@@ -1,4 +1,5 @@
--- What callers go by: of the proofs here crates above cite `laws` of Laws.antt and `cut-laws` of Cut.antt alone.
+-- What callers go by: of the proofs here crates above cite `laws` of Laws.antt and
+-- `cut-laws` of Cut.antt alone.
 -- Assumes nothing.
 use Prim.Native.Nat.{ℕ, _%_, _≤_, _<_}
 use mathlib.Core.Path.{_≡_}
@@ -11,7 +12,7 @@ use Rattle.common.specs.Numbers.{«ACCEPTED»}
 use Rattle.graph.specs.Graph.{Lawful, weigh}
 use Rattle.fields.specs.declared.version.Version.{Version}
 use Rattle.fields.specs.declared.version.Version.the-variants.{Lua54, Lua53}
-use Rattle.runs.specs.Steps.{servesOf, unitWeight}
+use Rattle.sweep.specs.Steps.{servesOf, unitWeight}
 use Rattle.runs.specs.Script.{Script, scriptOf, graphOf, weightOf, Sound}
 use Rattle.runs.specs.Lvm as lvm54
 use Rattle.runs.specs.Lvm53 as lvm53
@@ -44,28 +45,33 @@ pub record Laws : Type 0 where
   -- "both versions supply theirs to that argument"
   pub sound : (version : Version) (ws : List ℕ) → Sound (scriptOf version ws)
   -- request C-16, in scripts of either version: "only a step that does not go forward does" serve
-  pub serving : (version : Version) (ws : List ℕ) (p q : ℕ) → (scriptOf version ws .serves p q ≡ true) ↔ (q ≤ p)
+  pub serving : (version : Version) (ws : List ℕ) (p q : ℕ)
+      → (scriptOf version ws .serves p q ≡ true) ↔ (q ≤ p)
   -- so that by its rule a step that does not serve goes forward
   pub forward : (p q : ℕ) → servesOf p q ≡ false → p < q
   -- request C-17, of the weights: "indexed by the low seven bits"
   pub slot54 :
-      (ws weights : List ℕ) (p : ℕ) → weightOf (scriptOf Lua54 ws) weights p ≡ getD weights (getD ws p 0 % 128) 0
+      (ws weights : List ℕ) (p : ℕ)
+      → weightOf (scriptOf Lua54 ws) weights p ≡ getD weights (getD ws p 0 % 128) 0
   -- "A 5.3 word takes its weight by its low six bits."
   pub slot53 :
-      (ws weights : List ℕ) (p : ℕ) → weightOf (scriptOf Lua53 ws) weights p ≡ getD weights (getD ws p 0 % 64) 0
+      (ws weights : List ℕ) (p : ℕ)
+      → weightOf (scriptOf Lua53 ws) weights p ≡ getD weights (getD ws p 0 % 64) 0
   -- the steps of each version are its lvm.c's
   pub agreement : lvm54.Agreement
   pub agreement53 : lvm53.Agreement
-  -- From here on "argued over any step relation in which a step that does not serve goes forward": for any sound
-  -- script, whose graph is lawful.
+  -- From here on "argued over any step relation in which a step that does not serve goes forward":
+  -- for any sound script, whose graph is lawful.
   pub lawful : (ws : Script) → Sound ws → Lawful (graphOf ws)
   -- an accepted run passed the checks of the sizes
   pub enough :
-      (ws : Script) (weights : List ℕ) (marks lengths : ℕ) → numberOf (runOf ws weights marks lengths) ≡ «ACCEPTED»
+      (ws : Script) (weights : List ℕ) (marks lengths : ℕ)
+      → numberOf (runOf ws weights marks lengths) ≡ «ACCEPTED»
       → Enough (ws .size) weights marks lengths
   -- demand 3, first half
   pub demand :
-      (ws : Script) → Sound ws → (weights : List ℕ) (marks lengths : ℕ) → Enough (ws .size) weights marks lengths
+      (ws : Script) → Sound ws → (weights : List ℕ) (marks lengths : ℕ)
+      → Enough (ws .size) weights marks lengths
       → ((i : ℕ) → getD weights i 0 ≤ heaviestWeight) → Demand ws weights (runOf ws weights marks lengths)
   pub slices :
       (ws : Script) → Sound ws → (weights : List ℕ) → ((i : ℕ) → getD weights i 0 ≤ heaviestWeight)
@@ -90,11 +96,13 @@ pub record Laws : Type 0 where
       (ws : Script) (low high : List ℕ) (marks lengths : ℕ) → RangeOrder ws low high marks lengths
   pub range-kept :
       (ws : Script) → Sound ws → (low high marks lengths : List ℕ) → RangeKept ws low high marks lengths
-  -- request C-13: "number 9 is never given". 9 for a run above some length, in definition and code alike, is refused
-  -- here and in `demand`
-  pub never-given : (ws : Script) (weights : List ℕ) (marks lengths : ℕ) → numberOf (runOf ws weights marks lengths) ≡ 9 → ⊥
+  -- request C-13: "number 9 is never given". 9 for a run above some length, in definition and code alike, is
+  -- refused here and in `demand`
+  pub never-given : (ws : Script) (weights : List ℕ) (marks lengths : ℕ)
+      → numberOf (runOf ws weights marks lengths) ≡ 9 → ⊥
   -- ".. so L cannot pass the number of words", each counting 1, and with all weights 1 a weight counts words
-  pub within-words : (ws : Script) → Sound ws → (marks lengths : ℕ) → longestOf (runOf ws ones marks lengths) ≤ ws .size
+  pub within-words : (ws : Script) → Sound ws → (marks lengths : ℕ)
+      → longestOf (runOf ws ones marks lengths) ≤ ws .size
   pub counted : (ws : Script) → Sound ws → (ps : List ℕ) → weigh (weightOf ws ones) ps ≡ length ps
   -- The same for the words of either version, where nothing is left to suppose of their steps.
   pub lawful-of : (version : Version) (ws : List ℕ) → Lawful (graphOf (scriptOf version ws))
@@ -118,7 +126,8 @@ pub record Laws : Type 0 where
       (version : Version) (ws low high : List ℕ) (marks lengths : ℕ)
       → TableRefused (scriptOf version ws) low high marks lengths
   pub range-kept-of :
-      (version : Version) (ws low high marks lengths : List ℕ) → RangeKept (scriptOf version ws) low high marks lengths
+      (version : Version) (ws low high marks lengths : List ℕ)
+      → RangeKept (scriptOf version ws) low high marks lengths
   -- document 01's table of steps, by its own numbers
   pub by-numbers54 : bad54.ByNumber
   -- request C-24: the bad words and the next words of 5.3, by its own numbers

@@ -1,7 +1,6 @@
 -- Layer 2: the successors of a word, and the longest run.
 pub mod Columns
 pub mod Columns53
-pub mod Steps
 pub mod Ways
 pub mod Successors
 pub mod Lvm
@@ -18,9 +17,6 @@ pub mod Counted
 pub mod Demand
 pub mod Order
 pub mod Slices
-pub mod Entries
-pub mod SearchInvariants
-pub mod PassInvariants
 pub mod Cut
 pub mod Outcome
 pub mod Flat

@@ -1,6 +1,7 @@
--- lvm.c of Lua 5.3.6: where luaV_execute goes on after a word, in the C's own shape: ci->u.l.savedpc, here pc, after the fetch, then as each case of
--- the switch moves it. What a case tests of values may come out either way, so both arms are given; errors and a coroutine's yield inside a word are
--- left out. `Agreement` says that for a word that is not bad these are the successors of specs/Successors53.antt.
+-- lvm.c of Lua 5.3.6: where luaV_execute goes on after a word, in the C's own shape: ci->u.l.savedpc, here
+-- pc, after the fetch, then as each case of the switch moves it. What a case tests of values may come out
+-- either way, so both arms are given; errors and a coroutine's yield inside a word are left out.
+-- `Agreement` says that for a word that is not bad these are the successors of specs/Successors53.antt.
 -- Assumes nothing.
 use Prim.Native.Nat.{ℕ, _+_}
 use mathlib.Core.Bool.{cond}
@@ -8,10 +9,21 @@ use mathlib.Core.List.{List, [], _∷_}
 use lib.Dec.{eqb}
 use lib.IntN.{ℤ, pos, _+ℤ_}
 use lib.ListN.{getD}
-use Rattle.fields.specs.Opcodes53.{«OP_MOVE», «OP_LOADK», «OP_LOADKX», «OP_LOADBOOL», «OP_LOADNIL», «OP_GETUPVAL», «OP_GETTABUP», «OP_GETTABLE», «OP_SETTABUP», «OP_SETUPVAL», «OP_SETTABLE», «OP_NEWTABLE», «OP_SELF», «OP_ADD», «OP_SUB», «OP_MUL», «OP_MOD», «OP_POW», «OP_DIV», «OP_IDIV», «OP_BAND», «OP_BOR», «OP_BXOR», «OP_SHL», «OP_SHR», «OP_UNM», «OP_BNOT», «OP_NOT», «OP_LEN», «OP_CONCAT», «OP_JMP», «OP_EQ», «OP_LT», «OP_LE», «OP_TEST», «OP_TESTSET», «OP_CALL», «OP_TAILCALL», «OP_RETURN», «OP_FORLOOP», «OP_FORPREP», «OP_TFORCALL», «OP_TFORLOOP», «OP_SETLIST», «OP_CLOSURE», «OP_VARARG», «OP_EXTRAARG»}
+use Rattle.fields.specs.Opcodes53 as op
 use Rattle.fields.specs.Lopcodes53.{«GET_OPCODE», «GETARG_A», «GETARG_C», «GETARG_sBx»}
 use Rattle.runs.specs.Successors53.{successorsOf}
-use Rattle.runs.specs.Ways.{Way, fetch, along, jumped, wordAt, Case, vmcase, vmdispatch, targetsOf, Agree}
+use Rattle.runs.specs.Ways.{
+  Way,
+  fetch,
+  along,
+  jumped,
+  wordAt,
+  Case,
+  vmcase,
+  vmdispatch,
+  targetsOf,
+  Agree,
+}
 
 -- what the cases of the switch do to pc
 pub data Body : Type 0 where
@@ -27,10 +39,11 @@ pub data Body : Type 0 where
   compare : Body
   -- if (GETARG_C(i) ? l_isfalse(ra) : !l_isfalse(ra)) ci->u.l.savedpc++; else donextjump(ci);
   test : Body
-  -- luaD_precall, for a C function here, for a Lua function by `goto newframe`, which OP_RETURN ends at the saved pc
+  -- luaD_precall, for a C function here, for a Lua function by `goto newframe`, which
+  -- OP_RETURN ends at the saved pc
   call : Body
-  -- luaD_precall: a C function has returned when it comes back, and `vmbreak` goes on; a Lua function's frame takes this one's place, and no word of
-  -- this function follows
+  -- luaD_precall: a C function has returned when it comes back, and `vmbreak` goes on; a Lua function's frame
+  -- takes this one's place, and no word of this function follows
   tailcall : Body
   -- return, or goto newframe over the caller
   leave : Body
@@ -84,53 +97,53 @@ waysOf ws absent pc i = []
 -- the cases, in the C's order
 abbrev pub switch : List (Case Body)
 switch =
-    vmcase «OP_MOVE» still
-    ∷ vmcase «OP_LOADK» still
-    ∷ vmcase «OP_LOADKX» loadkx
-    ∷ vmcase «OP_LOADBOOL» loadbool
-    ∷ vmcase «OP_LOADNIL» still
-    ∷ vmcase «OP_GETUPVAL» still
-    ∷ vmcase «OP_GETTABUP» still
-    ∷ vmcase «OP_GETTABLE» still
-    ∷ vmcase «OP_SETTABUP» still
-    ∷ vmcase «OP_SETUPVAL» still
-    ∷ vmcase «OP_SETTABLE» still
-    ∷ vmcase «OP_NEWTABLE» still
-    ∷ vmcase «OP_SELF» still
-    ∷ vmcase «OP_ADD» still
-    ∷ vmcase «OP_SUB» still
-    ∷ vmcase «OP_MUL» still
-    ∷ vmcase «OP_DIV» still
-    ∷ vmcase «OP_BAND» still
-    ∷ vmcase «OP_BOR» still
-    ∷ vmcase «OP_BXOR» still
-    ∷ vmcase «OP_SHL» still
-    ∷ vmcase «OP_SHR» still
-    ∷ vmcase «OP_MOD» still
-    ∷ vmcase «OP_IDIV» still
-    ∷ vmcase «OP_POW» still
-    ∷ vmcase «OP_UNM» still
-    ∷ vmcase «OP_BNOT» still
-    ∷ vmcase «OP_NOT» still
-    ∷ vmcase «OP_LEN» still
-    ∷ vmcase «OP_CONCAT» still
-    ∷ vmcase «OP_JMP» jmp
-    ∷ vmcase «OP_EQ» compare
-    ∷ vmcase «OP_LT» compare
-    ∷ vmcase «OP_LE» compare
-    ∷ vmcase «OP_TEST» test
-    ∷ vmcase «OP_TESTSET» test
-    ∷ vmcase «OP_CALL» call
-    ∷ vmcase «OP_TAILCALL» tailcall
-    ∷ vmcase «OP_RETURN» leave
-    ∷ vmcase «OP_FORLOOP» forloop
-    ∷ vmcase «OP_FORPREP» forprep
-    ∷ vmcase «OP_TFORCALL» tforcall
-    ∷ vmcase «OP_TFORLOOP» tforloop
-    ∷ vmcase «OP_SETLIST» setlist
-    ∷ vmcase «OP_CLOSURE» still
-    ∷ vmcase «OP_VARARG» still
-    ∷ vmcase «OP_EXTRAARG» assert0
+    vmcase op.«OP_MOVE» still
+    ∷ vmcase op.«OP_LOADK» still
+    ∷ vmcase op.«OP_LOADKX» loadkx
+    ∷ vmcase op.«OP_LOADBOOL» loadbool
+    ∷ vmcase op.«OP_LOADNIL» still
+    ∷ vmcase op.«OP_GETUPVAL» still
+    ∷ vmcase op.«OP_GETTABUP» still
+    ∷ vmcase op.«OP_GETTABLE» still
+    ∷ vmcase op.«OP_SETTABUP» still
+    ∷ vmcase op.«OP_SETUPVAL» still
+    ∷ vmcase op.«OP_SETTABLE» still
+    ∷ vmcase op.«OP_NEWTABLE» still
+    ∷ vmcase op.«OP_SELF» still
+    ∷ vmcase op.«OP_ADD» still
+    ∷ vmcase op.«OP_SUB» still
+    ∷ vmcase op.«OP_MUL» still
+    ∷ vmcase op.«OP_DIV» still
+    ∷ vmcase op.«OP_BAND» still
+    ∷ vmcase op.«OP_BOR» still
+    ∷ vmcase op.«OP_BXOR» still
+    ∷ vmcase op.«OP_SHL» still
+    ∷ vmcase op.«OP_SHR» still
+    ∷ vmcase op.«OP_MOD» still
+    ∷ vmcase op.«OP_IDIV» still
+    ∷ vmcase op.«OP_POW» still
+    ∷ vmcase op.«OP_UNM» still
+    ∷ vmcase op.«OP_BNOT» still
+    ∷ vmcase op.«OP_NOT» still
+    ∷ vmcase op.«OP_LEN» still
+    ∷ vmcase op.«OP_CONCAT» still
+    ∷ vmcase op.«OP_JMP» jmp
+    ∷ vmcase op.«OP_EQ» compare
+    ∷ vmcase op.«OP_LT» compare
+    ∷ vmcase op.«OP_LE» compare
+    ∷ vmcase op.«OP_TEST» test
+    ∷ vmcase op.«OP_TESTSET» test
+    ∷ vmcase op.«OP_CALL» call
+    ∷ vmcase op.«OP_TAILCALL» tailcall
+    ∷ vmcase op.«OP_RETURN» leave
+    ∷ vmcase op.«OP_FORLOOP» forloop
+    ∷ vmcase op.«OP_FORPREP» forprep
+    ∷ vmcase op.«OP_TFORCALL» tforcall
+    ∷ vmcase op.«OP_TFORLOOP» tforloop
+    ∷ vmcase op.«OP_SETLIST» setlist
+    ∷ vmcase op.«OP_CLOSURE» still
+    ∷ vmcase op.«OP_VARARG» still
+    ∷ vmcase op.«OP_EXTRAARG» assert0
     ∷ []
 
 abbrev pub bodyOf : ℕ → Body

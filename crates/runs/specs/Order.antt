@@ -1,7 +1,7 @@
--- "Checks run in this order": of the run's checks that come before the search, which condition gives which number exactly, with those before it not
--- holding, by the documents' own numbers. What comes after them, 7, 8 and acceptance, `Demand` says, both ways, where these let through.
--- proofs/Order.antt proves both records for any script, weights and slices, and proofs/RangeOrder.antt those of two
--- tables.
+-- "Checks run in this order": of the run's checks that come before the search, which condition gives which
+-- number exactly, with those before it not holding, by the documents' own numbers. What comes after them, 7,
+-- 8 and acceptance, `Demand` says, both ways, where these let through. proofs/Order.antt proves both records
+-- for any script, weights and slices, and proofs/RangeOrder.antt those of two tables.
 -- Assumes nothing.
 use mathlib.Core.Path.{_≡_}
 use mathlib.Core.Logic.{_↔_, _⊎_}
@@ -25,7 +25,8 @@ pub record WeightsRefused (weights : List ℕ) : Type 0 where
   pub refused : (refusesWeights weights ≡ true) ↔ ((length weights ≡ 128 → ⊥) ⊎ ((i : ℕ) × ZeroAt weights i))
   -- "the place is the lowest zero weight, or 0 for the count"
   pub count-place : (length weights ≡ 128 → ⊥) → weightsPlace weights ≡ 0
-  pub zero-place : length weights ≡ 128 → refusesWeights weights ≡ true → ZeroAt weights (weightsPlace weights)
+  pub zero-place : length weights ≡ 128 → refusesWeights weights ≡ true
+      → ZeroAt weights (weightsPlace weights)
   pub lowest-place : length weights ≡ 128 → (i : ℕ) → ZeroAt weights i → weightsPlace weights ≤ i
 
 module _ (ws : Script) (weights : List ℕ) (marks lengths : ℕ) where
@@ -51,9 +52,9 @@ module _ (ws : Script) (weights : List ℕ) (marks lengths : ℕ) where
     pub place-18 : numberOf answer ≡ 18 → placeOf answer ≡ weightsPlace weights
     pub no-place : (numberOf answer ≡ 18 → ⊥) → (numberOf answer ≡ 8 → ⊥) → placeOf answer ≡ 0
 
--- Two tables (request C-18): 18 on the low one, on the high one, and then "19 a low above its high", before 7.
--- `Ends` says the rest of two tables that 18 and 19 let through. 19 after 7, 19 before 18, 19 at another place than
--- the lowest, 19 where a low is its high, in definition and code alike, is refused here.
+-- Two tables (request C-18): 18 on the low one, on the high one, and then "19 a low above its high",
+-- before 7. `Ends` says the rest of two tables that 18 and 19 let through. 19 after 7, 19 before 18, 19 at
+-- another place than the lowest, 19 where a low is its high, in definition and code alike, is refused here.
 
 -- a low above its high at i
 abbrev pub AboveAt : List ℕ → List ℕ → ℕ → Type 0
@@ -89,13 +90,14 @@ module _ (ws : Script) (low high : List ℕ) (marks lengths : ℕ) where
         (numberOf report ≡ 18 → ⊥) → (numberOf report ≡ 19 → ⊥) → (numberOf report ≡ 8 → ⊥)
         → placeOf report ≡ 0
 
--- "Nothing lent is altered, except that 8 .. leave[s] the reachable marks and n zero lengths": where two tables are
--- refused, too
+-- "Nothing lent is altered, except that 8 .. leave[s] the reachable marks and n zero lengths":
+-- where two tables are refused, too
 module _ (ws : Script) (low high marks lengths : List ℕ) where
   abbrev pub reported : ℕ
   reported = numberOf (report ws low high (length marks) (length lengths))
 
   pub record RangeKept : Type 0 where
-    pub marks-kept : (reported ≡ 0 → ⊥) → (reported ≡ 8 → ⊥) → marksAfterBoth ws low high marks lengths ≡ marks
+    pub marks-kept : (reported ≡ 0 → ⊥) → (reported ≡ 8 → ⊥)
+        → marksAfterBoth ws low high marks lengths ≡ marks
     pub lengths-kept :
         (reported ≡ 0 → ⊥) → (reported ≡ 8 → ⊥) → lengthsAfterBoth ws low high marks lengths ≡ lengths

@@ -1,22 +1,21 @@
--- Request C-24: a script, "a script's words include its version". The run, the meter and the distances to service see
--- of it how many words it has, where control goes from each, which of these steps serve, and where in the table each
--- word's weight stands. Which Lua compiled it does not show from here on: "Longest run, meter and nearest service are
--- argued over any step relation in which a step that does not serve goes forward, and both versions supply theirs to
--- that argument."
+-- Request C-24: a script, "a script's words include its version". The run, the meter and the distances to
+-- service see of it how many words it has, where control goes from each, which of these steps serve, and
+-- where in the table each word's weight stands. Which Lua compiled it does not show from here on: "Longest
+-- run, meter and nearest service are argued over any step relation in which a step that does not serve goes
+-- forward, and both versions supply theirs to that argument."
 -- Assumes nothing.
 use mathlib.Core.Path.{_≡_}
 use mathlib.Core.Bool.{Bool, false}
 use mathlib.Core.List.{List}
 use Prim.Native.Nat.{ℕ, _<_}
-use lib.Bits.{bitAnd}
 use lib.ListN.{length, getD}
 use Rattle.graph.specs.Graph.{Graph, In}
 use Rattle.fields.specs.declared.version.Version.{Version}
 use Rattle.fields.specs.declared.version.Version.the-variants.{Lua54, Lua53}
 use Rattle.fields.specs.Word as word54
 use Rattle.fields.specs.Word53 as word53
-use Rattle.runs.specs.declared.edges.Successors.{Successors}
-use Rattle.runs.specs.Steps.{listOf, servesOf, Below}
+use Rattle.sweep.specs.declared.edges.Successors.{Successors}
+use Rattle.sweep.specs.Steps.{listOf, servesOf, Below}
 use Rattle.runs.specs.Successors as steps54
 use Rattle.runs.specs.Successors53 as steps53
 use Rattle.runs.specs.Weights.{weightCount}
@@ -36,7 +35,8 @@ abbrev pub stepsOf : Version → List ℕ → ℕ → Successors
 stepsOf Lua54 ws p = steps54.successorsOf ws p
 stepsOf Lua53 ws p = steps53.successorsOf ws p
 
--- request C-17, of the weights: "indexed by the low seven bits". "A 5.3 word takes its weight by its low six bits."
+-- request C-17, of the weights: "indexed by the low seven bits". "A 5.3 word takes its
+-- weight by its low six bits."
 abbrev pub slotOf : Version → ℕ → ℕ
 slotOf Lua54 word = word54.opcodeOf word
 slotOf Lua53 word = word53.opcodeOf word
@@ -63,9 +63,6 @@ graphOf ws = record { size = ws .size; successors = λ p. listOf (ws .steps p); 
 abbrev pub slotMask : Version → ℕ
 slotMask Lua54 = 127
 slotMask Lua53 = 63
-
-abbrev pub weightBy : ℕ → List ℕ → List ℕ → ℕ → ℕ
-weightBy mask ws weights p = getD weights (bitAnd (getD ws p 0) mask) 0
 
 -- what word p weighs by a table
 abbrev pub weightOf : Script → List ℕ → ℕ → ℕ

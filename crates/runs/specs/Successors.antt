@@ -6,13 +6,45 @@ use mathlib.Core.List.{List}
 use lib.Dec.{ltb, leb, eqb}
 use lib.IntN.{pos, _+ℤ_, _-ℤ_}
 use lib.ListN.{length, getD}
-use Rattle.fields.specs.Opcodes.{«OP_ADDI», «OP_SHR», «OP_MMBIN», «OP_MMBINK», «OP_JMP», «OP_TFORCALL», «OP_TFORLOOP», «OP_EXTRAARG»}
+use Rattle.fields.specs.Opcodes.{
+  «OP_ADDI»,
+  «OP_SHR»,
+  «OP_MMBIN»,
+  «OP_MMBINK»,
+  «OP_JMP»,
+  «OP_TFORCALL»,
+  «OP_TFORLOOP»,
+  «OP_EXTRAARG»,
+}
 use Rattle.fields.specs.Word.{opcodeOf, kOf, bxOf, sjOf}
-use Rattle.fields.specs.Table.{StepClass, following, returning, branching, skipping, skippingIfK, jumping, looping, preparing, entering, invalid, classOf, Companion, alone, metamethodAfter, arithmeticBefore, jumpAfter, extraAfter, extraAfterIfK, callAtTarget, loopAfter, companionOf}
+use Rattle.fields.specs.Table.{
+  StepClass,
+  following,
+  returning,
+  branching,
+  skipping,
+  skippingIfK,
+  jumping,
+  looping,
+  preparing,
+  entering,
+  invalid,
+  classOf,
+  Companion,
+  alone,
+  metamethodAfter,
+  arithmeticBefore,
+  jumpAfter,
+  extraAfter,
+  extraAfterIfK,
+  callAtTarget,
+  loopAfter,
+  companionOf,
+}
 use Rattle.graph.specs.Graph.{member}
-use Rattle.runs.specs.declared.edges.Successors.{Successors}
-use Rattle.runs.specs.declared.edges.Successors.the-variants.{Invalid, Stop}
-use Rattle.runs.specs.Steps.{unless, one, two, listOf}
+use Rattle.sweep.specs.declared.edges.Successors.{Successors}
+use Rattle.sweep.specs.declared.edges.Successors.the-variants.{Invalid, Stop}
+use Rattle.sweep.specs.Steps.{unless, one, two, listOf}
 
 -- the opcode of word i; past the end it is that of 0, MOVE, which is no row's companion
 unfoldable pub opcodeAt : List ℕ → ℕ → ℕ
@@ -22,7 +54,8 @@ opcodeAt ws i = opcodeOf (getD ws i 0)
 unfoldable pub isBetween : ℕ → ℕ → ℕ → Bool
 isBetween first last opcode = leb first opcode && leb opcode last
 
--- "Next word", a clause for each kind of the table of steps: the steps of word p, w, of n words whose companion is there
+-- "Next word", a clause for each kind of the table of steps: the steps of word p, w, of n
+-- words whose companion is there
 abbrev pub nextOf : StepClass → ℕ → ℕ → ℕ → Successors
 -- none
 nextOf returning n w p = Stop
@@ -45,7 +78,8 @@ nextOf invalid n w p = Invalid
 -- p+1
 nextOf following n w p = one n (pos (p + 1))
 
--- "Bad unless", a clause for each kind of the table of steps: the companion of word p stands where it is wanted
+-- "Bad unless", a clause for each kind of the table of steps: the companion of word p
+-- stands where it is wanted
 abbrev pub standsAt : Companion → List ℕ → ℕ → Bool
 -- word p+1 is 46 to 48
 standsAt metamethodAfter ws p = isBetween «OP_MMBIN» «OP_MMBINK» (opcodeAt ws (p + 1))
@@ -68,7 +102,8 @@ standsAt alone ws p = true
 unfoldable pub companionPresent : List ℕ → ℕ → Bool
 companionPresent ws p = standsAt (companionOf (opcodeAt ws p)) ws p
 
--- the steps of word p. "A bad word has no steps, nor has a word number of n or more": the latter is answered as the former
+-- the steps of word p. "A bad word has no steps, nor has a word number of n or more": the latter
+-- is answered as the former
 unfoldable pub successorsOf : List ℕ → ℕ → Successors
 successorsOf ws p =
     unless (ltb p (length ws))

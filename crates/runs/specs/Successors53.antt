@@ -8,16 +8,37 @@ use lib.IntN.{pos, _+ℤ_}
 use lib.ListN.{length, getD}
 use Rattle.fields.specs.Opcodes53.{«OP_JMP», «OP_TFORLOOP», «OP_EXTRAARG»}
 use Rattle.fields.specs.Word53.{opcodeOf, aOf, cOf, sbxOf}
-use Rattle.fields.specs.Table53.{StepClass, following, returning, branching, comparing, skipping, skippingIfC, skippingUnlessC, jumping, looping, invalid, classOf, Companion, alone, jumpAfter, extraAfter, extraAfterUnlessC, loopAfter, companionOf}
-use Rattle.runs.specs.declared.edges.Successors.{Successors}
-use Rattle.runs.specs.declared.edges.Successors.the-variants.{Invalid, Stop}
-use Rattle.runs.specs.Steps.{unless, one, two}
+use Rattle.fields.specs.Table53.{
+  StepClass,
+  following,
+  returning,
+  branching,
+  comparing,
+  skipping,
+  skippingIfC,
+  skippingUnlessC,
+  jumping,
+  looping,
+  invalid,
+  classOf,
+  Companion,
+  alone,
+  jumpAfter,
+  extraAfter,
+  extraAfterUnlessC,
+  loopAfter,
+  companionOf,
+}
+use Rattle.sweep.specs.declared.edges.Successors.{Successors}
+use Rattle.sweep.specs.declared.edges.Successors.the-variants.{Invalid, Stop}
+use Rattle.sweep.specs.Steps.{unless, one, two}
 
 -- the opcode of word i; past the end it is that of 0, MOVE, which is no row's companion
 unfoldable pub opcodeAt : List ℕ → ℕ → ℕ
 opcodeAt ws i = opcodeOf (getD ws i 0)
 
--- the steps of word p, w, of n words whose companion is there; a next word below 0 or at n or more makes it bad
+-- the steps of word p, w, of n words whose companion is there; a next word below 0 or
+-- at n or more makes it bad
 abbrev pub nextOf : StepClass → ℕ → ℕ → ℕ → Successors
 -- none
 nextOf returning n w p = Stop
@@ -47,7 +68,8 @@ standsAt jumpAfter ws p = eqb (opcodeAt ws (p + 1)) «OP_JMP»
 -- word p+1 is EXTRAARG
 standsAt extraAfter ws p = eqb (opcodeAt ws (p + 1)) «OP_EXTRAARG»
 -- the same "with C 0"
-standsAt extraAfterUnlessC ws p = cond (eqb (cOf (getD ws p 0)) 0) (eqb (opcodeAt ws (p + 1)) «OP_EXTRAARG») true
+standsAt extraAfterUnlessC ws p =
+    cond (eqb (cOf (getD ws p 0)) 0) (eqb (opcodeAt ws (p + 1)) «OP_EXTRAARG») true
 -- word p+1 is TFORLOOP
 standsAt loopAfter ws p = eqb (opcodeAt ws (p + 1)) «OP_TFORLOOP»
 -- nothing is asked

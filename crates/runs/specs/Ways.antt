@@ -1,5 +1,5 @@
--- How luaV_execute goes on after a word, of either version: what specs/Lvm.antt and specs/Lvm53.antt share. A version supplies the bodies of its switch,
--- what each does to pc, and by which of them a JMP is run.
+-- How luaV_execute goes on after a word, of either version: what specs/Lvm.antt and specs/Lvm53.antt share.
+-- A version supplies the bodies of its switch, what each does to pc, and by which of them a JMP is run.
 -- Assumes nothing.
 use Prim.Native.Nat.{ℕ}
 use mathlib.Core.Path.{_≡_}
@@ -10,18 +10,19 @@ use lib.Dec.{eqb}
 use lib.IntN.{ℤ, pos, negsuc}
 use lib.ListN.{getD}
 use Rattle.graph.specs.Graph.{In}
-use Rattle.runs.specs.declared.edges.Successors.{Successors}
-use Rattle.runs.specs.Steps.{isInvalid, listOf}
+use Rattle.sweep.specs.declared.edges.Successors.{Successors}
+use Rattle.sweep.specs.Steps.{isInvalid, listOf}
 
 -- how a case goes on
 pub data Way (Body : Type 0) : Type 0 where
   -- `vmbreak`: the loop fetches the word at pc
   fetch : ℤ → Way Body
-  -- `goto l_tforcall`, `goto l_tforloop`: the word at pc is run by the body at that label, whatever its opcode is, without a fetch and a
-  -- dispatch of its own. Document 01 takes going there for a step of its own, and so it is of 5.3
+  -- `goto l_tforcall`, `goto l_tforloop`: the word at pc is run by the body at that label, whatever its
+  -- opcode is, without a fetch and a dispatch of its own. Document 01 takes going there for a step of
+  -- its own, and so it is of 5.3
   along : Body → ℤ → Way Body
-  -- the word at the first pc is run as a JMP at once, whatever its opcode is, and leaves pc at the second. Going there is taken for a step of
-  -- its own, too
+  -- the word at the first pc is run as a JMP at once, whatever its opcode is, and leaves pc at the second.
+  -- Going there is taken for a step of its own, too
   jumped : ℤ → ℤ → Way Body
 
 -- *pc
@@ -51,8 +52,8 @@ abbrev pub integers : List ℕ → List ℤ
 integers [] = []
 integers (q ∷ qs) = pos q ∷ integers qs
 
--- each word that is run without a dispatch of its own is run as the switch would run it: by the body to which its opcode leads, or as the
--- JMP that it is, which leaves pc where that case would
+-- each word that is run without a dispatch of its own is run as the switch would run it: by the body to which
+-- its opcode leads, or as the JMP that it is, which leaves pc where that case would
 abbrev pub Alike : {Body : Type 0} → Body → (ℕ → Body) → (ℕ → List (Way Body)) → List (Way Body) → Type 0
 Alike jmp bodyAt waysAt [] = Unit {0}
 Alike jmp bodyAt waysAt (fetch pc ∷ ways) = Alike jmp bodyAt waysAt ways
@@ -63,11 +64,14 @@ Alike jmp bodyAt waysAt (jumped (pos q) after ∷ ways) =
 Alike jmp bodyAt waysAt (jumped (negsuc q) after ∷ ways) = ⊥
 
 -- for words of a version, and the steps that are given for them
-pub record Agree {Body : Type 0} (jmp : Body) (bodyAt : List ℕ → ℕ → Body) (waysAt : List ℕ → ℕ → List (Way Body)) (steps : List ℕ → ℕ → Successors) : Type 0 where
+pub record Agree {Body : Type 0} (jmp : Body) (bodyAt : List ℕ → ℕ → Body)
+    (waysAt : List ℕ → ℕ → List (Way Body)) (steps : List ℕ → ℕ → Successors) : Type 0 where
   -- "for a word that is not bad, the set of next words is the same"
   pub same :
       (ws : List ℕ) (p : ℕ) → isInvalid (steps ws p) ≡ false →
       (z : ℤ) → In z (targetsOf (waysAt ws p)) ↔ In z (integers (listOf (steps ws p)))
-  -- "Where lvm.c takes the next word along without fetching it anew (JMP after a test, TFORCALL after TFORPREP, TFORLOOP after TFORCALL),
-  -- going to that word is a step of its own": what is run there, and where it leads, is what a fetch of that word would run
-  pub alike : (ws : List ℕ) (p : ℕ) → isInvalid (steps ws p) ≡ false → Alike jmp (bodyAt ws) (waysAt ws) (waysAt ws p)
+  -- "Where lvm.c takes the next word along without fetching it anew (JMP after a test, TFORCALL after
+  -- TFORPREP, TFORLOOP after TFORCALL), going to that word is a step of its own": what is run there, and
+  -- where it leads, is what a fetch of that word would run
+  pub alike : (ws : List ℕ) (p : ℕ)
+      → isInvalid (steps ws p) ≡ false → Alike jmp (bodyAt ws) (waysAt ws) (waysAt ws p)

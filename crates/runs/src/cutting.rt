@@ -1,75 +1,20 @@
-// The search again, over the steps that are left when some are cut (request C-15). As for the run, a pass settles the entries of all words
-// first, and the search goes by them.
+// The search again, over the steps that are left when some are cut (request C-15). As for the run, a pass
+// settles the entries of all words first, and the search goes by them.
 ghost use mathlib.Core.Path.{_≡_};
-ghost use Prim.Native.Nat.{_+_, _≤_, _<_};
+ghost use Prim.Native.Nat.{_≤_};
 ghost use lib.ListN.{length, getD};
 ghost use Rattle.common.specs.Limits.{mostWords};
 ghost use Rattle.common.specs.Lists.{tabulate};
 ghost use Rattle.graph.specs.Marks.{markOf};
-ghost use Rattle.runs.specs.Cut.{cutSteps, stepsCut, graphCut, marksCut, workCut};
-ghost use Rattle.runs.specs.Entries.{«TARGETS», «ENTRIES», entryAt, entries, Says, Settled};
-ghost use Rattle.runs.specs.Steps.{ordered};
+ghost use Rattle.runs.specs.Cut.{stepsCut, graphCut, marksCut, workCut};
+ghost use Rattle.sweep.specs.Entries.{entries, Settled};
 ghost use Rattle.fields.specs.Table.{opcodeTable};
-ghost use Rattle.runs.specs.SearchInvariants.{Lent};
-use crate::lengths::clear_lengths;
-use crate::packing::KIND_BOTH;
-use crate::packing::KIND_NEXT;
-use crate::packing::KIND_NONE;
-use crate::packing::KIND_TARGET;
-use crate::packing::RETURNS;
-use crate::packing::TARGETS;
-use crate::search::mark_reachable;
+ghost use Rattle.sweep.specs.SearchInvariants.{Lent};
 use crate::settling::entry_in;
 use common::limits::MOST_WORDS;
-
-// The entry of the two steps of word p, the next word and a target, of which a number cuts some. Equal ones are one step, and the lower is the
-// first.
-fn cut_both(target: u32, number: u64, p: usize) -> u32
-    requires { ⌜ (target < «TARGETS») × (p < mostWords) ⌝ }
-    ensures { λ r. ⌜ Says r p (cutSteps number (ordered (p + 1) target)) ⌝ }
-{
-    let to = target as usize;
-    if to == p + 1 {
-        if number % 2 == 1 {
-            return RETURNS;
-        }
-        return KIND_NEXT * TARGETS;
-    }
-    if number % 2 == 1 {
-        if number / 2 % 2 == 1 {
-            return RETURNS;
-        }
-        if to < p + 1 {
-            return KIND_NEXT * TARGETS;
-        }
-        return KIND_TARGET * TARGETS + target;
-    }
-    if number / 2 % 2 == 1 {
-        if to < p + 1 {
-            return KIND_TARGET * TARGETS + target;
-        }
-        return KIND_NEXT * TARGETS;
-    }
-    KIND_BOTH * TARGETS + target
-}
-
-// The entry of the steps of word p that a number leaves, by the entry of all: an odd number cuts the first, one whose half is odd the second.
-fn cut_entry(entry: u32, number: u64, p: usize) -> u32
-    requires { ⌜ (entry < «ENTRIES») × (p < mostWords) ⌝ }
-    ensures { λ r. ⌜ Says r p (cutSteps number (entryAt entry p)) ⌝ }
-{
-    let kind = entry / TARGETS;
-    if kind == KIND_NONE {
-        return entry;
-    }
-    if kind == KIND_BOTH {
-        return cut_both(entry % TARGETS, number, p);
-    }
-    if number % 2 == 1 {
-        return RETURNS;
-    }
-    entry
-}
+use sweep::inner::clear_lengths;
+use sweep::inner::cut_entry;
+use sweep::inner::mark_reachable;
 
 // The number at p, or 0 past the end.
 fn cut_at(cuts: &[u64], p: usize) -> u64
@@ -83,8 +28,10 @@ fn cut_at(cuts: &[u64], p: usize) -> u64
 
 // The entries of all words, of the steps that are left.
 fn settle_cut(table: &[u8; 512], words: &[u32], cuts: &[u64], work: &mut [u32])
-    requires { ⌜ (now table ≡ opcodeTable) × (length (now words) ≤ mostWords) × (length (now work) ≡ length (now words)) ⌝ }
-    ensures { λ _. ⌜ Settled (length (now (words .entry))) (stepsCut (now (words .entry)) (now (cuts .entry))) (entries (now (work .exit))) ⌝ }
+    requires { ⌜ (now table ≡ opcodeTable) × (length (now words) ≤ mostWords)
+        × (length (now work) ≡ length (now words)) ⌝ }
+    ensures { λ _. ⌜ Settled (length (now (words .entry))) (stepsCut (now (words .entry)) (now (cuts .entry)))
+        (entries (now (work .exit))) ⌝ }
 {
     let n = words.len();
     let mut i = 0;
@@ -97,7 +44,8 @@ fn settle_cut(table: &[u8; 512], words: &[u32], cuts: &[u64], work: &mut [u32])
 // The marks of words that are not too many, lent slices with an element for each.
 fn search_cut(words: &[u32], cuts: &[u64], marks: &mut [u8], work: &mut [u32])
     requires { ⌜ Lent (length (now words)) (now marks) (now work) ⌝ }
-    ensures { λ _. ⌜ now (marks .exit) ≡ tabulate (markOf (graphCut (now (words .entry)) (now (cuts .entry)))) 0 (length (now (words .entry))) ⌝ }
+    ensures { λ _. ⌜ now (marks .exit) ≡ tabulate (markOf (graphCut (now (words .entry)) (now (cuts .entry))))
+        0 (length (now (words .entry))) ⌝ }
     ensures { λ _. ⌜ now (work .exit) ≡ tabulate (λ p. 0) 0 (length (now (words .entry))) ⌝ }
 {
     let table = fields::lookup::table();
@@ -106,11 +54,14 @@ fn search_cut(words: &[u32], cuts: &[u64], marks: &mut [u8], work: &mut [u32])
     clear_lengths(work, work.len());
 }
 
-// The words that are reachable over the steps that `cuts` leaves: 1 if reachable, else 0. The search works in `work`, and leaves 0 there. Where
-// there are no words or too many, or a slice is shorter, nothing is altered.
+// The words that are reachable over the steps that `cuts` leaves: 1 if reachable, else 0.
+// The search works in `work`, and leaves 0 there. Where there are no words or too many, or a slice is
+// shorter, nothing is altered.
 pub fn mark_cut(words: &[u32], cuts: &[u64], marks: &mut [u8], work: &mut [u32])
-    ensures { λ _. ⌜ now (marks .exit) ≡ marksCut (now (words .entry)) (now (cuts .entry)) (now (marks .entry)) (now (work .entry)) ⌝ }
-    ensures { λ _. ⌜ now (work .exit) ≡ workCut (now (words .entry)) (now (cuts .entry)) (now (marks .entry)) (now (work .entry)) ⌝ }
+    ensures { λ _. ⌜ now (marks .exit)
+        ≡ marksCut (now (words .entry)) (now (cuts .entry)) (now (marks .entry)) (now (work .entry)) ⌝ }
+    ensures { λ _. ⌜ now (work .exit)
+        ≡ workCut (now (words .entry)) (now (cuts .entry)) (now (marks .entry)) (now (work .entry)) ⌝ }
 {
     let n = words.len();
     if n == 0 {

@@ -1,8 +1,9 @@
-// For C: answers as structs of numbers, since an exported function may give no enum. Both versions' exports answer with them.
+// For C: answers as structs of numbers, since an exported function may give no enum. Both versions'
+// exports answer with them.
 ghost use mathlib.Core.Path.{_≡_};
 ghost use Rattle.runs.specs.Flat.{flatSuccessors, flatRun};
-use crate::edges::Successors;
 use crate::longest::Run;
+use sweep::edges::Successors;
 
 #[repr(C)]
 pub struct FlatSuccessors {

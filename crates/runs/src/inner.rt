@@ -1,10 +1,5 @@
-// What other crates of this repository that go by settled entries call. These functions ask for what a check of the sizes or the search leaves, so
-// that no entry of C or of a program is among them.
+// What other crates of this repository that go by settled entries call, beside those of `sweep`. These
+// functions ask for what a check of the sizes or the search leaves, so that no entry of C or of a program is
+// among them.
 pub use crate::longest::measure_run;
 pub use crate::longest::search_words;
-pub use crate::packing::ENTRIES;
-pub use crate::packing::KIND_NEXT;
-pub use crate::packing::KIND_NONE;
-pub use crate::packing::KIND_TARGET;
-pub use crate::packing::RETURNS;
-pub use crate::packing::TARGETS;

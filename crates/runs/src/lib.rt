@@ -1,14 +1,10 @@
-// Layer 2, over fields: the successors of a word, and the longest run without a service.
+// Layer 2, over fields and sweep: the successors of a word, and the longest run without a service.
 pub mod cutting;
-pub mod edges;
 pub mod flat;
 pub mod inner;
-mod lengths;
 pub mod longest;
-mod packing;
 pub mod range;
 pub mod script;
-mod search;
 mod settling;
 mod settling53;
 pub mod successors;

@@ -2,38 +2,40 @@
 ghost use mathlib.Core.Path.{_≡_};
 ghost use lib.ListN.{length};
 ghost use Rattle.runs.specs.Run.{runOf, marksAfter, lengthsAfter};
-ghost use Rattle.runs.specs.SearchInvariants.{Lent};
+ghost use Rattle.sweep.specs.SearchInvariants.{Lent};
 ghost use Rattle.runs.specs.Script.{scriptOf};
 ghost use Rattle.runs.specs.Outcome.{Searched, Decided};
 ghost use Rattle.runs.specs.Weights.{weightCount};
-use crate::lengths::clear_lengths;
-use crate::lengths::fill_lengths;
-use crate::lengths::find_first;
-use crate::lengths::find_longest;
 use crate::script::settle_script;
 use crate::script::slot_mask;
-use crate::search::mark_reachable;
 use crate::weighing::refuses_weights;
 use crate::weighing::weights_place;
 use common::limits::MOST_WORDS;
 use common::numbers::*;
 use fields::version::Version;
+use sweep::inner::clear_lengths;
+use sweep::inner::fill_lengths;
+use sweep::inner::find_first;
+use sweep::inner::find_longest;
+use sweep::inner::mark_reachable;
 
 pub enum Run {
     Accepted { longest: u32, first: usize },
     Refused { number: u8, place: usize },
 }
 
-// The entries of the words, in the lengths, and the marks.
+// The entries of the words, in the lengths, which end searched, and the marks.
 pub fn search_words(version: Version, words: &[u32], marks: &mut [u8], lengths: &mut [u32])
     requires { ⌜ Lent (length (now words)) (now marks) (now lengths) ⌝ }
-    ensures { λ _. ⌜ Searched (scriptOf version (now (words .entry))) (now (marks .exit)) (now (lengths .exit)) ⌝ }
+    ensures { λ _. ⌜
+        Searched (scriptOf version (now (words .entry))) (now (marks .exit)) (now (lengths .exit)) ⌝ }
 {
     settle_script(version, words, lengths);
     mark_reachable(marks, lengths);
 }
 
-// The run by a table of weights, of words that are searched: their lengths take the place of their entries.
+// The run by a table of weights, of words that are searched: their lengths, measured, take
+// the place of their entries.
 pub fn measure_run(
     version: Version,
     words: &[u32],
@@ -41,8 +43,10 @@ pub fn measure_run(
     marks: &[u8],
     lengths: &mut [u32],
 ) -> Run
-    requires { ⌜ Searched (scriptOf version (now words)) (now marks) (now lengths) × (length (now weights) ≡ weightCount) ⌝ }
-    ensures { λ r. ⌜ Decided (scriptOf version (now (words .entry))) (now (weights .entry)) r (now (marks .entry)) (now (lengths .exit)) ⌝ }
+    requires { ⌜ Searched (scriptOf version (now words)) (now marks) (now lengths)
+        × (length (now weights) ≡ weightCount) ⌝ }
+    ensures { λ r. ⌜ Decided (scriptOf version (now (words .entry))) (now (weights .entry)) r
+        (now (marks .entry)) (now (lengths .exit)) ⌝ }
 {
     let n = words.len();
     let invalid = fill_lengths(slot_mask(version), words, weights, marks, lengths);
@@ -66,15 +70,17 @@ fn run_of_words(
     marks: &mut [u8],
     lengths: &mut [u32],
 ) -> Run
-    requires { ⌜ Lent (length (now words)) (now marks) (now lengths) × (length (now weights) ≡ weightCount) ⌝ }
-    ensures { λ r. ⌜ Decided (scriptOf version (now (words .entry))) (now (weights .entry)) r (now (marks .exit)) (now (lengths .exit)) ⌝ }
+    requires { ⌜ Lent (length (now words)) (now marks) (now lengths)
+        × (length (now weights) ≡ weightCount) ⌝ }
+    ensures { λ r. ⌜ Decided (scriptOf version (now (words .entry))) (now (weights .entry)) r
+        (now (marks .exit)) (now (lengths .exit)) ⌝ }
 {
     search_words(version, words, marks, lengths);
     measure_run(version, words, weights, marks, lengths)
 }
 
-// The longest run and the lowest word at which it begins, or the first refusal that applies. The slices get, for each word, whether
-// it is reachable, and the most that a segment which starts there weighs.
+// The longest run and the lowest word at which it begins, or the first refusal that applies. The slices get,
+// for each word, whether it is reachable, and the most that a segment which starts there weighs.
 pub fn longest_run(
     version: Version,
     words: &[u32],
@@ -82,9 +88,12 @@ pub fn longest_run(
     marks: &mut [u8],
     lengths: &mut [u32],
 ) -> Run
-    ensures { λ r. ⌜ r ≡ runOf (scriptOf version (now (words .entry))) (now (weights .entry)) (length (now (marks .entry))) (length (now (lengths .entry))) ⌝ }
-    ensures { λ _. ⌜ now (marks .exit) ≡ marksAfter (scriptOf version (now (words .entry))) (now (weights .entry)) (now (marks .entry)) (now (lengths .entry)) ⌝ }
-    ensures { λ _. ⌜ now (lengths .exit) ≡ lengthsAfter (scriptOf version (now (words .entry))) (now (weights .entry)) (now (marks .entry)) (now (lengths .entry)) ⌝ }
+    ensures { λ r. ⌜ r ≡ runOf (scriptOf version (now (words .entry))) (now (weights .entry))
+        (length (now (marks .entry))) (length (now (lengths .entry))) ⌝ }
+    ensures { λ _. ⌜ now (marks .exit) ≡ marksAfter (scriptOf version (now (words .entry)))
+        (now (weights .entry)) (now (marks .entry)) (now (lengths .entry)) ⌝ }
+    ensures { λ _. ⌜ now (lengths .exit) ≡ lengthsAfter (scriptOf version (now (words .entry)))
+        (now (weights .entry)) (now (marks .entry)) (now (lengths .entry)) ⌝ }
 {
     let n = words.len();
     if MOST_WORDS < n {

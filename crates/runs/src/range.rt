@@ -3,8 +3,15 @@ ghost use mathlib.Core.Path.{_≡_};
 ghost use lib.ListN.{length};
 ghost use Rattle.runs.specs.Weights.{weightCount};
 ghost use Rattle.runs.specs.Script.{scriptOf};
-ghost use Rattle.runs.specs.SearchInvariants.{Lent};
-ghost use Rattle.runs.specs.Range.{lowestAbove, rangeRefusal, bothOf, runsOf, marksAfterBoth, lengthsAfterBoth};
+ghost use Rattle.sweep.specs.SearchInvariants.{Lent};
+ghost use Rattle.runs.specs.Range.{
+  lowestAbove,
+  rangeRefusal,
+  bothOf,
+  runsOf,
+  marksAfterBoth,
+  lengthsAfterBoth,
+};
 ghost use Rattle.runs.specs.Outcome.{DecidedBoth};
 use crate::longest::Run;
 use crate::longest::measure_run;
@@ -100,8 +107,9 @@ fn both(low: Run, high: Run) -> RunRange
     }
 }
 
-// The runs of words that pass the checks of their number, of the slices and of the tables. What is reachable does not depend on weights, so that
-// one search is enough. The lengths by the low table took the entries' place: they are settled again for the high one.
+// The runs of words that pass the checks of their number, of the slices and of the tables.
+// What is reachable does not depend on weights, so that one search is enough. The lengths by the low table
+// took the entries' place: they are settled again for the high one.
 fn runs_of_words(
     version: Version,
     words: &[u32],
@@ -110,8 +118,10 @@ fn runs_of_words(
     marks: &mut [u8],
     lengths: &mut [u32],
 ) -> RunRange
-    requires { ⌜ Lent (length (now words)) (now marks) (now lengths) × ((length (now low) ≡ weightCount) × (length (now high) ≡ weightCount)) ⌝ }
-    ensures { λ r. ⌜ DecidedBoth (scriptOf version (now (words .entry))) (now (low .entry)) (now (high .entry)) r (now (marks .exit)) (now (lengths .exit)) ⌝ }
+    requires { ⌜ Lent (length (now words)) (now marks) (now lengths)
+        × ((length (now low) ≡ weightCount) × (length (now high) ≡ weightCount)) ⌝ }
+    ensures { λ r. ⌜ DecidedBoth (scriptOf version (now (words .entry))) (now (low .entry))
+        (now (high .entry)) r (now (marks .exit)) (now (lengths .exit)) ⌝ }
 {
     search_words(version, words, marks, lengths);
     let by_low = measure_run(version, words, low, marks, lengths);
@@ -120,8 +130,8 @@ fn runs_of_words(
     both(by_low, by_high)
 }
 
-// The longest run by the low table and by the high one, each with the lowest word at which it begins, or the first refusal that applies. The slices
-// end as the high table's run leaves them.
+// The longest run by the low table and by the high one, each with the lowest word at which it begins, or the
+// first refusal that applies. The slices end as the high table's run leaves them.
 pub fn longest_runs(
     version: Version,
     words: &[u32],
@@ -130,9 +140,12 @@ pub fn longest_runs(
     marks: &mut [u8],
     lengths: &mut [u32],
 ) -> RunRange
-    ensures { λ r. ⌜ r ≡ runsOf (scriptOf version (now (words .entry))) (now (low .entry)) (now (high .entry)) (length (now (marks .entry))) (length (now (lengths .entry))) ⌝ }
-    ensures { λ _. ⌜ now (marks .exit) ≡ marksAfterBoth (scriptOf version (now (words .entry))) (now (low .entry)) (now (high .entry)) (now (marks .entry)) (now (lengths .entry)) ⌝ }
-    ensures { λ _. ⌜ now (lengths .exit) ≡ lengthsAfterBoth (scriptOf version (now (words .entry))) (now (low .entry)) (now (high .entry)) (now (marks .entry)) (now (lengths .entry)) ⌝ }
+    ensures { λ r. ⌜ r ≡ runsOf (scriptOf version (now (words .entry))) (now (low .entry)) (now (high .entry))
+        (length (now (marks .entry))) (length (now (lengths .entry))) ⌝ }
+    ensures { λ _. ⌜ now (marks .exit) ≡ marksAfterBoth (scriptOf version (now (words .entry)))
+        (now (low .entry)) (now (high .entry)) (now (marks .entry)) (now (lengths .entry)) ⌝ }
+    ensures { λ _. ⌜ now (lengths .exit) ≡ lengthsAfterBoth (scriptOf version (now (words .entry)))
+        (now (low .entry)) (now (high .entry)) (now (marks .entry)) (now (lengths .entry)) ⌝ }
 {
     let n = words.len();
     if MOST_WORDS < n {

@@ -1,23 +1,23 @@
-// The pass that settles the steps of every word before the search begins (request C-12). It alone reads words for their steps: what comes after goes by
-// the entries that it leaves.
+// The pass that settles the steps of every word before the search begins (request C-12). It alone reads words
+// for their steps: what comes after goes by the entries that it leaves.
 ghost use mathlib.Core.Path.{_≡_};
 ghost use Prim.Native.Nat.{_≤_, _<_};
 ghost use lib.ListN.{length};
 ghost use Rattle.common.specs.Limits.{mostWords};
 ghost use Rattle.fields.specs.Table.{opcodeTable};
 ghost use Rattle.runs.specs.Successors.{successorsOf};
-ghost use Rattle.runs.specs.Entries.{Says, Settled, entries};
-use crate::packing::entry_of;
+ghost use Rattle.sweep.specs.Entries.{Says, Settled, entries};
 use crate::successors::arithmetic;
 use crate::successors::jump;
 use crate::successors::metamethod;
-use crate::successors::one_of;
 use crate::successors::successors_by;
 use crate::successors::test;
 use fields::columns::*;
+use sweep::inner::entry_of;
+use sweep::inner::one_of;
 
-// The entry of word p, by a lent copy of the opcode table. The most frequent words come first, and each has its own call, so that the
-// compiler puts the call's answer into the loop.
+// The entry of word p, by a lent copy of the opcode table. The most frequent words come first, and each has
+// its own call, so that the compiler puts the call's answer into the loop.
 pub(crate) fn entry_in(table: &[u8; 512], words: &[u32], p: usize) -> u32
     requires { ⌜ (now table ≡ opcodeTable) × (length (now words) ≤ mostWords) × (p < length (now words)) ⌝ }
     ensures { λ r. ⌜ Says r p (successorsOf (now (words .entry)) p) ⌝ }
@@ -52,8 +52,10 @@ pub(crate) fn entry_in(table: &[u8; 512], words: &[u32], p: usize) -> u32
 
 // The entries of all words: their steps are those of document 01's table.
 pub(crate) fn settle_edges(table: &[u8; 512], words: &[u32], lengths: &mut [u32])
-    requires { ⌜ (now table ≡ opcodeTable) × (length (now words) ≤ mostWords) × (length (now lengths) ≡ length (now words)) ⌝ }
-    ensures { λ _. ⌜ Settled (length (now (words .entry))) (successorsOf (now (words .entry))) (entries (now (lengths .exit))) ⌝ }
+    requires { ⌜ (now table ≡ opcodeTable) × (length (now words) ≤ mostWords)
+        × (length (now lengths) ≡ length (now words)) ⌝ }
+    ensures { λ _. ⌜ Settled (length (now (words .entry))) (successorsOf (now (words .entry)))
+        (entries (now (lengths .exit))) ⌝ }
 {
     let n = words.len();
     let mut i = 0;

@@ -1,19 +1,21 @@
-// The pass that settles the steps of every word of Lua 5.3 (request C-24). What comes after goes by the entries that it leaves.
+// The pass that settles the steps of every word of Lua 5.3 (request C-24). What comes after goes by
+// the entries that it leaves.
 ghost use mathlib.Core.Path.{_≡_};
 ghost use Prim.Native.Nat.{_≤_, _<_};
 ghost use lib.ListN.{length};
 ghost use Rattle.common.specs.Limits.{mostWords};
 ghost use Rattle.runs.specs.Successors53.{successorsOf};
-ghost use Rattle.runs.specs.Entries.{Says, Settled, entries};
-use crate::packing::entry_of;
-use crate::successors::one_of;
+ghost use Rattle.sweep.specs.Entries.{Says, Settled, entries};
 use crate::successors53::jump;
 use crate::successors53::successors_by;
 use crate::successors53::test;
 use fields::columns53::*;
+use sweep::inner::entry_of;
+use sweep::inner::one_of;
 
-// The entry of word p. The most frequent words come first, and each has its own call, so that the compiler puts the call's answer into the loop. A
-// comparison with A above 1, which no compiler writes, is left to the last call.
+// The entry of word p. The most frequent words come first, and each has its own call, so that the
+// compiler puts the call's answer into the loop. A comparison with A above 1, which no compiler writes,
+// is left to the last call.
 pub(crate) fn entry_at(words: &[u32], p: usize) -> u32
     requires { ⌜ (length (now words) ≤ mostWords) × (p < length (now words)) ⌝ }
     ensures { λ r. ⌜ Says r p (successorsOf (now (words .entry)) p) ⌝ }
@@ -47,7 +49,8 @@ pub(crate) fn entry_at(words: &[u32], p: usize) -> u32
 // The entries of all words.
 pub(crate) fn settle_edges(words: &[u32], lengths: &mut [u32])
     requires { ⌜ (length (now words) ≤ mostWords) × (length (now lengths) ≡ length (now words)) ⌝ }
-    ensures { λ _. ⌜ Settled (length (now (words .entry))) (successorsOf (now (words .entry))) (entries (now (lengths .exit))) ⌝ }
+    ensures { λ _. ⌜ Settled (length (now (words .entry))) (successorsOf (now (words .entry)))
+        (entries (now (lengths .exit))) ⌝ }
 {
     let n = words.len();
     let mut i = 0;

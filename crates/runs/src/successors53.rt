@@ -6,28 +6,16 @@ ghost use lib.ListN.{length, getD};
 ghost use Rattle.fields.specs.Word53.{sbxOf};
 ghost use Rattle.fields.specs.Table53.{jumpAfter};
 ghost use Rattle.runs.specs.Columns53.{classFrom, companionFrom};
-ghost use Rattle.runs.specs.Steps.{one, two, unless};
+ghost use Rattle.sweep.specs.Steps.{one, two, unless};
 ghost use Rattle.runs.specs.Successors53.{opcodeAt, nextOf, standsAt, successorsOf};
-use crate::edges::Successors;
-use crate::successors::one_of;
-use crate::successors::two_of;
 use fields::columns53::*;
 use fields::opcodes53::*;
+use sweep::edges::Successors;
+use sweep::inner::both_of;
+use sweep::inner::one_of;
+use sweep::inner::two_of;
 
 const OFFSET_SBX: usize = fields::word53::OFFSET_SBX as usize;
-
-// Two next words in any order.
-fn both_of(n: usize, q: usize, r: usize) -> Successors
-    ensures { λ s. ⌜ s ≡ two n (pos q) (pos r) ⌝ }
-{
-    if q < r {
-        return two_of(n, q, r);
-    }
-    if r < q {
-        return two_of(n, r, q);
-    }
-    one_of(n, q)
-}
 
 pub(crate) fn jump(n: usize, word: u32, next: usize) -> Successors
     requires { ⌜ next < 2 ^ 62 ⌝ }
@@ -125,7 +113,8 @@ fn stands_at(companion: u8, words: &[u32], p: usize) -> bool
 // The successors of word p by its companion and its step class, as 5.3's opcode table numbers them.
 pub(crate) fn successors_by(companion: u8, class: u8, words: &[u32], p: usize) -> Successors
     requires { ⌜ p < length (now words) ⌝ }
-    ensures { λ r. ⌜ r ≡ unless (standsAt (companionFrom companion) (now (words .entry)) p) (nextOf (classFrom class) (length (now (words .entry))) (getD (now (words .entry)) p 0) p) ⌝ }
+    ensures { λ r. ⌜ r ≡ unless (standsAt (companionFrom companion) (now (words .entry)) p)
+        (nextOf (classFrom class) (length (now (words .entry))) (getD (now (words .entry)) p 0) p) ⌝ }
 {
     if stands_at(companion, words, p) {
         next_of(class, words.len(), words[p], p)
@@ -134,11 +123,12 @@ pub(crate) fn successors_by(companion: u8, class: u8, words: &[u32], p: usize) -
     }
 }
 
-// A test that goes on either way, the most frequent word that wants a companion. The farther step is asked for first: where it is a word, the JMP is one
-// too.
+// A test that goes on either way, the most frequent word that wants a companion. The farther step is asked
+// for first: where it is a word, the JMP is one too.
 pub(crate) fn test(words: &[u32], p: usize) -> Successors
     requires { ⌜ p < length (now words) ⌝ }
-    ensures { λ r. ⌜ r ≡ unless (standsAt jumpAfter (now (words .entry)) p) (two (length (now (words .entry))) (pos (p + 1)) (pos (p + 2))) ⌝ }
+    ensures { λ r. ⌜ r ≡ unless (standsAt jumpAfter (now (words .entry)) p)
+        (two (length (now (words .entry))) (pos (p + 1)) (pos (p + 2))) ⌝ }
 {
     if words.len() <= p + 2 {
         return Successors::Invalid;
@@ -149,7 +139,8 @@ pub(crate) fn test(words: &[u32], p: usize) -> Successors
     Successors::Invalid
 }
 
-// The successors of word p, by its companion and its step class in a byte. A word that wants nothing and goes on comes first.
+// The successors of word p, by its companion and its step class in a byte. A word that wants
+// nothing and goes on comes first.
 pub fn successors(words: &[u32], p: usize) -> Successors
     ensures { λ r. ⌜ r ≡ successorsOf (now (words .entry)) p ⌝ }
 {

@@ -5,7 +5,7 @@ pub use print_cases::number;
 pub use print_cases::numbers;
 pub use print_cases::text;
 use runs::Run;
-use runs::edges::Successors;
+use sweep::edges::Successors;
 
 // The number, then L and first, or the place.
 pub fn answer(run: Run) {

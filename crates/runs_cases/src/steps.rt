@@ -3,8 +3,8 @@ use crate::print;
 use crate::words::*;
 use fields::opcodes::*;
 use fields::word::OFFSET_SJ;
-use runs::edges::serves;
 use runs::successors::successors;
+use sweep::edges::serves;
 
 // The steps of the second of four words.
 fn second(label: &[u8], before: u32, word: u32, after: u32, last: u32) {

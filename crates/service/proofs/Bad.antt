@@ -11,11 +11,11 @@ use lib.ListN.{length, getD}
 use Rattle.common.proofs.Lowest.{lowest-laws}
 use Rattle.common.proofs.Order.{split, same-or-not}
 use Rattle.graph.specs.Marks.{markOf}
-use Rattle.runs.specs.declared.edges.Successors.{Successors}
-use Rattle.runs.specs.declared.edges.Successors.the-variants.{One, Two}
-use Rattle.runs.specs.Steps.{isInvalid, ordered}
-use Rattle.runs.specs.Entries.{«TARGETS», «ENTRIES», entryAt, entries, stepsOf, graphIn, invalidBy, lowestBy}
-use Rattle.runs.specs.PassInvariants.{FillAsks}
+use Rattle.sweep.specs.declared.edges.Successors.{Successors}
+use Rattle.sweep.specs.declared.edges.Successors.the-variants.{One, Two}
+use Rattle.sweep.specs.Steps.{isInvalid, ordered}
+use Rattle.sweep.specs.Entries.{«TARGETS», «ENTRIES», entryAt, entries, stepsOf, graphIn, invalidBy, lowestBy}
+use Rattle.sweep.specs.PassInvariants.{FillAsks}
 use Rattle.service.proofs.Near.{entering}
 
 -- one word

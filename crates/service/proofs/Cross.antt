@@ -14,11 +14,11 @@ use Rattle.common.proofs.Order.{split, same-or-not}
 use Rattle.graph.specs.Graph.{Graph}
 use Rattle.graph.specs.Marks.{markOf}
 use Rattle.graph.specs.Crossing.{Edge, crosses, crossingFrom, crossingBelow, crossingOf}
-use Rattle.runs.specs.declared.edges.Successors.{Successors}
-use Rattle.runs.specs.declared.edges.Successors.the-variants.{One, Two}
-use Rattle.runs.specs.Steps.{listOf, ordered}
-use Rattle.runs.specs.Entries.{«TARGETS», «ENTRIES», entryAt, entries, graphIn}
-use Rattle.runs.specs.PassInvariants.{FillAsks}
+use Rattle.sweep.specs.declared.edges.Successors.{Successors}
+use Rattle.sweep.specs.declared.edges.Successors.the-variants.{One, Two}
+use Rattle.sweep.specs.Steps.{listOf, ordered}
+use Rattle.sweep.specs.Entries.{«TARGETS», «ENTRIES», entryAt, entries, graphIn}
+use Rattle.sweep.specs.PassInvariants.{FillAsks}
 use Rattle.service.specs.Pass.{CrossesFrom}
 use Rattle.service.proofs.Near.{entering}
 

@@ -13,17 +13,17 @@ use Rattle.common.proofs.Stores.{at-set}
 use Rattle.graph.specs.Graph.{In}
 use Rattle.graph.specs.Distance.{endsBy, leastOf, nearer, distanceOf}
 use Rattle.graph.proofs.Distance.{distances}
-use Rattle.runs.specs.declared.edges.Successors.{Successors}
-use Rattle.runs.specs.declared.edges.Successors.the-variants.{One, Two}
-use Rattle.runs.specs.Steps.{listOf, ordered, servesOf}
-use Rattle.runs.specs.Entries.{«TARGETS», «ENTRIES», entryAt, entries, graphIn}
-use Rattle.runs.specs.EntryLaws.{EntryLaws}
-use Rattle.runs.proofs.Laws.{laws}
+use Rattle.sweep.specs.declared.edges.Successors.{Successors}
+use Rattle.sweep.specs.declared.edges.Successors.the-variants.{One, Two}
+use Rattle.sweep.specs.Steps.{listOf, ordered, servesOf}
+use Rattle.sweep.specs.Entries.{«TARGETS», «ENTRIES», entryAt, entries, graphIn}
+use Rattle.sweep.specs.Laws.{Laws}
+use Rattle.sweep.proofs.Laws.{laws}
 use Rattle.service.specs.Pass.{noted, Nearing, Holds, Notes}
 
 -- the laws of settled entries
-abbrev pub entering : EntryLaws
-entering = laws .entry-laws
+abbrev pub entering : Laws
+entering = laws
 
 going : (p q : ℕ) → p < q → servesOf p q ≡ false
 unfolding servesOf

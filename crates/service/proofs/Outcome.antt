@@ -23,8 +23,8 @@ use Rattle.fields.specs.declared.version.Version.{Version}
 use Rattle.runs.specs.Script.{Script, scriptOf, graphOf, weightOf}
 use Rattle.runs.specs.declared.longest.Run.{Run}
 use Rattle.runs.specs.declared.longest.Run.the-variants as Run
-use Rattle.runs.specs.Entries.{entries, stepsOf, graphIn, lowestBy}
-use Rattle.runs.specs.PassInvariants.{FillAsks}
+use Rattle.sweep.specs.Entries.{entries, stepsOf, graphIn, lowestBy}
+use Rattle.sweep.specs.PassInvariants.{FillAsks}
 use Rattle.runs.specs.Outcome.{Searched, decided, Decided}
 use Rattle.runs.specs.Run.{runOf, lowestInvalid, marksAfter, lengthsAfter}
 use Rattle.runs.specs.Counted.{ones}
@@ -129,7 +129,7 @@ module _ (version : Version) (words m l : List ℕ) (s : Searched (scriptOf vers
       }
 
   graph-is : graphIn (entries l) ≡ graphOf script
-  graph-is = entering .graph-is version words m l s
+  graph-is = laws .entry-laws .graph-is version words m l s
 
   module _ {r : Run} {m′ l′ : List ℕ} (d : Decided script ones r m′ l′) where
     pub decided-run : Decided script ones (decided script ones) m′ l′
@@ -157,7 +157,7 @@ module _ (version : Version) (words m l : List ℕ) (s : Searched (scriptOf vers
   pub list-decided : (d : ℕ) (list : List ℕ) {list′ : List ℕ} → list′ ≡ listIn d (entries l) list → list′ ≡ listBy (decided script ones) script d list
   list-decided d list e =
       let n : length (entries l) ≡ script .size = entering .as-long l ∙ s .lent .l-same in
-      let a = ap (λ (x : ℕ). cond (ltb x (length (entries l))) list (over (listedAt (graphIn (entries l)) d) (length (entries l)) list)) (entering .lowest-is version words m l s) in
+      let a = ap (λ (x : ℕ). cond (ltb x (length (entries l))) list (over (listedAt (graphIn (entries l)) d) (length (entries l)) list)) (laws .entry-laws .lowest-is version words m l s) in
       let b = ap (λ (x : ℕ). cond (ltb (lowestInvalid script) x) list (over (listedAt (graphIn (entries l)) d) x list)) n in
       let g = ap (λ (x : Graph). cond (ltb (lowestInvalid script) (script .size)) list (over (listedAt x d) (script .size) list)) graph-is in
       e ∙ a ∙ b ∙ g ∙ go (ltb (lowestInvalid script) (script .size))
@@ -185,7 +185,7 @@ module _ (ws : Script) (d : ℕ) (m l list : List ℕ) where
   )
     where
       slices : (m ≡ marksAfter ws ones m l) × (l ≡ lengthsAfter ws ones m l)
-      slices = entering .refused ws ones m l «TOO_MANY_WORDS» 0 (run-many ws (length m) (length l) h) refl
+      slices = laws .entry-laws .refused ws ones m l «TOO_MANY_WORDS» 0 (run-many ws (length m) (length l) h) refl
 
       kept : (t : Bool) {x y : List ℕ} → x ≡ y → x ≡ refuseIf t x y
       kept true e = refl
@@ -217,7 +217,7 @@ module _ (ws : Script) (m l : List ℕ) where
     early-run = s .refused n .1 ws refl
 
     early-slices : Slices m l
-    early-slices = entering .refused ws ones m l r 0 early-run (s .refused n .0)
+    early-slices = laws .entry-laws .refused ws ones m l r 0 early-run (s .refused n .0)
 
     pub nearest-early : (w : ℕ) → (Nearest.Refused r 0 ≡ nearestOf ws w (length m) (length l)) × Slices m l
     unfolding nearestOf
@@ -234,7 +234,7 @@ module _ (ws : Script) (m l : List ℕ) where
   module _ (k : Fits (ws .size) (length m) (length l)) {m′ l′ : List ℕ} (d : Decided ws ones (decided ws ones) m′ l′) where
     late : (runOf ws ones (length m) (length l) ≡ decided ws ones) × Slices (m′ ++ drop (ws .size) m) (l′ ++ drop (ws .size) l)
     late =
-        let o = entering .outcome ws ones m l (k .few) (k .marks-long) (k .lengths-long) (laws .ones-accepted) (k .some) m′ l′ d in
+        let o = laws .entry-laws .outcome ws ones m l (k .few) (k .marks-long) (k .lengths-long) (laws .ones-accepted) (k .some) m′ l′ d in
         (o .0, (o .1, o .2))
 
     pub nearest-late : (w : ℕ) {x : Nearest} → x ≡ nearestBy (decided ws ones) ws w

@@ -1,4 +1,5 @@
--- The answers as the C interface gives them: each as a struct of numbers. "a refusal reports 0 for every number but its own and its place".
+-- The answers as the C interface gives them: each as a struct of numbers. "a refusal reports 0 for every
+-- number but its own and its place".
 -- Assumes nothing.
 use Rattle.common.specs.declared.answer.Answer.{Answer}
 use Rattle.service.specs.declared.distance.Nearest.{Nearest}

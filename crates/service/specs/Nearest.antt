@@ -1,5 +1,5 @@
--- What the answer of `distance_to_service` says of the stretches of a function's words. proofs/Nearest.antt proves it of `nearestOf`, which the
--- contract cites, for any words, any word w and slices of any lengths.
+-- What the answer of `distance_to_service` says of the stretches of a function's words. proofs/Nearest.antt
+-- proves it of `nearestOf`, which the contract cites, for any words, any word w and slices of any lengths.
 -- Assumes nothing.
 use mathlib.Core.Path.{_≡_}
 use mathlib.Core.Logic.{_⊎_, _↔_}
@@ -11,7 +11,7 @@ use Rattle.graph.specs.Graph.{In, Reachable, Segment}
 use Rattle.graph.specs.Distance.{lastOf}
 use Rattle.runs.specs.Script.{Script, graphOf}
 use Rattle.runs.specs.declared.longest.Run.the-variants as Run
-use Rattle.runs.specs.Steps.{isInvalid, listOf}
+use Rattle.sweep.specs.Steps.{isInvalid, listOf}
 use Rattle.service.specs.declared.distance.Nearest.the-variants as Nearest
 use Rattle.service.specs.Questions.{unitRun, nearestOf}
 
@@ -46,14 +46,18 @@ pub record AcceptedRun (ws : Script) (marks lengths : ℕ) : Type 0 where
   pub run : unitRun ws marks lengths ≡ Run.Accepted longest first
 
 pub record NearestService (ws : Script) (w marks lengths : ℕ) : Type 0 where
-  -- "From any reachable word of an accepted function, give the fewest words to the next serving step or return": every one has a fewest
+  -- "From any reachable word of an accepted function, give the fewest words to the next serving step or
+  -- return": every one has a fewest
   pub fewest :
       AcceptedRun ws marks lengths → Reachable (graphOf ws) w
       → (k : ℕ) × (nearestOf ws w marks lengths ≡ Nearest.Fewest k) × FewestWords ws w k
   -- and only a reachable word does
-  pub exact : (k : ℕ) → nearestOf ws w marks lengths ≡ Nearest.Fewest k → Reachable (graphOf ws) w × FewestWords ws w k
+  pub exact : (k : ℕ) → nearestOf ws w marks lengths ≡ Nearest.Fewest k
+      → Reachable (graphOf ws) w × FewestWords ws w k
   -- "An unreachable word, or one past the end, has no fewest, and the answer says so"
-  pub unreachable : AcceptedRun ws marks lengths → (Reachable (graphOf ws) w → ⊥) ↔ (nearestOf ws w marks lengths ≡ Nearest.Nowhere)
+  pub unreachable : AcceptedRun ws marks lengths → (Reachable (graphOf ws) w → ⊥)
+      ↔ (nearestOf ws w marks lengths ≡ Nearest.Nowhere)
   pub past-end : AcceptedRun ws marks lengths → ws .size ≤ w → nearestOf ws w marks lengths ≡ Nearest.Nowhere
   -- "A refused function gets the longest run's refusal with all weights 1"
-  pub refused : (number place : ℕ) → (unitRun ws marks lengths ≡ Run.Refused number place) ↔ (nearestOf ws w marks lengths ≡ Nearest.Refused number place)
+  pub refused : (number place : ℕ) → (unitRun ws marks lengths ≡ Run.Refused number place)
+      ↔ (nearestOf ws w marks lengths ≡ Nearest.Refused number place)

@@ -1,4 +1,6 @@
--- What the private functions ask and leave. No exported contract cites it. What goes by entries reads no word, and holds for any steps.
+-- Inner: no promise and no law between crates rests on what stands here.
+-- What the private functions ask and leave. No exported contract cites it. What goes by entries reads no
+-- word, and holds for any steps.
 -- Assumes nothing.
 use mathlib.Core.Path.{_≡_}
 use mathlib.Core.Bool.{true, cond, _&&_}
@@ -16,11 +18,11 @@ use Rattle.graph.specs.Marks.{markOf}
 use Rattle.graph.specs.Distance.{distanceOf}
 use Rattle.graph.specs.Crossing.{crossingFrom}
 use Rattle.runs.specs.Script.{Script}
-use Rattle.runs.specs.declared.edges.Successors.{Successors}
+use Rattle.sweep.specs.declared.edges.Successors.{Successors}
 use Rattle.runs.specs.declared.longest.Run.{Run}
 use Rattle.runs.specs.declared.longest.Run.the-variants as Run
-use Rattle.runs.specs.Steps.{listOf}
-use Rattle.runs.specs.Entries.{«ENTRIES», entryAt, entries, stepsOf, graphIn, lowestBy}
+use Rattle.sweep.specs.Steps.{listOf}
+use Rattle.sweep.specs.Entries.{«ENTRIES», entryAt, entries, stepsOf, graphIn, lowestBy}
 use Rattle.runs.specs.Run.{runOf, numberOf, placeOf, untouched}
 use Rattle.runs.specs.Counted.{ones}
 use Rattle.service.specs.declared.distance.Nearest.{Nearest}
@@ -36,14 +38,16 @@ pub record Fits (n marks lengths : ℕ) : Type 0 where
 
 -- r is the number by which a script of n words is refused before any is read, or 0
 pub record Sizes (n marks lengths r : ℕ) : Type 0 where
-  pub refused : (r ≡ «ACCEPTED» → ⊥) → (untouched r ≡ true) × ((ws : Script) → ws .size ≡ n → runOf ws ones marks lengths ≡ Run.Refused r 0)
+  pub refused : (r ≡ «ACCEPTED» → ⊥)
+      → (untouched r ≡ true) × ((ws : Script) → ws .size ≡ n → runOf ws ones marks lengths ≡ Run.Refused r 0)
   pub passed : r ≡ «ACCEPTED» → Fits n marks lengths
 
 -- a word's distance, where the search had its queue: less 1
 abbrev pub noted : List ℕ → ℕ → ℕ
 noted l p = getD l p 0 / «ENTRIES» + 1
 
--- what finding the distance of word p asks: those of the words above it are noted, none too large, and a is that of the next
+-- what finding the distance of word p asks: those of the words above it are noted, none too large,
+-- and a is that of the next
 pub record Nearing (l : List ℕ) (p a : ℕ) : Type 0 where
   pub in-l : p < length l
   pub steps : (q : ℕ) → In q (listOf (entryAt (getD l p 0 % «ENTRIES») p)) → q < length l
@@ -70,7 +74,8 @@ listedBy d m l p = listedOf d (getD m p 0) (noted l p)
 
 -- the list after entries es: as it was, where a reachable word is bad
 abbrev pub listIn : ℕ → List ℕ → List ℕ → List ℕ
-listIn d es list = cond (ltb (lowestBy (length es) (stepsOf es)) (length es)) list (over (listedAt (graphIn es) d) (length es) list)
+listIn d es list = cond (ltb (lowestBy (length es) (stepsOf es)) (length es)) list
+    (over (listedAt (graphIn es) d) (length es) list)
 
 -- the list's answer by that of the run
 abbrev pub answerBy : Run → Answer

@@ -1,5 +1,6 @@
--- The three questions of words of either version: "Longest run, meter and nearest service are argued over any step relation .., and both versions supply
--- theirs to that argument" (request C-24). proofs/Versions.antt proves `Questions`.
+-- The three questions of words of either version: "Longest run, meter and nearest service are argued over
+-- any step relation .., and both versions supply theirs to that argument" (request C-24).
+-- proofs/Versions.antt proves `Questions`.
 -- Assumes nothing.
 use mathlib.Core.List.{List}
 use Prim.Native.Nat.{ℕ}

@@ -1,12 +1,13 @@
-// "For a word w, count the steps from reachable words that pass strictly over w, forward or back": the crossing edges of a word.
+// "For a word w, count the steps from reachable words that pass strictly over w, forward or back":
+// the crossing edges of a word.
 ghost use mathlib.Core.Path.{_≡_};
 ghost use mathlib.Core.Bool.{cond};
 ghost use lib.ListN.{length};
 ghost use Rattle.graph.specs.Crossing.{crosses, crossingOf};
 ghost use Rattle.runs.specs.Script.{scriptOf};
-ghost use Rattle.runs.specs.Entries.{entryAt, entries, graphIn};
-ghost use Rattle.runs.specs.SearchInvariants.{Lent};
-ghost use Rattle.runs.specs.PassInvariants.{FillAsks};
+ghost use Rattle.sweep.specs.Entries.{entryAt, entries, graphIn};
+ghost use Rattle.sweep.specs.SearchInvariants.{Lent};
+ghost use Rattle.sweep.specs.PassInvariants.{FillAsks};
 ghost use Rattle.runs.specs.Outcome.{decided, Decided};
 ghost use Rattle.runs.specs.Run.{marksAfter, lengthsAfter};
 ghost use Rattle.runs.specs.Counted.{ones};
@@ -17,10 +18,10 @@ use crate::unit::unit_run;
 use common::numbers::*;
 use fields::version::Version;
 use runs::Run;
-use runs::inner::ENTRIES;
-use runs::inner::KIND_TARGET;
-use runs::inner::TARGETS;
 use runs::inner::search_words;
+use sweep::inner::ENTRIES;
+use sweep::inner::KIND_TARGET;
+use sweep::inner::TARGETS;
 
 pub enum Crossed {
     Count(usize),
@@ -45,7 +46,8 @@ fn edge_crosses(w: usize, p: usize, q: usize) -> usize
     0
 }
 
-// How many edges from word p, which has this entry, pass over w, if it is marked. No word lies between p and the next one: only a target counts.
+// How many edges from word p, which has this entry, pass over w, if it is marked. No word lies between p and
+// the next one: only a target counts.
 fn crossings_from(w: usize, p: usize, mark: u8, entry: u32) -> usize
     ensures { λ r. ⌜ CrossesFrom w p mark (entryAt entry p) r ⌝ }
 {
@@ -73,8 +75,8 @@ fn count_crossings(w: usize, marks: &[u8], lengths: &[u32]) -> usize
     count
 }
 
-// The answer for words that pass the checks of their number and of the slices. The edges are counted between the search and the lengths, where the
-// entries are.
+// The answer for words that pass the checks of their number and of the slices. The edges are counted between
+// the search and the lengths, where the entries are.
 fn crossed_of_words(
     version: Version,
     words: &[u32],
@@ -83,8 +85,10 @@ fn crossed_of_words(
     lengths: &mut [u32],
 ) -> Crossed
     requires { ⌜ Lent (length (now words)) (now marks) (now lengths) ⌝ }
-    ensures { λ r. ⌜ r ≡ crossedBy (decided (scriptOf version (now (words .entry))) ones) (scriptOf version (now (words .entry))) w ⌝ }
-    ensures { λ _. ⌜ Decided (scriptOf version (now (words .entry))) ones (decided (scriptOf version (now (words .entry))) ones) (now (marks .exit)) (now (lengths .exit)) ⌝ }
+    ensures { λ r. ⌜ r ≡ crossedBy (decided (scriptOf version (now (words .entry))) ones)
+        (scriptOf version (now (words .entry))) w ⌝ }
+    ensures { λ _. ⌜ Decided (scriptOf version (now (words .entry))) ones
+        (decided (scriptOf version (now (words .entry))) ones) (now (marks .exit)) (now (lengths .exit)) ⌝ }
 {
     search_words(version, words, marks, lengths);
     let count = count_crossings(w, marks, lengths);
@@ -99,7 +103,8 @@ fn crossed_of_words(
     }
 }
 
-// How many edges from reachable words pass over w, or the run's refusal with all weights 1. The slices get what that run leaves.
+// How many edges from reachable words pass over w, or the run's refusal with all weights 1.
+// The slices get what that run leaves.
 pub fn crossing_edges(
     version: Version,
     words: &[u32],
@@ -107,9 +112,12 @@ pub fn crossing_edges(
     marks: &mut [u8],
     lengths: &mut [u32],
 ) -> Crossed
-    ensures { λ r. ⌜ r ≡ crossedOf (scriptOf version (now (words .entry))) w (length (now (marks .entry))) (length (now (lengths .entry))) ⌝ }
-    ensures { λ _. ⌜ now (marks .exit) ≡ marksAfter (scriptOf version (now (words .entry))) ones (now (marks .entry)) (now (lengths .entry)) ⌝ }
-    ensures { λ _. ⌜ now (lengths .exit) ≡ lengthsAfter (scriptOf version (now (words .entry))) ones (now (marks .entry)) (now (lengths .entry)) ⌝ }
+    ensures { λ r. ⌜ r ≡ crossedOf (scriptOf version (now (words .entry))) w (length (now (marks .entry)))
+        (length (now (lengths .entry))) ⌝ }
+    ensures { λ _. ⌜ now (marks .exit) ≡ marksAfter (scriptOf version (now (words .entry))) ones
+        (now (marks .entry)) (now (lengths .entry)) ⌝ }
+    ensures { λ _. ⌜ now (lengths .exit) ≡ lengthsAfter (scriptOf version (now (words .entry))) ones
+        (now (marks .entry)) (now (lengths .entry)) ⌝ }
 {
     let n = words.len();
     let number = size_refusal(n, marks.len(), lengths.len());

@@ -1,10 +1,11 @@
-// The distance to service of a word: "the fewest words to the next serving step or return, counting the word itself".
+// The distance to service of a word: "the fewest words to the next serving step or return,
+// counting the word itself".
 ghost use mathlib.Core.Path.{_≡_};
 ghost use lib.ListN.{length};
 ghost use Rattle.runs.specs.Script.{scriptOf};
-ghost use Rattle.runs.specs.Entries.{entries, graphIn};
-ghost use Rattle.runs.specs.SearchInvariants.{Lent};
-ghost use Rattle.runs.specs.PassInvariants.{FillAsks};
+ghost use Rattle.sweep.specs.Entries.{entries, graphIn};
+ghost use Rattle.sweep.specs.SearchInvariants.{Lent};
+ghost use Rattle.sweep.specs.PassInvariants.{FillAsks};
 ghost use Rattle.runs.specs.Outcome.{decided, Decided};
 ghost use Rattle.runs.specs.Run.{marksAfter, lengthsAfter};
 ghost use Rattle.runs.specs.Counted.{ones};
@@ -16,8 +17,8 @@ use crate::unit::unit_run;
 use common::numbers::*;
 use fields::version::Version;
 use runs::Run;
-use runs::inner::ENTRIES;
 use runs::inner::search_words;
+use sweep::inner::ENTRIES;
 
 pub enum Nearest {
     Fewest(u32),
@@ -42,8 +43,8 @@ fn find_fewest(w: usize, marks: &[u8], lengths: &mut [u32]) -> Nearest
     Nearest::Fewest(lengths[w] / ENTRIES + 1)
 }
 
-// The answer for words that pass the checks of their number and of the slices. The distance is found between the search and the lengths, where the
-// entries are, so that the run need be made only once.
+// The answer for words that pass the checks of their number and of the slices. The distance is found between
+// the search and the lengths, where the entries are, so that the run need be made only once.
 fn nearest_of_words(
     version: Version,
     words: &[u32],
@@ -52,8 +53,10 @@ fn nearest_of_words(
     lengths: &mut [u32],
 ) -> Nearest
     requires { ⌜ Lent (length (now words)) (now marks) (now lengths) ⌝ }
-    ensures { λ r. ⌜ r ≡ nearestBy (decided (scriptOf version (now (words .entry))) ones) (scriptOf version (now (words .entry))) w ⌝ }
-    ensures { λ _. ⌜ Decided (scriptOf version (now (words .entry))) ones (decided (scriptOf version (now (words .entry))) ones) (now (marks .exit)) (now (lengths .exit)) ⌝ }
+    ensures { λ r. ⌜ r ≡ nearestBy (decided (scriptOf version (now (words .entry))) ones)
+        (scriptOf version (now (words .entry))) w ⌝ }
+    ensures { λ _. ⌜ Decided (scriptOf version (now (words .entry))) ones
+        (decided (scriptOf version (now (words .entry))) ones) (now (marks .exit)) (now (lengths .exit)) ⌝ }
 {
     search_words(version, words, marks, lengths);
     let nearest = find_fewest(w, marks, lengths);
@@ -76,9 +79,12 @@ pub fn distance_to_service(
     marks: &mut [u8],
     lengths: &mut [u32],
 ) -> Nearest
-    ensures { λ r. ⌜ r ≡ nearestOf (scriptOf version (now (words .entry))) w (length (now (marks .entry))) (length (now (lengths .entry))) ⌝ }
-    ensures { λ _. ⌜ now (marks .exit) ≡ marksAfter (scriptOf version (now (words .entry))) ones (now (marks .entry)) (now (lengths .entry)) ⌝ }
-    ensures { λ _. ⌜ now (lengths .exit) ≡ lengthsAfter (scriptOf version (now (words .entry))) ones (now (marks .entry)) (now (lengths .entry)) ⌝ }
+    ensures { λ r. ⌜ r ≡ nearestOf (scriptOf version (now (words .entry))) w (length (now (marks .entry)))
+        (length (now (lengths .entry))) ⌝ }
+    ensures { λ _. ⌜ now (marks .exit) ≡ marksAfter (scriptOf version (now (words .entry))) ones
+        (now (marks .entry)) (now (lengths .entry)) ⌝ }
+    ensures { λ _. ⌜ now (lengths .exit) ≡ lengthsAfter (scriptOf version (now (words .entry))) ones
+        (now (marks .entry)) (now (lengths .entry)) ⌝ }
 {
     let n = words.len();
     let number = size_refusal(n, marks.len(), lengths.len());

@@ -1,4 +1,5 @@
-// Over runs, by its public functions: how far each word is from a service, and how many edges pass over a word (request C-22).
+// Over runs, by its public functions: how far each word is from a service, and how many edges pass
+// over a word (request C-22).
 pub mod crossing;
 pub mod distance;
 pub mod exported;

@@ -1,17 +1,18 @@
-// The distances of all words, from the highest down: an edge that does not serve goes forward, so that what it needs is there. Where control goes is
-// read from the entries that the search leaves, and a word's distance stands where the search had its queue, above the entry: less 1, so that no
-// distance is too large for it. No word is read and no mark, since how far a service is does not depend on how a word is reached.
+// The distances of all words, from the highest down: an edge that does not serve goes forward, so that
+// what it needs is there. Where control goes is read from the entries that the search leaves, and a word's
+// distance stands where the search had its queue, above the entry: less 1, so that no distance is too large
+// for it. No word is read and no mark, since how far a service is does not depend on how a word is reached.
 ghost use mathlib.Core.Path.{_≡_};
 ghost use Prim.Native.Nat.{_+_, min};
 ghost use Rattle.graph.specs.Distance.{nearer};
-ghost use Rattle.runs.specs.Entries.{entries, graphIn};
+ghost use Rattle.sweep.specs.Entries.{entries, graphIn};
 ghost use Rattle.service.specs.Pass.{noted, Nearing, Holds, Notes};
-use runs::edges::serves;
-use runs::inner::ENTRIES;
-use runs::inner::KIND_NEXT;
-use runs::inner::KIND_NONE;
-use runs::inner::KIND_TARGET;
-use runs::inner::TARGETS;
+use sweep::edges::serves;
+use sweep::inner::ENTRIES;
+use sweep::inner::KIND_NEXT;
+use sweep::inner::KIND_NONE;
+use sweep::inner::KIND_TARGET;
+use sweep::inner::TARGETS;
 
 // The smaller of two numbers.
 fn smaller(x: u32, y: u32) -> u32
@@ -23,11 +24,12 @@ fn smaller(x: u32, y: u32) -> u32
     y
 }
 
-// The distance of word p, less 1, where those of the words above it are noted, and `above` is that of the next. It is handed on, so that a turn need
-// not wait for what the one before it stored.
+// The distance of word p, less 1, where those of the words above it are noted, and `above` is that of the
+// next. It is handed on, so that a turn need not wait for what the one before it stored.
 fn distance_at(lengths: &[u32], p: usize, above: u32) -> u32
     requires { ⌜ Nearing (now lengths) p above ⌝ }
-    ensures { λ r. ⌜ r + 1 ≡ nearer (graphIn (entries (now (lengths .entry)))) (noted (now (lengths .entry))) p ⌝ }
+    ensures { λ r. ⌜
+        r + 1 ≡ nearer (graphIn (entries (now (lengths .entry)))) (noted (now (lengths .entry))) p ⌝ }
 {
     let entry = lengths[p] % ENTRIES;
     let kind = entry / TARGETS;

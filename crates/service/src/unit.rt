@@ -1,4 +1,5 @@
-// The run in which every word counts 1: what refuses it before a word is read, and the run of words that are searched.
+// The run in which every word counts 1: what refuses it before a word is read, and the run
+// of words that are searched.
 ghost use Rattle.runs.specs.Script.{scriptOf};
 ghost use Rattle.runs.specs.Outcome.{Searched, Decided};
 ghost use Rattle.runs.specs.Counted.{ones};
@@ -32,7 +33,8 @@ pub(crate) fn size_refusal(n: usize, marks: usize, lengths: usize) -> u8
 // The run of words that are searched: their lengths take the place of their entries.
 pub(crate) fn unit_run(version: Version, words: &[u32], marks: &[u8], lengths: &mut [u32]) -> Run
     requires { ⌜ Searched (scriptOf version (now words)) (now marks) (now lengths) ⌝ }
-    ensures { λ r. ⌜ Decided (scriptOf version (now (words .entry))) ones r (now (marks .entry)) (now (lengths .exit)) ⌝ }
+    ensures { λ r. ⌜
+        Decided (scriptOf version (now (words .entry))) ones r (now (marks .entry)) (now (lengths .exit)) ⌝ }
 {
     let weights = [1u8; WEIGHTS];
     measure_run(version, words, &weights, marks, lengths)

@@ -5,14 +5,21 @@ ghost use Prim.Native.Nat.{_≤_};
 ghost use lib.Dec.{ltb, eqb};
 ghost use lib.ListN.{length};
 ghost use Rattle.common.specs.Lists.{over};
-ghost use Rattle.runs.specs.Steps.{isInvalid};
+ghost use Rattle.sweep.specs.Steps.{isInvalid};
 ghost use Rattle.runs.specs.Script.{scriptOf};
-ghost use Rattle.runs.specs.Entries.{entryAt, entries, stepsOf, lowestBy};
-ghost use Rattle.runs.specs.SearchInvariants.{Lent};
-ghost use Rattle.runs.specs.PassInvariants.{FillAsks};
+ghost use Rattle.sweep.specs.Entries.{entryAt, entries, stepsOf, lowestBy};
+ghost use Rattle.sweep.specs.SearchInvariants.{Lent};
+ghost use Rattle.sweep.specs.PassInvariants.{FillAsks};
 ghost use Rattle.runs.specs.Outcome.{decided, Decided};
 ghost use Rattle.runs.specs.Counted.{ones};
-ghost use Rattle.service.specs.Questions.{listedOf, listBy, withinOf, marksWithin, lengthsWithin, listWithin};
+ghost use Rattle.service.specs.Questions.{
+  listedOf,
+  listBy,
+  withinOf,
+  marksWithin,
+  lengthsWithin,
+  listWithin,
+};
 ghost use Rattle.service.specs.Pass.{answerBy, listedBy, listIn};
 use crate::pass::note_distances;
 use crate::unit::size_refusal;
@@ -22,10 +29,10 @@ use common::limits::MOST_WORDS;
 use common::numbers::*;
 use fields::version::Version;
 use runs::Run;
-use runs::inner::ENTRIES;
-use runs::inner::RETURNS;
-use runs::inner::TARGETS;
 use runs::inner::search_words;
+use sweep::inner::ENTRIES;
+use sweep::inner::RETURNS;
+use sweep::inner::TARGETS;
 
 // Whether a word of this mark and this entry is reachable and bad.
 fn is_bad(mark: u8, entry: u32, p: usize) -> bool
@@ -40,10 +47,12 @@ fn is_bad(mark: u8, entry: u32, p: usize) -> bool
     entry != RETURNS
 }
 
-// Whether a reachable word is bad, so that the run refuses. It looks at all words, so that the compiler takes several at a time.
+// Whether a reachable word is bad, so that the run refuses. It looks at all words, so that the
+// compiler takes several at a time.
 fn some_bad(marks: &[u8], lengths: &[u32]) -> bool
     requires { ⌜ FillAsks (now marks) (now lengths) ⌝ }
-    ensures { λ r. ⌜ r ≡ ltb (lowestBy (length (entries (now (lengths .entry)))) (stepsOf (entries (now (lengths .entry))))) (length (entries (now (lengths .entry)))) ⌝ }
+    ensures { λ r. ⌜ r ≡ ltb (lowestBy (length (entries (now (lengths .entry))))
+        (stepsOf (entries (now (lengths .entry))))) (length (entries (now (lengths .entry)))) ⌝ }
 {
     let n = lengths.len();
     let mut bad = false;
@@ -73,7 +82,8 @@ fn listed(d: usize, mark: u8, distance: u32) -> u8
 // Lists the marked words whose noted distance is at most d.
 fn write_list(d: usize, marks: &[u8], lengths: &[u32], list: &mut [u8])
     requires { ⌜ (length (now lengths) ≤ length (now marks)) × (length (now lengths) ≤ length (now list)) ⌝ }
-    ensures { λ _. ⌜ now (list .exit) ≡ over (listedBy d (now (marks .entry)) (now (lengths .entry))) (length (now (lengths .entry))) (now (list .entry)) ⌝ }
+    ensures { λ _. ⌜ now (list .exit) ≡ over (listedBy d (now (marks .entry)) (now (lengths .entry)))
+        (length (now (lengths .entry))) (now (list .entry)) ⌝ }
 {
     let n = lengths.len();
     let mut i = 0;
@@ -83,7 +93,8 @@ fn write_list(d: usize, marks: &[u8], lengths: &[u32], list: &mut [u8])
     }
 }
 
-// Lists the words, by the entries and the marks that the search leaves, unless the run will refuse them. The entries stay.
+// Lists the words, by the entries and the marks that the search leaves, unless the run will
+// refuse them. The entries stay.
 fn list_searched(d: usize, marks: &[u8], lengths: &mut [u32], list: &mut [u8])
     requires { ⌜ FillAsks (now marks) (now lengths) × (length (now lengths) ≤ length (now list)) ⌝ }
     ensures { λ _. ⌜ entries (now (lengths .exit)) ≡ entries (now (lengths .entry)) ⌝ }
@@ -105,10 +116,13 @@ fn list_of_words(
     lengths: &mut [u32],
     list: &mut [u8],
 ) -> Answer
-    requires { ⌜ Lent (length (now words)) (now marks) (now lengths) × (length (now words) ≤ length (now list)) ⌝ }
+    requires { ⌜ Lent (length (now words)) (now marks) (now lengths)
+        × (length (now words) ≤ length (now list)) ⌝ }
     ensures { λ r. ⌜ r ≡ answerBy (decided (scriptOf version (now (words .entry))) ones) ⌝ }
-    ensures { λ _. ⌜ Decided (scriptOf version (now (words .entry))) ones (decided (scriptOf version (now (words .entry))) ones) (now (marks .exit)) (now (lengths .exit)) ⌝ }
-    ensures { λ _. ⌜ now (list .exit) ≡ listBy (decided (scriptOf version (now (words .entry))) ones) (scriptOf version (now (words .entry))) d (now (list .entry)) ⌝ }
+    ensures { λ _. ⌜ Decided (scriptOf version (now (words .entry))) ones
+        (decided (scriptOf version (now (words .entry))) ones) (now (marks .exit)) (now (lengths .exit)) ⌝ }
+    ensures { λ _. ⌜ now (list .exit) ≡ listBy (decided (scriptOf version (now (words .entry))) ones)
+        (scriptOf version (now (words .entry))) d (now (list .entry)) ⌝ }
 {
     search_words(version, words, marks, lengths);
     list_searched(d, marks, lengths, list);
@@ -126,8 +140,8 @@ fn list_of_words(
     }
 }
 
-// Which reachable words have a service or return within d words: 1 for a listed word, else 0. The slices get what the run with all
-// weights 1 leaves.
+// Which reachable words have a service or return within d words: 1 for a listed word, else 0.
+// The slices get what the run with all weights 1 leaves.
 pub fn list_within(
     version: Version,
     words: &[u32],
@@ -136,10 +150,14 @@ pub fn list_within(
     lengths: &mut [u32],
     list: &mut [u8],
 ) -> Answer
-    ensures { λ r. ⌜ r ≡ withinOf (scriptOf version (now (words .entry))) (length (now (marks .entry))) (length (now (lengths .entry))) (length (now (list .entry))) ⌝ }
-    ensures { λ _. ⌜ now (marks .exit) ≡ marksWithin (scriptOf version (now (words .entry))) (now (marks .entry)) (now (lengths .entry)) (now (list .entry)) ⌝ }
-    ensures { λ _. ⌜ now (lengths .exit) ≡ lengthsWithin (scriptOf version (now (words .entry))) (now (marks .entry)) (now (lengths .entry)) (now (list .entry)) ⌝ }
-    ensures { λ _. ⌜ now (list .exit) ≡ listWithin (scriptOf version (now (words .entry))) d (now (marks .entry)) (now (lengths .entry)) (now (list .entry)) ⌝ }
+    ensures { λ r. ⌜ r ≡ withinOf (scriptOf version (now (words .entry))) (length (now (marks .entry)))
+        (length (now (lengths .entry))) (length (now (list .entry))) ⌝ }
+    ensures { λ _. ⌜ now (marks .exit) ≡ marksWithin (scriptOf version (now (words .entry)))
+        (now (marks .entry)) (now (lengths .entry)) (now (list .entry)) ⌝ }
+    ensures { λ _. ⌜ now (lengths .exit) ≡ lengthsWithin (scriptOf version (now (words .entry)))
+        (now (marks .entry)) (now (lengths .entry)) (now (list .entry)) ⌝ }
+    ensures { λ _. ⌜ now (list .exit) ≡ listWithin (scriptOf version (now (words .entry))) d
+        (now (marks .entry)) (now (lengths .entry)) (now (list .entry)) ⌝ }
 {
     let n = words.len();
     if MOST_WORDS < n {

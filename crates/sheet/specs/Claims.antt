@@ -1,5 +1,5 @@
--- What the format's definitions mean, over whole texts and in terms of the lines of words alone. The proof of `Claims` is
--- `proofs/Claims.antt`.
+-- What the format's definitions mean, over whole texts and in terms of the lines of words alone.
+-- The proof of `Claims` is `proofs/Claims.antt`.
 -- Assumes nothing.
 use mathlib.Core.Path.{_≡_}
 use mathlib.Core.List.{List, [], _∷_, _++_}
@@ -28,7 +28,8 @@ pub record Accepted (room : ℕ) (text : List ℕ) (n : ℕ) : Type 0 where
   pub fits : n ≤ room
   pub whole : text ≡ textOf words
 
--- 12: lines of words come first, then something that does not start with the line of a word, though there is room for one
+-- 12: lines of words come first, then something that does not start with the line of a word,
+-- though there is room for one
 pub record Broken (room : ℕ) (text : List ℕ) (line : ℕ) : Type 0 where
   pub words : List ℕ
   pub are-words : AllWords words
@@ -60,10 +61,12 @@ pub record Claims : Type 0 where
   -- what is so is answered: each text has one answer
   pub only : (room : ℕ) (text : List ℕ) (s : Sheet) → Says room text s → sheetOf room text ≡ s
   -- what is accepted is that text: the bytes are exactly the lines of the words that are stored
-  pub accepted : (room : ℕ) (text : List ℕ) (n : ℕ) → sheetOf room text ≡ Words n → text ≡ textOf (wordsOf text n)
+  pub accepted : (room : ℕ) (text : List ℕ) (n : ℕ)
+      → sheetOf room text ≡ Words n → text ≡ textOf (wordsOf text n)
   -- every sheet for whose words there is room is accepted, with those words
   pub every : (room : ℕ) (words : List ℕ) → AllWords words → length words ≤ room
       → sheetOf room (textOf words) ≡ Words (length words)
   pub back : (words : List ℕ) → AllWords words → wordsOf (textOf words) (length words) ≡ words
   -- a text need not be read past the first byte for which there is no room
-  pub enough : (room more : ℕ) (text : List ℕ) → sheetOf room (take (11 * room + (more + 1)) text) ≡ sheetOf room text
+  pub enough : (room more : ℕ) (text : List ℕ)
+      → sheetOf room (take (11 * room + (more + 1)) text) ≡ sheetOf room text

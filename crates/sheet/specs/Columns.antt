@@ -1,5 +1,6 @@
--- A number as text in columns: document 01, "Bench program": "a decimal number, right-justified in 10 columns, blanks to
--- its left, no needless leading 0", and "in columns of 6". Text is a list of bytes, in ASCII.
+-- A number as text in columns: document 01, "Bench program": "a decimal number, right-justified
+-- in 10 columns, blanks to its left, no needless leading 0", and "in columns of 6".
+-- Text is a list of bytes, in ASCII.
 -- Assumes nothing.
 use mathlib.Core.Bool.{cond}
 use mathlib.Core.List.{List, [], _∷_, _++_}
@@ -29,7 +30,8 @@ unfoldable pub leading : ℕ → ℕ → List ℕ
 leading zero v = []
 leading (suc k) v = leading k (v / 10) ++ (glyphOf v ∷ [])
 
--- v in k columns. The last one shows a digit even of 0. Of a number that is wider than k columns the last k digits show
+-- v in k columns. The last one shows a digit even of 0. Of a number that is wider than k
+-- columns the last k digits show
 unfoldable pub columns : ℕ → ℕ → List ℕ
 columns zero v = []
 columns (suc k) v = leading k (v / 10) ++ (digitOf v ∷ [])

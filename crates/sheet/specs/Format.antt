@@ -11,8 +11,9 @@ use Rattle.sheet.specs.declared.reading.Sheet.{Sheet}
 use Rattle.sheet.specs.declared.reading.Sheet.the-variants.{Words, Malformed, TooLong}
 use Rattle.sheet.specs.Line.{valueOf, isLine}
 
--- what is read of the text that is left, where k lines are read and there is room for so many more. "Of 12 and 13 the
--- first met in reading order counts", and the text of a line for which there is no room "is not examined"
+-- what is read of the text that is left, where k lines are read and there is room for so many more.
+-- "Of 12 and 13 the first met in reading order counts", and the text of a line for which there is
+-- no room "is not examined"
 abbrev pub readFrom : ℕ → ℕ → List ℕ → Sheet
 readFrom zero k text = cond (eqb (length text) 0) (Words k) TooLong
 readFrom (suc room) k text =
@@ -32,14 +33,15 @@ unfoldable pub wordsOf : List ℕ → ℕ → List ℕ
 wordsOf text zero = []
 wordsOf text (suc k) = wordsOf text k ++ (wordAt text k ∷ [])
 
--- what an answer leaves in the table: the words, with the places past them untouched; of a refusal "nothing lent is
--- altered"
+-- what an answer leaves in the table: the words, with the places past them untouched; of a refusal
+-- "nothing lent is altered"
 abbrev pub stored : Sheet → List ℕ → List ℕ → List ℕ
 stored (Words n) text table = wordsOf text n ++ drop n table
 stored (Malformed line) text table = table
 stored TooLong text table = table
 
--- the room that a table has: its places, at most 4,096. "It holds at most 4,096 words": the program's has as many
+-- the room that a table has: its places, at most 4,096. "It holds at most 4,096 words":
+-- the program's has as many
 abbrev pub roomOf : List ℕ → ℕ
 roomOf table = min mostLines (length table)
 

@@ -1,5 +1,5 @@
--- A line of the sheet: "each line one word as a decimal number, right-justified in 10 columns, blanks to its left, no
--- needless leading 0, a newline".
+-- A line of the sheet: "each line one word as a decimal number, right-justified in 10 columns, blanks to its
+-- left, no needless leading 0, a newline".
 -- Assumes nothing.
 use mathlib.Core.Bool.{Bool, true, false, _&&_}
 use mathlib.Core.List.{List, [], _∷_, _++_}
@@ -16,8 +16,8 @@ mostWord = 4294967295
 unfoldable pub lineOf : ℕ → List ℕ
 lineOf v = columns 10 v ++ (newline ∷ [])
 
--- the number that bytes show after v. A digit is the low half of its byte, which of a blank is 0. Bytes that are neither
--- show some number too, whose line they are not
+-- the number that bytes show after v. A digit is the low half of its byte, which of a blank is 0.
+-- Bytes that are neither show some number too, whose line they are not
 abbrev pub valueFrom : ℕ → List ℕ → ℕ
 valueFrom v [] = v
 valueFrom v (b ∷ bytes) = valueFrom (v * 10 + b % 16) bytes
@@ -32,7 +32,7 @@ same [] (y ∷ ys) = false
 same (x ∷ xs) [] = false
 same (x ∷ xs) (y ∷ ys) = eqb x y && same xs ys
 
--- a line is well formed if it is the line of a word: of the number that it shows. `specs/Claims.antt` says this without
--- the number: exactly the lines `lineOf w` of a word w are
+-- a line is well formed if it is the line of a word: of the number that it shows. `specs/Claims.antt` says
+-- this without the number: exactly the lines `lineOf w` of a word w are
 unfoldable pub isLine : List ℕ → Bool
 isLine line = leb (valueOf line) mostWord && same line (lineOf (valueOf line))

@@ -1,5 +1,6 @@
--- The lines of the listing: "per word, in columns of 6: word number, opcode, first step, second step (`-` if none),
--- stretch", "then a line of L and its first word. On refusal the only line is the number and the place, 6 columns each".
+-- The lines of the listing: "per word, in columns of 6: word number, opcode, first step, second step (`-`
+-- if none), stretch", "then a line of L and its first word. On refusal the only line is the number and
+-- the place, 6 columns each".
 -- Assumes nothing.
 use mathlib.Core.List.{List, [], _∷_, _++_}
 use Prim.Native.Nat.{ℕ}

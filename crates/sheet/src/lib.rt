@@ -1,4 +1,5 @@
-// The bench program's text: a sheet of words in, the lines of the listing out. Nothing here knows what a word means.
+// The bench program's text: a sheet of words in, the lines of the listing out. Nothing
+// here knows what a word means.
 mod digits;
 mod lines;
 mod reading;

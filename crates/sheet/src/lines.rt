@@ -1,5 +1,5 @@
-// A line of the sheet. It is well formed if it is the line of the number that it shows, so there is no state machine:
-// a number is read off any ten bytes, and the line of that number is compared with them.
+// A line of the sheet. It is well formed if it is the line of the number that it shows, so there is no state
+// machine: a number is read off any ten bytes, and the line of that number is compared with them.
 ghost use mathlib.Core.Path.{_≡_};
 ghost use Prim.Native.Nat.{_+_, _≤_};
 ghost use lib.ListN.{length, take, drop};

@@ -73,7 +73,8 @@ fn scan(text: &[u8], room: usize) -> Sheet
 
 // The words of the first n lines.
 fn fill(text: &[u8], words: &mut [u32], n: usize)
-    requires { ⌜ (n ≤ length (now words)) × (11 * n ≤ length (now text)) × ((k : ℕ) → k < n → wordAt (now text) k ≤ 4294967295) ⌝ }
+    requires { ⌜ (n ≤ length (now words)) × (11 * n ≤ length (now text))
+        × ((k : ℕ) → k < n → wordAt (now text) k ≤ 4294967295) ⌝ }
     ensures { λ _. ⌜ now (words .exit) ≡ wordsOf (now (text .entry)) n ++ drop n (now (words .entry)) ⌝ }
 {
     let mut k = 0;
@@ -83,8 +84,9 @@ fn fill(text: &[u8], words: &mut [u32], n: usize)
     }
 }
 
-// Reads a sheet into the word table. It is scanned whole before a word is stored, so that a refusal leaves the table as
-// it was. A table of fewer than 4,096 places makes number 13 come earlier: no word is dropped in silence.
+// Reads a sheet into the word table. It is scanned whole before a word is stored, so that a refusal leaves
+// the table as it was. A table of fewer than 4,096 places makes number 13 come earlier:
+// no word is dropped in silence.
 pub fn read(text: &[u8], words: &mut [u32]) -> Sheet
     ensures { λ r. ⌜ r ≡ sheetOf (roomOf (now (words .entry))) (now (text .entry)) ⌝ }
     ensures { λ _. ⌜ now (words .exit) ≡ tableAfter (now (text .entry)) (now (words .entry)) ⌝ }

@@ -17,7 +17,8 @@ use Rattle.survey.specs.Lines.{textOf, lineOf}
 abbrev pub lineLength : ℕ
 lineLength = 49
 
--- the lines of a chunk that holds these functions: "a line for each function, in the order of their first bytes"
+-- the lines of a chunk that holds these functions: "a line for each function, in the
+-- order of their first bytes"
 pub record Listed (bytes : List ℕ) (fs : List Function) (at : ℕ) : Type 0 where
   pub each : (k : ℕ) (d : Function) → k < length fs → lineOf k bytes ≡ textOf k (done (getD fs k d) at)
   pub some : (k : ℕ) → k < length fs → 0 < length (lineOf k bytes)
@@ -31,12 +32,16 @@ pub record OneLine (bytes : List ℕ) (number place : ℕ) : Type 0 where
 
 pub record Claims : Type 0 where
   pub fits : (k : ℕ) (bytes : List ℕ) → length (lineOf k bytes) ≤ lineLength
-  pub listed : (bytes : List ℕ) (fs : List Function) (at : ℕ) → length bytes ≤ mostBytes → undump bytes 0 ≡ done fs at → Listed bytes fs at
-  pub one-line : (bytes : List ℕ) (e : Refusal) → length bytes ≤ mostBytes → undump bytes 0 ≡ refused e → OneLine bytes (numberOf e) (placeOf e)
+  pub listed : (bytes : List ℕ) (fs : List Function) (at : ℕ)
+      → length bytes ≤ mostBytes → undump bytes 0 ≡ done fs at → Listed bytes fs at
+  pub one-line : (bytes : List ℕ) (e : Refusal)
+      → length bytes ≤ mostBytes → undump bytes 0 ≡ refused e → OneLine bytes (numberOf e) (placeOf e)
   pub too-long : (bytes : List ℕ) → mostBytes < length bytes → OneLine bytes «MALFORMED_CHUNK» 0
-  -- there are no more functions than bytes: a program that tries the numbers below k, 1 at least, on k bytes or fewer leaves no line out
+  -- there are no more functions than bytes: a program that tries the numbers below k, 1 at least, on k bytes
+  -- or fewer leaves no line out
   pub enough : (k : ℕ) (bytes : List ℕ) → 0 < k → length bytes ≤ k → lineOf k bytes ≡ []
 
--- n counts bytes at the start of the page. The second part follows from the first; to write them out takes both
+-- n counts bytes at the start of the page. The second part follows from the first;
+-- to write them out takes both
 abbrev pub Counted : ℕ → List ℕ → Type 0
 Counted n page = (n ≤ length page) × (n ≡ length (take n page))

@@ -1,4 +1,5 @@
-// The program that lists the functions of a compiled script, without its input and output: from a chunk's bytes to the line of a function.
+// The program that lists the functions of a compiled script, without its input and output:
+// from a chunk's bytes to the line of a function.
 mod lines;
 mod paper;
 mod run;

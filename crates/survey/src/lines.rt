@@ -86,8 +86,8 @@ fn put_line(bytes: &[u8], k: usize, page: &mut [u8]) -> usize
     put_tail(page, run)
 }
 
-// Puts the line of function k, counted from 0 by first byte, at the page's start and answers its length: 0 where there is no such function,
-// but that the line of 0 says why a chunk is refused.
+// Puts the line of function k, counted from 0 by first byte, at the page's start and answers its length:
+// 0 where there is no such function, but that the line of 0 says why a chunk is refused.
 pub fn line(bytes: &[u8], k: usize, page: &mut [u8; LINE]) -> usize
     ensures { λ r. ⌜ r ≡ length (lineOf k (now (bytes .entry))) ⌝ }
     ensures { λ _. ⌜ now (page .exit) ≡ put (now (page .entry)) 0 (lineOf k (now (bytes .entry))) ⌝ }

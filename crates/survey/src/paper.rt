@@ -1,4 +1,5 @@
-// The program's fixed tables, each from a function, so that its length is all that is known of it; and text put on a page.
+// The program's fixed tables, each from a function, so that its length is all that is known of
+// it; and text put on a page.
 ghost use mathlib.Core.Path.{_≡_};
 ghost use Prim.Native.Nat.{_+_, _≤_};
 ghost use lib.ListN.{length};

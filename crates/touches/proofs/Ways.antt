@@ -17,7 +17,7 @@ use Rattle.fields.specs.Laws.{all}
 use Rattle.fields.proofs.Laws.{laws}
 use Rattle.graph.specs.Graph.{In}
 use Rattle.graph.proofs.Laws as graph
-use Rattle.runs.specs.Steps.{isInvalid, listOf}
+use Rattle.sweep.specs.Steps.{isInvalid, listOf}
 use Rattle.runs.specs.Ways.{fetch, jumped, targetOf, targetsOf, integers}
 use Rattle.runs.specs.Lvm as lvm
 use Rattle.runs.proofs.Laws as runs

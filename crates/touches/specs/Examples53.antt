@@ -1,6 +1,6 @@
--- Lists of Lua 5.3 by hand: words of each opcode by its number in lopcodes.h and by the bits of its fields there, then
--- corners of RK, counts, tops, loops and bad words. What each touches is read off lopcodes.h and lvm.c of 5.3.6 once
--- more, so that no line of Cases53 and Executions53 is its only carrier.
+-- Lists of Lua 5.3 by hand: words of each opcode by its number in lopcodes.h and by the bits of its fields
+-- there, then corners of RK, counts, tops, loops and bad words. What each touches is read off lopcodes.h and
+-- lvm.c of 5.3.6 once more, so that no line of Cases53 and Executions53 is its only carrier.
 -- Assumes nothing.
 use Prim.Native.Nat.{ℕ, _+_, _*_}
 use mathlib.Core.Path.{_≡_}
@@ -52,8 +52,8 @@ itemsOf t =
     ++ (indexed sets (numbersIn (t .«upvalue_writes»))
     ++ ranged (writes-to (t .edge)) (rangesIn (t .«edge_writes»))))))))
 
--- words by their fields: the opcode in bits 0 to 5, A from 6, C from 14, B from 23, Bx from 14, Ax from 6; sBx is
--- Bx - 131,071
+-- words by their fields: the opcode in bits 0 to 5, A from 6, C from 14, B from 23, Bx from 14, Ax
+-- from 6; sBx is Bx - 131,071
 abbrev abc : ℕ → ℕ → ℕ → ℕ → ℕ
 abc opcode a b c = opcode + 64 * a + 8388608 * b + 16384 * c
 

@@ -1,9 +1,9 @@
 -- lvm.c of Lua 5.4.8 once more, for what a word touches, in the C's own shape and order: for each case of
--- luaV_execute's switch the ways on, and on each way the executions that take it, with what they read and what they
--- store. specs/Meaning.antt says that the lists of specs/Touches.antt are those that follow from here: "the
--- registers, constants and upvalues that lvm.c reads and writes in some execution". An execution that ends in an
--- error goes on nowhere and is left out. The cases of 5.3.6 are in specs/Executions53.antt; what they alone need
--- stands here last.
+-- luaV_execute's switch the ways on, and on each way the executions that take it, with what they read and
+-- what they store. specs/Meaning.antt says that the lists of specs/Touches.antt are those that follow from
+-- here: "the registers, constants and upvalues that lvm.c reads and writes in some execution". An execution
+-- that ends in an error goes on nowhere and is left out. The cases of 5.3.6 are in specs/Executions53.antt;
+-- what they alone need stands here last.
 -- Assumes nothing.
 use Prim.Native.Nat.{ℕ, _+_, _-_, _≤_, _<_}
 use mathlib.Core.Path.{_≡_}
@@ -12,7 +12,7 @@ use mathlib.Core.Bool.{cond}
 use mathlib.Core.List.{List, [], _∷_, _++_}
 use lib.Dec.{eqb}
 use lib.IntN.{ℤ, pos, _+ℤ_, _-ℤ_}
-use Rattle.fields.specs.Opcodes.{«OP_MOVE», «OP_LOADI», «OP_LOADF», «OP_LOADK», «OP_LOADKX», «OP_LOADFALSE», «OP_LFALSESKIP», «OP_LOADTRUE», «OP_LOADNIL», «OP_GETUPVAL», «OP_SETUPVAL», «OP_GETTABUP», «OP_GETTABLE», «OP_GETI», «OP_GETFIELD», «OP_SETTABUP», «OP_SETTABLE», «OP_SETI», «OP_SETFIELD», «OP_NEWTABLE», «OP_SELF», «OP_ADDI», «OP_ADDK», «OP_SUBK», «OP_MULK», «OP_MODK», «OP_POWK», «OP_DIVK», «OP_IDIVK», «OP_BANDK», «OP_BORK», «OP_BXORK», «OP_SHRI», «OP_SHLI», «OP_ADD», «OP_SUB», «OP_MUL», «OP_MOD», «OP_POW», «OP_DIV», «OP_IDIV», «OP_BAND», «OP_BOR», «OP_BXOR», «OP_SHR», «OP_SHL», «OP_MMBIN», «OP_MMBINI», «OP_MMBINK», «OP_UNM», «OP_BNOT», «OP_NOT», «OP_LEN», «OP_CONCAT», «OP_CLOSE», «OP_TBC», «OP_JMP», «OP_EQ», «OP_LT», «OP_LE», «OP_EQK», «OP_EQI», «OP_LTI», «OP_LEI», «OP_GTI», «OP_GEI», «OP_TEST», «OP_TESTSET», «OP_CALL», «OP_TAILCALL», «OP_RETURN», «OP_RETURN0», «OP_RETURN1», «OP_FORLOOP», «OP_FORPREP», «OP_TFORPREP», «OP_TFORCALL», «OP_TFORLOOP», «OP_SETLIST», «OP_CLOSURE», «OP_VARARG», «OP_VARARGPREP», «OP_EXTRAARG»}
+use Rattle.fields.specs.Opcodes as op
 use Rattle.fields.specs.Lopcodes.{«GETARG_sJ», «TESTARG_k»}
 use Rattle.fields.specs.declared.version.Version.{Version}
 use Rattle.touches.specs.declared.arguments.Arguments.{Arguments}
@@ -55,8 +55,8 @@ pub data Access : Type 0 where
   pieces : Access
   -- R[A+1], ... ,R[A+B-1], "if (B == 0) then B = top - A"
   arguments : Access
-  -- R[A], ... ,R[A+C-2], "if (C == 0), then 'top' is set to last_result+1"; of VARARG the values that luaT_getvarargs
-  -- copies, C - 1 or all
+  -- R[A], ... ,R[A+C-2], "if (C == 0), then 'top' is set to last_result+1"; of VARARG the values that
+  -- luaT_getvarargs copies, C - 1 or all
   results : Access
   -- R[A+4], ... ,R[A+3+C]
   iterated : Access
@@ -64,18 +64,20 @@ pub data Access : Type 0 where
   returned : Access
   -- for (; n > 0; n--) { TValue *val = s2v(ra + n); .. }, where n = GETARG_B(i), or L->top.p - ra - 1
   elements : Access
-  -- 5.3.6: ISK(GETARG_B(i)) ? k+INDEXK(GETARG_B(i)) : base+GETARG_B(i), and the same of C; its RB(i) is vRB's register
+  -- 5.3.6: ISK(GETARG_B(i)) ? k+INDEXK(GETARG_B(i)) : base+GETARG_B(i), and the same of C;
+  -- its RB(i) is vRB's register
   RKB-isk : Access
   RKC-isk : Access
   -- 5.3.6, "CONCAT [goes] by [its] formula": R(B).. ... ..R(C)
   concatenated : Access
   -- 5.3.6: R(A+3), ... ,R(A+2+C)
   called : Access
-  -- 5.3.6: for (j = 0; j < b && j < n; j++) .. for (; j < b; j++) .. ra + j, where b = GETARG_B(i) - 1, or n with
-  -- L->top = ra + n
+  -- 5.3.6: for (j = 0; j < b && j < n; j++) .. for (; j < b; j++) .. ra + j, where b = GETARG_B(i) - 1,
+  -- or n with L->top = ra + n
   varargs : Access
 
--- A cell that an access names in the word i, by lopcodes.h's macros; pi is the word before i, ni the one after it.
+-- A cell that an access names in the word i, by lopcodes.h's macros; pi is the word
+-- before i, ni the one after it.
 abbrev pub names : Arguments → Arguments → Arguments → Cell → Access → Type 0
 names i pi ni c «ra» = c ≡ register (i .a)
 names i pi ni c «ra+1» = c ≡ register (i .a + 1)
@@ -97,32 +99,39 @@ names i pi ni c nils = (j : ℕ) × ((j ≤ i .b) × (c ≡ register (i .a + j))
 names i pi ni c pieces = (j : ℕ) × ((j < i .b) × (c ≡ register (i .a + j)))
 names i pi ni c arguments =
     ((i .b ≡ 0) × (c ≡ upToTop (i .a + 1))) ⊎ ((j : ℕ) × (((0 < j) × (j < i .b)) × (c ≡ register (i .a + j))))
-names i pi ni c results = ((i .c ≡ 0) × (c ≡ upToTop (i .a))) ⊎ ((j : ℕ) × ((j + 1 < i .c) × (c ≡ register (i .a + j))))
+names i pi ni c results =
+    ((i .c ≡ 0) × (c ≡ upToTop (i .a))) ⊎ ((j : ℕ) × ((j + 1 < i .c) × (c ≡ register (i .a + j))))
 names i pi ni c iterated = (j : ℕ) × ((j < i .c) × (c ≡ register (i .a + 4 + j)))
-names i pi ni c returned = ((i .b ≡ 0) × (c ≡ upToTop (i .a))) ⊎ ((j : ℕ) × ((j + 1 < i .b) × (c ≡ register (i .a + j))))
+names i pi ni c returned =
+    ((i .b ≡ 0) × (c ≡ upToTop (i .a))) ⊎ ((j : ℕ) × ((j + 1 < i .b) × (c ≡ register (i .a + j))))
 names i pi ni c elements =
     ((i .b ≡ 0) × (c ≡ upToTop (i .a + 1))) ⊎ ((j : ℕ) × (((0 < j) × (j ≤ i .b)) × (c ≡ register (i .a + j))))
 -- #define RKB(i)  ISK(GETARG_B(i)) ? k+INDEXK(GETARG_B(i)) : base+GETARG_B(i)
-names i pi ni c RKB-isk = ((«ISK» (i .b) ≡ 0) × (c ≡ register (i .b))) ⊎ ((«ISK» (i .b) ≡ 0 → ⊥) × (c ≡ constant («INDEXK» (i .b))))
-names i pi ni c RKC-isk = ((«ISK» (i .c) ≡ 0) × (c ≡ register (i .c))) ⊎ ((«ISK» (i .c) ≡ 0 → ⊥) × (c ≡ constant («INDEXK» (i .c))))
+names i pi ni c RKB-isk =
+    ((«ISK» (i .b) ≡ 0) × (c ≡ register (i .b))) ⊎ ((«ISK» (i .b) ≡ 0 → ⊥) × (c ≡ constant («INDEXK» (i .b))))
+names i pi ni c RKC-isk =
+    ((«ISK» (i .c) ≡ 0) × (c ≡ register (i .c))) ⊎ ((«ISK» (i .c) ≡ 0 → ⊥) × (c ≡ constant («INDEXK» (i .c))))
 names i pi ni c concatenated = (j : ℕ) × ((i .b + j ≤ i .c) × (c ≡ register (i .b + j)))
 names i pi ni c called = (j : ℕ) × ((j < i .c) × (c ≡ register (i .a + 3 + j)))
-names i pi ni c varargs = ((i .b ≡ 0) × (c ≡ upToTop (i .a))) ⊎ ((j : ℕ) × ((j + 1 < i .b) × (c ≡ register (i .a + j))))
+names i pi ni c varargs =
+    ((i .b ≡ 0) × (c ≡ upToTop (i .a))) ⊎ ((j : ℕ) × ((j + 1 < i .b) × (c ≡ register (i .a + j))))
 
--- The registers that an access names when L->top.p is base + t; the top after the word for what it stores, before it
--- for what it reads. Only a count of 0 looks at the top.
+-- The registers that an access names when L->top.p is base + t; the top after the word for what it stores,
+-- before it for what it reads. Only a count of 0 looks at the top.
 abbrev counted : ℕ → ℕ → ℕ → ℕ
 counted field byTop byField = cond (eqb field 0) byTop byField
 
 abbrev pub namesAt : Arguments → Arguments → Arguments → ℕ → ℕ → Access → Type 0
 -- "if (B == 0) then B = top - A"
-namesAt i pi ni t q arguments = (j : ℕ) × (((0 < j) × (j < counted (i .b) (t - i .a) (i .b))) × (q ≡ i .a + j))
+namesAt i pi ni t q arguments =
+    (j : ℕ) × (((0 < j) × (j < counted (i .b) (t - i .a) (i .b))) × (q ≡ i .a + j))
 -- "'top' is set to last_result+1"
 namesAt i pi ni t q results = (j : ℕ) × ((j < counted (i .c) (t - i .a) (i .c - 1)) × (q ≡ i .a + j))
 -- n = GETARG_B(i) - 1; if (n < 0) n = cast_int(L->top.p - ra);
 namesAt i pi ni t q returned = (j : ℕ) × ((j < counted (i .b) (t - i .a) (i .b - 1)) × (q ≡ i .a + j))
 -- if (n == 0) n = cast_int(L->top.p - ra) - 1;
-namesAt i pi ni t q elements = (j : ℕ) × (((0 < j) × (j ≤ counted (i .b) (t - i .a - 1) (i .b))) × (q ≡ i .a + j))
+namesAt i pi ni t q elements =
+    (j : ℕ) × (((0 < j) × (j ≤ counted (i .b) (t - i .a - 1) (i .b))) × (q ≡ i .a + j))
 -- L->top = ra + n
 namesAt i pi ni t q varargs = (j : ℕ) × ((j < counted (i .b) (t - i .a) (i .b - 1)) × (q ≡ i .a + j))
 namesAt i pi ni t q «ra» = names i pi ni (register q) «ra»
@@ -148,8 +157,8 @@ namesAt i pi ni t q RKC-isk = names i pi ni (register q) RKC-isk
 namesAt i pi ni t q concatenated = names i pi ni (register q) concatenated
 namesAt i pi ni t q called = names i pi ni (register q) called
 
--- The tops that an access can meet: past the function that is called, and past the table; of values returned and of
--- results there may be none.
+-- The tops that an access can meet: past the function that is called, and past the table;
+-- of values returned and of results there may be none.
 abbrev pub Meets : Arguments → ℕ → Access → Type 0
 Meets i t arguments = i .b ≡ 0 → i .a < t
 Meets i t results = i .c ≡ 0 → i .a ≤ t
@@ -257,9 +266,9 @@ op_arithI =
     ∷ way vmbreak (run (vRB ∷ []) [] ∷ [])
     ∷ []
 
--- #define op_arith_aux(L,v1,v2,iop,fop) and its like: a test of v1 that fails ends the test of v2, but for op_bitwiseK,
--- which takes v2, a constant, first of all: there the first of the two failing executions does not occur, and the
--- other reads all that it would
+-- #define op_arith_aux(L,v1,v2,iop,fop) and its like: a test of v1 that fails ends the test of v2, but for
+-- op_bitwiseK, which takes v2, a constant, first of all: there the first of the two failing executions does
+-- not occur, and the other reads all that it would
 abbrev op_arith_aux : Access → Access → List Way
 op_arith_aux v1 v2 =
     way «pc++» (run (v1 ∷ v2 ∷ []) («ra» ∷ []) ∷ [])
@@ -284,96 +293,98 @@ pub data Case : Type 0 where
 -- the cases, in the C's order
 abbrev pub switch : List Case
 switch =
-    vmcase «OP_MOVE» (straight (vRB ∷ []) («ra» ∷ []))
-    ∷ vmcase «OP_LOADI» (straight [] («ra» ∷ []))
-    ∷ vmcase «OP_LOADF» (straight [] («ra» ∷ []))
-    ∷ vmcase «OP_LOADK» (straight («k+Bx» ∷ []) («ra» ∷ []))
-    ∷ vmcase «OP_LOADKX» (skipping («k+Ax» ∷ []) («ra» ∷ []))
-    ∷ vmcase «OP_LOADFALSE» (straight [] («ra» ∷ []))
-    ∷ vmcase «OP_LFALSESKIP» (skipping [] («ra» ∷ []))
-    ∷ vmcase «OP_LOADTRUE» (straight [] («ra» ∷ []))
-    ∷ vmcase «OP_LOADNIL» (straight [] (nils ∷ []))
-    ∷ vmcase «OP_GETUPVAL» (straight («upvals[B]» ∷ []) («ra» ∷ []))
-    ∷ vmcase «OP_SETUPVAL» (straight («ra» ∷ []) («upvals[B]» ∷ []))
-    -- setobj2s(L, ra, slot), or luaV_finishget(L, upval, rc, ra, slot), which stores to ra too; so the other gets
-    ∷ vmcase «OP_GETTABUP» (straight («upvals[B]» ∷ KC ∷ []) («ra» ∷ []))
-    ∷ vmcase «OP_GETTABLE» (straight (vRB ∷ vRC ∷ []) («ra» ∷ []))
-    ∷ vmcase «OP_GETI» (straight (vRB ∷ []) («ra» ∷ []))
-    ∷ vmcase «OP_GETFIELD» (straight (vRB ∷ KC ∷ []) («ra» ∷ []))
+    vmcase op.«OP_MOVE» (straight (vRB ∷ []) («ra» ∷ []))
+    ∷ vmcase op.«OP_LOADI» (straight [] («ra» ∷ []))
+    ∷ vmcase op.«OP_LOADF» (straight [] («ra» ∷ []))
+    ∷ vmcase op.«OP_LOADK» (straight («k+Bx» ∷ []) («ra» ∷ []))
+    ∷ vmcase op.«OP_LOADKX» (skipping («k+Ax» ∷ []) («ra» ∷ []))
+    ∷ vmcase op.«OP_LOADFALSE» (straight [] («ra» ∷ []))
+    ∷ vmcase op.«OP_LFALSESKIP» (skipping [] («ra» ∷ []))
+    ∷ vmcase op.«OP_LOADTRUE» (straight [] («ra» ∷ []))
+    ∷ vmcase op.«OP_LOADNIL» (straight [] (nils ∷ []))
+    ∷ vmcase op.«OP_GETUPVAL» (straight («upvals[B]» ∷ []) («ra» ∷ []))
+    ∷ vmcase op.«OP_SETUPVAL» (straight («ra» ∷ []) («upvals[B]» ∷ []))
+    -- setobj2s(L, ra, slot), or luaV_finishget(L, upval, rc, ra, slot), which stores to
+    -- ra too; so the other gets
+    ∷ vmcase op.«OP_GETTABUP» (straight («upvals[B]» ∷ KC ∷ []) («ra» ∷ []))
+    ∷ vmcase op.«OP_GETTABLE» (straight (vRB ∷ vRC ∷ []) («ra» ∷ []))
+    ∷ vmcase op.«OP_GETI» (straight (vRB ∷ []) («ra» ∷ []))
+    ∷ vmcase op.«OP_GETFIELD» (straight (vRB ∷ KC ∷ []) («ra» ∷ []))
     -- luaV_finishfastset(L, upval, slot, rc), or luaV_finishset: into the table; so the other sets
-    ∷ vmcase «OP_SETTABUP» (straight («upvals[A]» ∷ KB ∷ RKC ∷ []) [])
-    ∷ vmcase «OP_SETTABLE» (straight («ra» ∷ vRB ∷ RKC ∷ []) [])
-    ∷ vmcase «OP_SETI» (straight («ra» ∷ RKC ∷ []) [])
-    ∷ vmcase «OP_SETFIELD» (straight («ra» ∷ KB ∷ RKC ∷ []) [])
-    ∷ vmcase «OP_NEWTABLE» (skipping [] («ra» ∷ []))
-    ∷ vmcase «OP_SELF» (straight (vRB ∷ RKC ∷ []) («ra+1» ∷ «ra» ∷ []))
-    ∷ vmcase «OP_ADDI» op_arithI
-    ∷ vmcase «OP_ADDK» op_arithK
-    ∷ vmcase «OP_SUBK» op_arithK
-    ∷ vmcase «OP_MULK» op_arithK
-    ∷ vmcase «OP_MODK» op_arithK
-    ∷ vmcase «OP_POWK» op_arithK
-    ∷ vmcase «OP_DIVK» op_arithK
-    ∷ vmcase «OP_IDIVK» op_arithK
-    ∷ vmcase «OP_BANDK» op_arithK
-    ∷ vmcase «OP_BORK» op_arithK
-    ∷ vmcase «OP_BXORK» op_arithK
-    ∷ vmcase «OP_SHRI» op_arithI
-    ∷ vmcase «OP_SHLI» op_arithI
-    ∷ vmcase «OP_ADD» op_arith
-    ∷ vmcase «OP_SUB» op_arith
-    ∷ vmcase «OP_MUL» op_arith
-    ∷ vmcase «OP_MOD» op_arith
-    ∷ vmcase «OP_POW» op_arith
-    ∷ vmcase «OP_DIV» op_arith
-    ∷ vmcase «OP_IDIV» op_arith
-    ∷ vmcase «OP_BAND» op_arith
-    ∷ vmcase «OP_BOR» op_arith
-    ∷ vmcase «OP_BXOR» op_arith
-    ∷ vmcase «OP_SHR» op_arith
-    ∷ vmcase «OP_SHL» op_arith
+    ∷ vmcase op.«OP_SETTABUP» (straight («upvals[A]» ∷ KB ∷ RKC ∷ []) [])
+    ∷ vmcase op.«OP_SETTABLE» (straight («ra» ∷ vRB ∷ RKC ∷ []) [])
+    ∷ vmcase op.«OP_SETI» (straight («ra» ∷ RKC ∷ []) [])
+    ∷ vmcase op.«OP_SETFIELD» (straight («ra» ∷ KB ∷ RKC ∷ []) [])
+    ∷ vmcase op.«OP_NEWTABLE» (skipping [] («ra» ∷ []))
+    ∷ vmcase op.«OP_SELF» (straight (vRB ∷ RKC ∷ []) («ra+1» ∷ «ra» ∷ []))
+    ∷ vmcase op.«OP_ADDI» op_arithI
+    ∷ vmcase op.«OP_ADDK» op_arithK
+    ∷ vmcase op.«OP_SUBK» op_arithK
+    ∷ vmcase op.«OP_MULK» op_arithK
+    ∷ vmcase op.«OP_MODK» op_arithK
+    ∷ vmcase op.«OP_POWK» op_arithK
+    ∷ vmcase op.«OP_DIVK» op_arithK
+    ∷ vmcase op.«OP_IDIVK» op_arithK
+    ∷ vmcase op.«OP_BANDK» op_arithK
+    ∷ vmcase op.«OP_BORK» op_arithK
+    ∷ vmcase op.«OP_BXORK» op_arithK
+    ∷ vmcase op.«OP_SHRI» op_arithI
+    ∷ vmcase op.«OP_SHLI» op_arithI
+    ∷ vmcase op.«OP_ADD» op_arith
+    ∷ vmcase op.«OP_SUB» op_arith
+    ∷ vmcase op.«OP_MUL» op_arith
+    ∷ vmcase op.«OP_MOD» op_arith
+    ∷ vmcase op.«OP_POW» op_arith
+    ∷ vmcase op.«OP_DIV» op_arith
+    ∷ vmcase op.«OP_IDIV» op_arith
+    ∷ vmcase op.«OP_BAND» op_arith
+    ∷ vmcase op.«OP_BOR» op_arith
+    ∷ vmcase op.«OP_BXOR» op_arith
+    ∷ vmcase op.«OP_SHR» op_arith
+    ∷ vmcase op.«OP_SHL» op_arith
     -- luaT_trybinTM(L, s2v(ra), rb, result, tm), where result is RA(pi); so the other two
-    ∷ vmcase «OP_MMBIN» (straight («ra» ∷ vRB ∷ []) («RA-pi» ∷ []))
-    ∷ vmcase «OP_MMBINI» (straight («ra» ∷ []) («RA-pi» ∷ []))
-    ∷ vmcase «OP_MMBINK» (straight («ra» ∷ KB ∷ []) («RA-pi» ∷ []))
+    ∷ vmcase op.«OP_MMBIN» (straight («ra» ∷ vRB ∷ []) («RA-pi» ∷ []))
+    ∷ vmcase op.«OP_MMBINI» (straight («ra» ∷ []) («RA-pi» ∷ []))
+    ∷ vmcase op.«OP_MMBINK» (straight («ra» ∷ KB ∷ []) («RA-pi» ∷ []))
     -- a number, or luaT_trybinTM(L, rb, rb, ra, ..), which stores to ra too; so BNOT and LEN
-    ∷ vmcase «OP_UNM» (straight (vRB ∷ []) («ra» ∷ []))
-    ∷ vmcase «OP_BNOT» (straight (vRB ∷ []) («ra» ∷ []))
-    ∷ vmcase «OP_NOT» (straight (vRB ∷ []) («ra» ∷ []))
-    ∷ vmcase «OP_LEN» (straight (vRB ∷ []) («ra» ∷ []))
-    ∷ vmcase «OP_CONCAT» (straight (pieces ∷ []) («ra» ∷ []))
+    ∷ vmcase op.«OP_UNM» (straight (vRB ∷ []) («ra» ∷ []))
+    ∷ vmcase op.«OP_BNOT» (straight (vRB ∷ []) («ra» ∷ []))
+    ∷ vmcase op.«OP_NOT» (straight (vRB ∷ []) («ra» ∷ []))
+    ∷ vmcase op.«OP_LEN» (straight (vRB ∷ []) («ra» ∷ []))
+    ∷ vmcase op.«OP_CONCAT» (straight (pieces ∷ []) («ra» ∷ []))
     -- "What closing and VARARGPREP touch .. is left out"
-    ∷ vmcase «OP_CLOSE» (straight [] [])
+    ∷ vmcase op.«OP_CLOSE» (straight [] [])
     -- luaF_newtbcupval(L, ra): "TBC and TFORPREP read the register they mark"
-    ∷ vmcase «OP_TBC» (straight («ra» ∷ []) [])
-    ∷ vmcase «OP_JMP» (way dojump (run [] [] ∷ []) ∷ [])
-    ∷ vmcase «OP_EQ» (docondjump («ra» ∷ vRB ∷ []))
+    ∷ vmcase op.«OP_TBC» (straight («ra» ∷ []) [])
+    ∷ vmcase op.«OP_JMP» (way dojump (run [] [] ∷ []) ∷ [])
+    ∷ vmcase op.«OP_EQ» (docondjump («ra» ∷ vRB ∷ []))
     -- op_order
-    ∷ vmcase «OP_LT» (docondjump («ra» ∷ vRB ∷ []))
-    ∷ vmcase «OP_LE» (docondjump («ra» ∷ vRB ∷ []))
-    ∷ vmcase «OP_EQK» (docondjump («ra» ∷ KB ∷ []))
-    ∷ vmcase «OP_EQI» (docondjump («ra» ∷ []))
+    ∷ vmcase op.«OP_LT» (docondjump («ra» ∷ vRB ∷ []))
+    ∷ vmcase op.«OP_LE» (docondjump («ra» ∷ vRB ∷ []))
+    ∷ vmcase op.«OP_EQK» (docondjump («ra» ∷ KB ∷ []))
+    ∷ vmcase op.«OP_EQI» (docondjump («ra» ∷ []))
     -- op_orderI
-    ∷ vmcase «OP_LTI» (docondjump («ra» ∷ []))
-    ∷ vmcase «OP_LEI» (docondjump («ra» ∷ []))
-    ∷ vmcase «OP_GTI» (docondjump («ra» ∷ []))
-    ∷ vmcase «OP_GEI» (docondjump («ra» ∷ []))
-    ∷ vmcase «OP_TEST» (docondjump («ra» ∷ []))
+    ∷ vmcase op.«OP_LTI» (docondjump («ra» ∷ []))
+    ∷ vmcase op.«OP_LEI» (docondjump («ra» ∷ []))
+    ∷ vmcase op.«OP_GTI» (docondjump («ra» ∷ []))
+    ∷ vmcase op.«OP_GEI» (docondjump («ra» ∷ []))
+    ∷ vmcase op.«OP_TEST» (docondjump («ra» ∷ []))
     -- if (l_isfalse(rb) == GETARG_k(i)) pc++; else { setobj2s(L, ra, rb); donextjump(ci); }
-    ∷ vmcase «OP_TESTSET»
+    ∷ vmcase op.«OP_TESTSET»
     (way «pc++» (run (vRB ∷ []) [] ∷ [])
     ∷ way donextjump (run (vRB ∷ []) («ra» ∷ []) ∷ [])
     ∷ [])
-    ∷ vmcase «OP_CALL» (straight («ra» ∷ arguments ∷ []) (results ∷ []))
-    ∷ vmcase «OP_TAILCALL» (way leave (run («ra» ∷ arguments ∷ []) [] ∷ []) ∷ [])
-    -- returns store at base - 1 and on, the same slots, but as the results of the caller's CALL, whose formula lists
-    -- them: `L->ci` is the caller's by then in RETURN0 and RETURN1, and so it is when luaD_poscall, by RETURN, is done
-    ∷ vmcase «OP_RETURN» (way leave (run (returned ∷ []) [] ∷ []) ∷ [])
-    ∷ vmcase «OP_RETURN0» (way leave (run [] [] ∷ []) ∷ [])
+    ∷ vmcase op.«OP_CALL» (straight («ra» ∷ arguments ∷ []) (results ∷ []))
+    ∷ vmcase op.«OP_TAILCALL» (way leave (run («ra» ∷ arguments ∷ []) [] ∷ []) ∷ [])
+    -- returns store at base - 1 and on, the same slots, but as the results of the caller's CALL, whose
+    -- formula lists them: `L->ci` is the caller's by then in RETURN0 and RETURN1, and so it is when
+    -- luaD_poscall, by RETURN, is done
+    ∷ vmcase op.«OP_RETURN» (way leave (run (returned ∷ []) [] ∷ []) ∷ [])
+    ∷ vmcase op.«OP_RETURN0» (way leave (run [] [] ∷ []) ∷ [])
     -- no result asked for, or setobjs2s(L, base - 1, ra)
-    ∷ vmcase «OP_RETURN1» (way leave (run [] [] ∷ run («ra» ∷ []) [] ∷ []) ∷ [])
+    ∷ vmcase op.«OP_RETURN1» (way leave (run [] [] ∷ run («ra» ∷ []) [] ∷ []) ∷ [])
     -- an integer loop, a float loop (floatforloop); then the same where the loop ends
-    ∷ vmcase «OP_FORLOOP»
+    ∷ vmcase op.«OP_FORLOOP»
     (way «pc-=Bx»
     (run («ra+2» ∷ «ra+1» ∷ «ra» ∷ []) («ra+1» ∷ «ra» ∷ «ra+3» ∷ [])
     ∷ run («ra+2» ∷ «ra+1» ∷ «ra» ∷ []) («ra» ∷ «ra+3» ∷ [])
@@ -383,9 +394,9 @@ switch =
     ∷ run («ra+2» ∷ «ra+1» ∷ «ra» ∷ []) []
     ∷ [])
     ∷ [])
-    -- forprep: an integer loop, which sets its control variable first of all, a float loop; first where the loop is
-    -- skipped
-    ∷ vmcase «OP_FORPREP»
+    -- forprep: an integer loop, which sets its control variable first of all, a float loop;
+    -- first where the loop is skipped
+    ∷ vmcase op.«OP_FORPREP»
     (way «pc+=Bx+1»
     (run («ra» ∷ «ra+2» ∷ «ra+1» ∷ []) («ra+3» ∷ [])
     ∷ run («ra» ∷ «ra+1» ∷ «ra+2» ∷ []) []
@@ -395,20 +406,20 @@ switch =
     ∷ run («ra» ∷ «ra+1» ∷ «ra+2» ∷ []) («ra+1» ∷ «ra+2» ∷ «ra» ∷ «ra+3» ∷ [])
     ∷ [])
     ∷ [])
-    ∷ vmcase «OP_TFORPREP» (way l_tforcall (run («ra+3» ∷ []) [] ∷ []) ∷ [])
-    ∷ vmcase «OP_TFORCALL» (way l_tforloop (run («ra» ∷ «ra+1» ∷ «ra+2» ∷ []) (iterated ∷ []) ∷ []) ∷ [])
+    ∷ vmcase op.«OP_TFORPREP» (way l_tforcall (run («ra+3» ∷ []) [] ∷ []) ∷ [])
+    ∷ vmcase op.«OP_TFORCALL» (way l_tforloop (run («ra» ∷ «ra+1» ∷ «ra+2» ∷ []) (iterated ∷ []) ∷ []) ∷ [])
     -- if (!ttisnil(s2v(ra + 4))) { setobjs2s(L, ra + 2, ra + 4); pc -= GETARG_Bx(i); }
-    ∷ vmcase «OP_TFORLOOP»
+    ∷ vmcase op.«OP_TFORLOOP»
     (way «pc-=Bx» (run («ra+4» ∷ []) («ra+2» ∷ []) ∷ [])
     ∷ way vmbreak (run («ra+4» ∷ []) [] ∷ [])
     ∷ [])
-    ∷ vmcase «OP_SETLIST» (way «pc++-if-k» (run («ra» ∷ elements ∷ []) [] ∷ []) ∷ [])
+    ∷ vmcase op.«OP_SETLIST» (way «pc++-if-k» (run («ra» ∷ elements ∷ []) [] ∷ []) ∷ [])
     -- ".. and CLOSURE captures is left out"
-    ∷ vmcase «OP_CLOSURE» (straight [] («ra» ∷ []))
-    ∷ vmcase «OP_VARARG» (straight [] (results ∷ []))
-    ∷ vmcase «OP_VARARGPREP» (straight [] [])
+    ∷ vmcase op.«OP_CLOSURE» (straight [] («ra» ∷ []))
+    ∷ vmcase op.«OP_VARARG» (straight [] (results ∷ []))
+    ∷ vmcase op.«OP_VARARGPREP» (straight [] [])
     -- lua_assert(0): it goes on nowhere
-    ∷ vmcase «OP_EXTRAARG» []
+    ∷ vmcase op.«OP_EXTRAARG» []
     ∷ []
 
 abbrev pub vmdispatch : List Case → ℕ → List Way

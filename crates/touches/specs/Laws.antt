@@ -1,5 +1,5 @@
--- What callers go by. proofs/Laws.antt has the one value of `Laws`, and a crate above cites it and no other proof of
--- this one.
+-- What callers go by. proofs/Laws.antt has the one value of `Laws`, and a crate above cites it and
+-- no other proof of this one.
 -- Assumes nothing.
 use Prim.Native.Nat.{ℕ}
 use mathlib.Core.Path.{_≡_}

@@ -1,5 +1,5 @@
--- Lists of locations, what they hold of each kind, and the arrays with counts that answer them. An array holds three,
--- the most that a case names in one list; specs/Meaning.antt has that no count is higher.
+-- Lists of locations, what they hold of each kind, and the arrays with counts that answer them. An array
+-- holds three, the most that a case names in one list; specs/Meaning.antt has that no count is higher.
 -- Assumes nothing.
 use Prim.Native.Nat.{ℕ, zero, suc, _-_}
 use mathlib.Core.List.{List, [], _∷_, _++_}

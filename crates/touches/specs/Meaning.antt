@@ -1,6 +1,6 @@
--- What the answer says, in document 02's words: that it has the form asked for, and that it lists exactly what lvm.c
--- touches (specs/Executions.antt, specs/Executions53.antt). proofs/Meaning.antt proves it for every word of either
--- version.
+-- What the answer says, in document 02's words: that it has the form asked for, and that it lists exactly
+-- what lvm.c touches (specs/Executions.antt, specs/Executions53.antt). proofs/Meaning.antt proves it for
+-- every word of either version.
 -- Assumes nothing.
 use Prim.Native.Nat.{ℕ, _+_, _-_, _≤_, _<_}
 use mathlib.Core.Path.{_≡_}
@@ -10,7 +10,7 @@ use mathlib.Core.List.{List, [], _∷_}
 use lib.IntN.{ℤ, pos}
 use lib.ListN.{length, getD, take, drop, replicate}
 use Rattle.graph.specs.Graph.{In}
-use Rattle.runs.specs.Steps.{isInvalid}
+use Rattle.sweep.specs.Steps.{isInvalid}
 use Rattle.touches.specs.declared.answer.Range.{Range}
 use Rattle.touches.specs.declared.answer.Ranges.{Ranges}
 use Rattle.touches.specs.declared.answer.Indices.{Indices}
@@ -21,7 +21,17 @@ use Rattle.runs.specs.Script.{stepsOf}
 use Rattle.touches.specs.Versions.{goesOn, isStep}
 use Rattle.touches.specs.Touches.{touchesBy, touchesFor}
 use Rattle.touches.specs.Executions.{Cell, register, constant, upvalue, upToTop}
-use Rattle.touches.specs.Touched.{waysAt, nexts, Reads, WrittenOnAll, WrittenOnlyTo, ReadsAt, WrittenAt, TopBefore, TopAfter}
+use Rattle.touches.specs.Touched.{
+  waysAt,
+  nexts,
+  Reads,
+  WrittenOnAll,
+  WrittenOnlyTo,
+  ReadsAt,
+  WrittenAt,
+  TopBefore,
+  TopAfter,
+}
 
 -- the items up to the count
 abbrev pub rangesIn : Ranges → List Range
@@ -35,8 +45,8 @@ abbrev pub Within : ℕ → List Range → Type 0
 Within q [] = ⊥
 Within q (x ∷ xs) = ((x .first ≤ q) × (q ≤ x .last)) ⊎ Within q xs
 
--- "Each list rises without repeats; registers stand in longest ranges": between two ranges there is a register that
--- is in neither
+-- "Each list rises without repeats; registers stand in longest ranges": between two ranges there is a
+-- register that is in neither
 abbrev pub GapAfter : ℕ → List Range → Type 0
 GapAfter last [] = Unit {0}
 GapAfter last (x ∷ xs) = last + 1 < x .first
@@ -77,7 +87,8 @@ pub record Form (t : Touches) : Type 0 where
   pub «upvalue-writes» : Rising (numbersIn (t .«upvalue_writes»)) × (t .«upvalue_writes» .count ≤ 3)
   pub «edge-writes» : Longest (rangesIn (t .«edge_writes»)) × (t .«edge_writes» .count ≤ 3)
   pub «zero-ranges» : ZeroRanges (t .reads) × (ZeroRanges (t .writes) × ZeroRanges (t .«edge_writes»))
-  pub «zero-indices» : ZeroIndices (t .constants) × (ZeroIndices (t .upvalues) × ZeroIndices (t .«upvalue_writes»))
+  pub «zero-indices» : ZeroIndices (t .constants)
+      × (ZeroIndices (t .upvalues) × ZeroIndices (t .«upvalue_writes»))
   pub tops : AtMostOne (t .«reads_to_top») × AtMostOne (t .«writes_to_top»)
   -- no edge if nothing is written on one step only
   pub «no-edge» : t .«edge_writes» .count ≡ 0 → t .edge ≡ 0
@@ -111,7 +122,8 @@ pub record Exact (v : Version) (ws : List ℕ) (p : ℕ) : Type 0 where
   pub ways : nexts v (waysAt v ws p) (pos (p + 1)) (getD ws p 0) ≡ goesOn v ws p
   pub reads : (c : Cell) → NamedRead (touchesFor v ws p) c ↔ Reads v ws p c
   pub writes : (c : Cell) → NamedWritten (touchesFor v ws p) c ↔ WrittenOnAll v ws p c
-  pub «edge-writes» : (c : Cell) (z : ℤ) → (NamedOnEdge (touchesFor v ws p) c × (z ≡ pos (touchesFor v ws p .edge))) ↔ WrittenOnlyTo v ws p c z
+  pub «edge-writes» : (c : Cell) (z : ℤ)
+      → (NamedOnEdge (touchesFor v ws p) c × (z ≡ pos (touchesFor v ws p .edge))) ↔ WrittenOnlyTo v ws p c z
   -- "listed with that step": one of the word's, by document 01's table, or C-24's
   pub edge : 0 < touchesFor v ws p .«edge_writes» .count → isStep v ws p (touchesFor v ws p .edge) ≡ true
 
@@ -122,14 +134,22 @@ Below top t q = (top .count ≡ 1) × ((top .first ≤ q) × (q < t))
 -- "a range up to the stack top is given apart, by its first register past those touched at every top"
 pub record Tops (v : Version) (ws : List ℕ) (p : ℕ) : Type 0 where
   -- the registers listed plainly are those touched at every top
-  pub «every-read» : (q : ℕ) → NamedRead (touchesFor v ws p) (register q) ↔ ((t : ℕ) → TopBefore v ws p t → ReadsAt v ws p t q)
-  pub «every-write» : (q : ℕ) → NamedWritten (touchesFor v ws p) (register q) ↔ ((t : ℕ) → TopAfter v ws p t → WrittenAt v ws p t q)
+  pub «every-read» : (q : ℕ)
+      → NamedRead (touchesFor v ws p) (register q) ↔ ((t : ℕ) → TopBefore v ws p t → ReadsAt v ws p t q)
+  pub «every-write» : (q : ℕ)
+      → NamedWritten (touchesFor v ws p) (register q) ↔ ((t : ℕ) → TopAfter v ws p t → WrittenAt v ws p t q)
   -- with the range up to the top they are what is touched at a top
-  pub reads : (t q : ℕ) → (NamedRead (touchesFor v ws p) (register q) ⊎ Below (touchesFor v ws p .«reads_to_top») t q) ↔ ReadsAt v ws p t q
-  pub writes : (t q : ℕ) → (NamedWritten (touchesFor v ws p) (register q) ⊎ Below (touchesFor v ws p .«writes_to_top») t q) ↔ WrittenAt v ws p t q
+  pub reads : (t q : ℕ)
+      → (NamedRead (touchesFor v ws p) (register q) ⊎ Below (touchesFor v ws p .«reads_to_top») t q)
+      ↔ ReadsAt v ws p t q
+  pub writes : (t q : ℕ)
+      → (NamedWritten (touchesFor v ws p) (register q) ⊎ Below (touchesFor v ws p .«writes_to_top») t q)
+      ↔ WrittenAt v ws p t q
   -- and it starts past them
-  pub «past-reads» : (q : ℕ) → NamedRead (touchesFor v ws p) (register q) → touchesFor v ws p .«reads_to_top» .count ≡ 1 → q < touchesFor v ws p .«reads_to_top» .first
-  pub «past-writes» : (q : ℕ) → NamedWritten (touchesFor v ws p) (register q) → touchesFor v ws p .«writes_to_top» .count ≡ 1 → q < touchesFor v ws p .«writes_to_top» .first
+  pub «past-reads» : (q : ℕ) → NamedRead (touchesFor v ws p) (register q)
+      → touchesFor v ws p .«reads_to_top» .count ≡ 1 → q < touchesFor v ws p .«reads_to_top» .first
+  pub «past-writes» : (q : ℕ) → NamedWritten (touchesFor v ws p) (register q)
+      → touchesFor v ws p .«writes_to_top» .count ≡ 1 → q < touchesFor v ws p .«writes_to_top» .first
 
 abbrev pub NamesNothing : Touches → Type 0
 NamesNothing t = (c : Cell) → (NamedRead t c → ⊥) × ((NamedWritten t c → ⊥) × (NamedOnEdge t c → ⊥))
@@ -140,6 +160,8 @@ pub record Meaning (v : Version) : Type 0 where
   pub exact : (ws : List ℕ) (p : ℕ) → isInvalid (stepsOf v ws p) ≡ false → Exact v ws p
   pub tops : (ws : List ℕ) (p : ℕ) → isInvalid (stepsOf v ws p) ≡ false → Tops v ws p
   -- "A bad word touches nothing", nor does a word number of n or more, which has no steps either
-  pub bad : (ws : List ℕ) (p : ℕ) → isInvalid (stepsOf v ws p) ≡ true → touchesFor v ws p ≡ touchesBy [] [] 0 []
-  pub «bad-names-nothing» : (ws : List ℕ) (p : ℕ) → isInvalid (stepsOf v ws p) ≡ true → NamesNothing (touchesFor v ws p)
+  pub bad : (ws : List ℕ) (p : ℕ)
+      → isInvalid (stepsOf v ws p) ≡ true → touchesFor v ws p ≡ touchesBy [] [] 0 []
+  pub «bad-names-nothing» : (ws : List ℕ) (p : ℕ)
+      → isInvalid (stepsOf v ws p) ≡ true → NamesNothing (touchesFor v ws p)
   pub «nothing-past-end» : (ws : List ℕ) (p : ℕ) → length ws ≤ p → NamesNothing (touchesFor v ws p)

@@ -1,5 +1,5 @@
--- What a word touches in some execution, of either version: on some way, on every way, on a way to a given word, and
--- at a stack top.
+-- What a word touches in some execution, of either version: on some way, on every way, on a way to a given
+-- word, and at a stack top.
 -- Assumes nothing.
 use Prim.Native.Nat.{ℕ, _+_, _-_}
 use mathlib.Core.Logic.{_⊎_}
@@ -10,7 +10,18 @@ use Rattle.graph.specs.Graph.{In}
 use Rattle.fields.specs.declared.version.Version.{Version}
 use Rattle.touches.specs.Words.{«GET_OPCODE-of», taken}
 use Rattle.touches.specs.Versions.{waysOf}
-use Rattle.touches.specs.Executions.{Cell, Access, names, namesAt, Meets, next, Execution, run, Way, way}
+use Rattle.touches.specs.Executions.{
+  Cell,
+  Access,
+  names,
+  namesAt,
+  Meets,
+  next,
+  Execution,
+  run,
+  Way,
+  way,
+}
 
 -- Word p of the words, `i = *(pc++)`: its ways, and the words to which they lead.
 abbrev pub waysAt : Version → List ℕ → ℕ → List Way
@@ -47,7 +58,8 @@ wayStores (way go runs) = storesOf runs
 
 -- the cell is named by one of the accesses, in word p
 abbrev pub Touched : Version → List ℕ → ℕ → Cell → List Access → Type 0
-Touched v ws p c accesses = Any (names (taken v (getD ws p 0)) (taken v (getD ws (p - 1) 0)) (taken v (getD ws (p + 1) 0)) c) accesses
+Touched v ws p c accesses =
+    Any (names (taken v (getD ws p 0)) (taken v (getD ws (p - 1) 0)) (taken v (getD ws (p + 1) 0)) c) accesses
 
 -- read by some execution of word p
 abbrev pub Reads : Version → List ℕ → ℕ → Cell → Type 0
@@ -56,14 +68,15 @@ Reads v ws p c = Any (λ (w : Way). Touched v ws p c (wayReads w)) (waysAt v ws 
 -- written on every way on: listed plainly
 abbrev pub WrittenOnAll : Version → List ℕ → ℕ → Cell → Type 0
 WrittenOnAll v ws p c =
-    Any (λ (w : Way). Touched v ws p c (wayStores w)) (waysAt v ws p) × All (λ (w : Way). Touched v ws p c (wayStores w)) (waysAt v ws p)
+    Any (λ (w : Way). Touched v ws p c (wayStores w)) (waysAt v ws p)
+    × All (λ (w : Way). Touched v ws p c (wayStores w)) (waysAt v ws p)
 
 -- the way leads to word z
 abbrev pub LeadsTo : Version → List ℕ → ℕ → ℤ → Way → Type 0
 LeadsTo v ws p z (way go runs) = In z (next v go (pos (p + 1)) (getD ws p 0))
 
--- "A write that happens on one step only .. is listed with that step": written on a way that leads to word z, and not
--- on every way
+-- "A write that happens on one step only .. is listed with that step": written on a way that leads to
+-- word z, and not on every way
 abbrev pub WrittenOnlyTo : Version → List ℕ → ℕ → Cell → ℤ → Type 0
 WrittenOnlyTo v ws p c z =
     Any (λ (w : Way). LeadsTo v ws p z w × Touched v ws p c (wayStores w)) (waysAt v ws p)
@@ -72,14 +85,16 @@ WrittenOnlyTo v ws p c z =
 -- The same at a stack top t.
 
 abbrev pub TouchedAt : Version → List ℕ → ℕ → ℕ → ℕ → List Access → Type 0
-TouchedAt v ws p t q accesses = Any (namesAt (taken v (getD ws p 0)) (taken v (getD ws (p - 1) 0)) (taken v (getD ws (p + 1) 0)) t q) accesses
+TouchedAt v ws p t q accesses = Any
+    (namesAt (taken v (getD ws p 0)) (taken v (getD ws (p - 1) 0)) (taken v (getD ws (p + 1) 0)) t q) accesses
 
 abbrev pub ReadsAt : Version → List ℕ → ℕ → ℕ → ℕ → Type 0
 ReadsAt v ws p t q = Any (λ (w : Way). TouchedAt v ws p t q (wayReads w)) (waysAt v ws p)
 
 abbrev pub WrittenAt : Version → List ℕ → ℕ → ℕ → ℕ → Type 0
 WrittenAt v ws p t q =
-    Any (λ (w : Way). TouchedAt v ws p t q (wayStores w)) (waysAt v ws p) × All (λ (w : Way). TouchedAt v ws p t q (wayStores w)) (waysAt v ws p)
+    Any (λ (w : Way). TouchedAt v ws p t q (wayStores w)) (waysAt v ws p)
+    × All (λ (w : Way). TouchedAt v ws p t q (wayStores w)) (waysAt v ws p)
 
 -- the tops that can be: before the word, and after it
 abbrev pub TopBefore : Version → List ℕ → ℕ → ℕ → Type 0

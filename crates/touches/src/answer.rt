@@ -1,5 +1,5 @@
-// What a word touches: lists in arrays with counts. Places past a count hold 0. The layout is C's: the answer holds
-// no enum.
+// What a word touches: lists in arrays with counts. Places past a count hold 0. The layout is C's:
+// the answer holds no enum.
 
 // Registers from the first to the last, both touched.
 #[repr(C)]

@@ -1,5 +1,5 @@
-// Over fields and runs: what each word really touches, as lvm.c has it, for Lua 5.4 and 5.3 (document 02, C-14 and
-// C-24).
+// Over fields and runs: what each word really touches, as lvm.c has it, for Lua 5.4 and 5.3
+// (document 02, C-14 and C-24).
 pub mod answer;
 pub mod arguments;
 pub mod export;

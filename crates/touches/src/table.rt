@@ -156,7 +156,8 @@ pub const TABLE: [u64; 128] = [
         + ON_EDGE * R_A
         + ON_EDGE_2 * R_A_1
         + ON_EDGE_3 * R_A_3,
-    // OP_FORPREP: the integer loop sets R[A+3] first; if not to run then pc += Bx + 1, else R[A] to R[A+3] are prepared
+    // OP_FORPREP: the integer loop sets R[A+3] first; if not to run then pc += Bx + 1, else
+    // R[A] to R[A+3] are prepared
     READ * R_A
         + READ_2 * R_A_1
         + READ_3 * R_A_2

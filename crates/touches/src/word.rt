@@ -4,11 +4,19 @@ ghost use mathlib.Core.List.{[], _∷_};
 ghost use Prim.Native.Nat.{_+_, _-_, _/_, _%_, _^_, _<_};
 ghost use lib.ListN.{length, getD};
 ghost use Rattle.fields.specs.declared.version.Version.the-variants.{Lua54, Lua53};
-ghost use Rattle.runs.specs.Steps.{isInvalid};
+ghost use Rattle.sweep.specs.Steps.{isInvalid};
 ghost use Rattle.touches.specs.Words.{opcodeBy, argumentsOf};
 ghost use Rattle.touches.specs.Cases.{edgeOf};
 ghost use Rattle.touches.specs.Operands.{locationOf};
-ghost use Rattle.touches.specs.Table.{tableOf, accessTable, operandFrom, edgeFrom, touchesFrom, touchesLent, touchesWith};
+ghost use Rattle.touches.specs.Table.{
+  tableOf,
+  accessTable,
+  operandFrom,
+  edgeFrom,
+  touchesFrom,
+  touchesLent,
+  touchesWith,
+};
 ghost use Rattle.touches.specs.Touches.{touchesBy, touchesFor, touchesOf};
 use crate::answer::Touches;
 use crate::arguments::Arguments;
@@ -24,7 +32,7 @@ use crate::table::TABLE;
 use crate::table53::TABLE_53;
 use crate::tops::top_in;
 use fields::word53::OFFSET_SBX;
-use runs::edges::Successors;
+use sweep::edges::Successors;
 
 // By value: reading a constant array copies it, so a loop takes the table once and lends it to `touches_in`.
 pub fn table() -> [u64; 128]
@@ -165,7 +173,11 @@ fn is_bad(steps: Successors) -> bool
 // Words of 5.4. First the answer for a word that is not bad.
 fn touches_at(rows: &[u64; 128], words: &[u32], p: usize) -> Touches
     requires { ⌜ p < length (now words) ⌝ }
-    ensures { λ r. ⌜ r ≡ touchesFrom (getD (now (rows .entry)) (opcodeBy Lua54 (getD (now (words .entry)) p 0)) 0) (argumentsOf Lua54 (getD (now (words .entry)) p 0)) (argumentsOf Lua54 (getD (now (words .entry)) (p - 1) 0) .a) (argumentsOf Lua54 (getD (now (words .entry)) (p + 1) 0) .ax) p ⌝ }
+    ensures { λ r. ⌜
+        r ≡ touchesFrom (getD (now (rows .entry)) (opcodeBy Lua54 (getD (now (words .entry)) p 0)) 0)
+        (argumentsOf Lua54 (getD (now (words .entry)) p 0))
+        (argumentsOf Lua54 (getD (now (words .entry)) (p - 1) 0) .a)
+        (argumentsOf Lua54 (getD (now (words .entry)) (p + 1) 0) .ax) p ⌝ }
 {
     let word = words[p];
     let before = arguments_of(word_at(words, previous(p)));
@@ -194,7 +206,11 @@ pub fn touches(words: &[u32], p: usize) -> Touches
 // The same of 5.3.
 fn touches_at_53(rows: &[u64; 64], words: &[u32], p: usize) -> Touches
     requires { ⌜ p < length (now words) ⌝ }
-    ensures { λ r. ⌜ r ≡ touchesFrom (getD (now (rows .entry)) (opcodeBy Lua53 (getD (now (words .entry)) p 0)) 0) (argumentsOf Lua53 (getD (now (words .entry)) p 0)) (argumentsOf Lua53 (getD (now (words .entry)) (p - 1) 0) .a) (argumentsOf Lua53 (getD (now (words .entry)) (p + 1) 0) .ax) p ⌝ }
+    ensures { λ r. ⌜
+        r ≡ touchesFrom (getD (now (rows .entry)) (opcodeBy Lua53 (getD (now (words .entry)) p 0)) 0)
+        (argumentsOf Lua53 (getD (now (words .entry)) p 0))
+        (argumentsOf Lua53 (getD (now (words .entry)) (p - 1) 0) .a)
+        (argumentsOf Lua53 (getD (now (words .entry)) (p + 1) 0) .ax) p ⌝ }
 {
     let word = words[p];
     let before = arguments_of_53(word_at(words, previous(p)));

@@ -1,5 +1,6 @@
 -- Document 01, "Value types": constants and upvalue names, read off the lent tables.
--- A refinement of the original: get_const_val and get_upval_name of lifter.rs, over tags and payloads in place of a Prototype.
+-- A refinement of the original: get_const_val and get_upval_name of lifter.rs, over tags and
+-- payloads in place of a Prototype.
 -- Assumes nothing.
 use Prim.Native.Nat.{ℕ, _-_, _/_, _%_, _^_}
 use mathlib.Core.Bool.{true, false}
@@ -11,7 +12,15 @@ use lib.ListN.{length, getD}
 unfoldable pub use Rattle.common.specs.Chain.{choose}
 use Rattle.values.specs.declared.model.Span.{Span}
 use Rattle.values.specs.declared.model.ConstantValue.{ConstantValue}
-use Rattle.values.specs.declared.model.ConstantValue.the-variants.{Nil, Boolean, Integer, Float, NanBits, ShortString, LongString}
+use Rattle.values.specs.declared.model.ConstantValue.the-variants.{
+  Nil,
+  Boolean,
+  Integer,
+  Float,
+  NanBits,
+  ShortString,
+  LongString,
+}
 use Rattle.values.specs.declared.model.Name.{Name}
 use Rattle.values.specs.declared.model.Name.the-variants.{Unnamed, Named}
 
@@ -49,7 +58,8 @@ signed64 payload = choose (ltb payload (2 ^ 63)) (pos payload) (negsuc (2 ^ 64 -
 unfoldable pub floatOf : ℕ → ConstantValue
 floatOf bits = choose (nanBits binary64 bits) (NanBits bits) (Float (ofBits binary64 bits))
 
--- "Other payloads are ignored": those of nil, false and true. An unknown tag is refused before anything is lifted.
+-- "Other payloads are ignored": those of nil, false and true. An unknown tag is refused
+-- before anything is lifted.
 unfoldable pub valueOf : ℕ → ℕ → ConstantValue
 valueOf tag payload =
     choose (eqb tag «TAG_FALSE») (Boolean false)
@@ -73,4 +83,5 @@ unnamed = 2 ^ 64 - 1
 -- "an upvalue index past the table has no name"
 unfoldable pub nameOf : List ℕ → ℕ → Name
 nameOf names index =
-    choose (ltb index (length names)) (choose (eqb (getD names index 0) unnamed) Unnamed (Named (spanOf (getD names index 0)))) Unnamed
+    choose (ltb index (length names))
+    (choose (eqb (getD names index 0) unnamed) Unnamed (Named (spanOf (getD names index 0)))) Unnamed

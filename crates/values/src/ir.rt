@@ -1,4 +1,5 @@
-// The Rust's ir.rs: a record and its parts. Of the implicit effects and confidences only those that lifter.rs makes stand here.
+// The Rust's ir.rs: a record and its parts. Of the implicit effects and confidences only those that
+// lifter.rs makes stand here.
 use crate::model::ConstantValue;
 use crate::model::Name;
 

@@ -1,4 +1,5 @@
-// The Rust's closures get_const_val and get_upval_name, over the lent tags, payloads and names. Both are total.
+// The Rust's closures get_const_val and get_upval_name, over the lent tags, payloads
+// and names. Both are total.
 ghost use mathlib.Core.Path.{_≡_};
 ghost use lib.Ieee.{binary64, nanBits};
 ghost use Rattle.values.specs.Values.{spanOf, signed64, floatOf, valueOf, constantOf, nameOf};
@@ -35,7 +36,8 @@ fn span_at(payload: u64) -> Span
     }
 }
 
-// The bits of a signed number. The language's cast takes only numbers that fit, so a negative one is the complement of one that does.
+// The bits of a signed number. The language's cast takes only numbers that fit, so a negative one is the
+// complement of one that does.
 fn signed(payload: u64) -> i64
     ensures { λ r. ⌜ r ≡ signed64 payload ⌝ }
 {
@@ -67,8 +69,8 @@ fn float(bits: u64) -> ConstantValue
     }
 }
 
-// A span is written into its constant number by number: copied in as a whole, it lies across the place of an integer, and compiled code
-// then waits for the store whenever it reads that place.
+// A span is written into its constant number by number: copied in as a whole, it lies across the place of an
+// integer, and compiled code then waits for the store whenever it reads that place.
 
 fn short_string(payload: u64) -> ConstantValue
     ensures { λ r. ⌜ r ≡ ShortString (spanOf payload) ⌝ }

@@ -1,4 +1,5 @@
-// The Rust's model.rs as far as a record speaks of it: constant values and names. A string is its span in the string bytes.
+// The Rust's model.rs as far as a record speaks of it: constant values and names. A string is its
+// span in the string bytes.
 
 pub struct Span {
     pub start: u32,

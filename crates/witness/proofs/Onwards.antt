@@ -8,9 +8,9 @@ use lib.ListN.{length, drop, set, length-set, length-append}
 use borrow.Author.Tests.{lt-ltb, le-ltb}
 use Rattle.common.specs.Lists.{put}
 use Rattle.common.proofs.Put.{put-laws}
-use Rattle.runs.specs.declared.edges.Successors.{Successors}
-use Rattle.runs.specs.declared.edges.Successors.the-variants.{Invalid, Stop, One, Two}
-use Rattle.runs.specs.Steps.{listOf, servesOf, Below}
+use Rattle.sweep.specs.declared.edges.Successors.{Successors}
+use Rattle.sweep.specs.declared.edges.Successors.the-variants.{Invalid, Stop, One, Two}
+use Rattle.sweep.specs.Steps.{listOf, servesOf, Below}
 use Rattle.runs.specs.Script.{Script, Sound, graphOf}
 use Rattle.runs.proofs.Laws.{laws}
 use Rattle.witness.specs.declared.walking.Onward.{Onward}

@@ -14,11 +14,11 @@ use Rattle.common.specs.Chain.{refuseIf}
 use Rattle.common.proofs.Order.{split}
 use Rattle.graph.specs.Graph.{In}
 use Rattle.graph.specs.Longest.{lengthOf, first}
-use Rattle.runs.specs.declared.edges.Successors.{Successors}
-use Rattle.runs.specs.declared.edges.Successors.the-variants.{Invalid, Stop, One, Two}
+use Rattle.sweep.specs.declared.edges.Successors.{Successors}
+use Rattle.sweep.specs.declared.edges.Successors.the-variants.{Invalid, Stop, One, Two}
 use Rattle.runs.specs.declared.longest.Run.{Run}
 use Rattle.runs.specs.declared.longest.Run.the-variants as Run
-use Rattle.runs.specs.Steps.{listOf, Below}
+use Rattle.sweep.specs.Steps.{listOf, Below}
 use Rattle.runs.specs.Script.{Script, Sound, scriptOf, graphOf, weightOf}
 use Rattle.runs.specs.Run.{runOf, numberOf, marksAfter, lengthsAfter}
 use Rattle.runs.proofs.Laws.{laws}

@@ -1,5 +1,6 @@
--- What the path of `longest_path` is: a stretch of a course, from the first word on, that weighs exactly L. proofs/Stretch.antt proves it of
--- `pathOf`, `pathRunOf` and the slices, which the contract cites, for any words, weights and slices.
+-- What the path of `longest_path` is: a stretch of a course, from the first word on, that weighs exactly L.
+-- proofs/Stretch.antt proves it of `pathOf`, `pathRunOf` and the slices, which the contract cites, for any
+-- words, weights and slices.
 -- Assumes nothing.
 use mathlib.Core.Path.{_≡_}
 use mathlib.Core.Bool.{true, false}
@@ -17,15 +18,16 @@ use Rattle.runs.specs.Run.{runOf, marksAfter, lengthsAfter}
 use Rattle.witness.specs.declared.longest.PathRun.the-variants as PathRun
 use Rattle.witness.specs.Witness.{pathOf, pathRunOf, marksWitnessed, lengthsWitnessed, pathWitnessed}
 
--- of a list, q is one to which the edge from p does not serve, with the greatest f of those, and the lowest with it
+-- of a list, q is one to which the edge from p does not serve, with the greatest f of
+-- those, and the lowest with it
 pub record Greatest (g : Graph) (f : ℕ → ℕ) (p : ℕ) (l : List ℕ) (q : ℕ) : Type 0 where
   pub step : In q l
   pub unserved : g .serves p q ≡ false
   pub most : (r : ℕ) → In r l → g .serves p r ≡ false → f r ≤ f q
   pub lowest : (r : ℕ) → In r l → g .serves p r ≡ false → f r ≡ f q → q ≤ r
 
--- from p along ps each word is "the non-serving successor with the greatest length (the lower on a tie)" of the one before, "and ends where
--- there is none"
+-- from p along ps each word is "the non-serving successor with the greatest length (the lower on a tie)" of
+-- the one before, "and ends where there is none"
 abbrev pub Follows : Graph → (ℕ → ℕ) → ℕ → List ℕ → Type 0
 Follows g f p [] = (r : ℕ) → In r (g .successors p) → g .serves p r ≡ true
 Follows g f p (q ∷ qs) = Greatest g f p (g .successors p) q × Follows g f q qs
@@ -57,29 +59,38 @@ module _ (ws : Script) (weights marks lengths path : List ℕ) where
 
   pub record Path : Type 0 where
     pub accepted :
-        ws .size ≤ length path → (longest first : ℕ) → runOf ws weights (length marks) (length lengths) ≡ Run.Accepted longest first
+        ws .size ≤ length path → (longest first : ℕ)
+        → runOf ws weights (length marks) (length lengths) ≡ Run.Accepted longest first
         → Witnessed longest first
     -- the run's refusals
     pub refused :
-        ws .size ≤ length path → (number place : ℕ) → runOf ws weights (length marks) (length lengths) ≡ Run.Refused number place
+        ws .size ≤ length path → (number place : ℕ)
+        → runOf ws weights (length marks) (length lengths) ≡ Run.Refused number place
         → pathRunOf ws weights (length marks) (length lengths) (length path) ≡ PathRun.Refused number place
     -- number 6 covers the path: after number 1, and before the others
-    pub many : mostWords < ws .size → pathRunOf ws weights (length marks) (length lengths) (length path) ≡ PathRun.Refused «TOO_MANY_WORDS» 0
+    pub many : mostWords < ws .size → pathRunOf ws weights (length marks) (length lengths) (length path)
+        ≡ PathRun.Refused «TOO_MANY_WORDS» 0
     pub short :
         ws .size ≤ mostWords → length path < ws .size
         → pathRunOf ws weights (length marks) (length lengths) (length path) ≡ PathRun.Refused «SHORT_SLICE» 0
     -- the marks and the lengths are as the run leaves them
-    pub marks-as-run : ws .size ≤ length path → marksWitnessed ws weights marks lengths path ≡ marksAfter ws weights marks lengths
-    pub lengths-as-run : ws .size ≤ length path → lengthsWitnessed ws weights marks lengths path ≡ lengthsAfter ws weights marks lengths
+    pub marks-as-run : ws .size ≤ length path
+        → marksWitnessed ws weights marks lengths path ≡ marksAfter ws weights marks lengths
+    pub lengths-as-run : ws .size ≤ length path
+        → lengthsWitnessed ws weights marks lengths path ≡ lengthsAfter ws weights marks lengths
     -- "Nothing lent is altered": the path on a refusal, and the other two where it is short
-    pub path-untouched : (number place : ℕ) → runOf ws weights (length marks) (length lengths) ≡ Run.Refused number place → after ≡ path
+    pub path-untouched : (number place : ℕ)
+        → runOf ws weights (length marks) (length lengths) ≡ Run.Refused number place → after ≡ path
     pub short-untouched :
         length path < ws .size
-        → (after ≡ path) × (marksWitnessed ws weights marks lengths path ≡ marks) × (lengthsWitnessed ws weights marks lengths path ≡ lengths)
+        → (after ≡ path) × (marksWitnessed ws weights marks lengths path ≡ marks)
+        × (lengthsWitnessed ws weights marks lengths path ≡ lengths)
 
 pub record Paths : Type 0 where
   -- of any sound script
-  pub any : (ws : Script) → Sound ws → (weights marks lengths path : List ℕ) → Path ws weights marks lengths path
+  pub any : (ws : Script) → Sound ws → (weights marks lengths path : List ℕ)
+      → Path ws weights marks lengths path
   -- and of the words of either version, where nothing is left to suppose of their steps
   pub paths-of :
-      (version : Version) (ws weights marks lengths path : List ℕ) → Path (scriptOf version ws) weights marks lengths path
+      (version : Version) (ws weights marks lengths path : List ℕ)
+      → Path (scriptOf version ws) weights marks lengths path

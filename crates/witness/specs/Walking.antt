@@ -1,3 +1,4 @@
+-- Inner: no promise and no law between crates rests on what stands here.
 -- What the private functions ask and leave. No exported contract cites it.
 -- Assumes nothing.
 use mathlib.Core.Path.{_≡_}

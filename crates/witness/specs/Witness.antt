@@ -16,17 +16,20 @@ use Rattle.witness.specs.declared.longest.PathRun.{PathRun}
 use Rattle.witness.specs.declared.longest.PathRun.the-variants as PathRun
 use Rattle.witness.specs.Following.{follow}
 
--- the words of one longest stretch: from the first word on, where lengths are greatest. A stretch has no more words than there are
+-- the words of one longest stretch: from the first word on, where lengths are greatest. A stretch has no
+-- more words than there are
 unfoldable pub pathOf : Script → List ℕ → List ℕ
 pathOf ws weights =
-    follow (graphOf ws) (lengthOf (graphOf ws) (weightOf ws weights)) (ws .size) (first (graphOf ws) (weightOf ws weights))
+    follow (graphOf ws) (lengthOf (graphOf ws) (weightOf ws weights)) (ws .size)
+    (first (graphOf ws) (weightOf ws weights))
 
 -- the answer of the run, with how many words those are
 abbrev pub answerBy : Run → List ℕ → PathRun
 answerBy (Run.Accepted l f) path = PathRun.Accepted l f (length path)
 answerBy (Run.Refused k p) path = PathRun.Refused k p
 
--- of the words, the weights, and the lengths of the three slices. The path's is checked with the run's two, after number 1
+-- of the words, the weights, and the lengths of the three slices. The path's is checked with the
+-- run's two, after number 1
 unfoldable pub pathRunOf : Script → List ℕ → ℕ → ℕ → ℕ → PathRun
 pathRunOf ws weights marks lengths path =
     refuseIf (ltb mostWords (ws .size)) (PathRun.Refused «TOO_MANY_WORDS» 0)
@@ -48,4 +51,5 @@ module _ (ws : Script) (weights marks lengths path : List ℕ) where
 
   unfoldable pub pathWitnessed : List ℕ
   pathWitnessed =
-      refuseIf (ltb (length path) (ws .size)) path (pathBy (runOf ws weights (length marks) (length lengths)) (pathOf ws weights) path)
+      refuseIf (ltb (length path) (ws .size)) path
+      (pathBy (runOf ws weights (length marks) (length lengths)) (pathOf ws weights) path)

@@ -1,5 +1,5 @@
-// The C interface, of both versions: the answer as a struct of numbers, since an exported function may give no
-// enum.
+// The C interface, of both versions: the answer as a struct of numbers, since an exported
+// function may give no enum.
 ghost use mathlib.Core.Path.{_≡_};
 ghost use lib.ListN.{length};
 ghost use Rattle.fields.specs.declared.version.Version.the-variants.{Lua53};

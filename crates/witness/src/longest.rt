@@ -25,8 +25,8 @@ pub enum PathRun {
     },
 }
 
-// The run of words for whose path there is so much room, or the first refusal that applies. The marks and the lengths
-// get what the run leaves.
+// The run of words for whose path there is so much room, or the first refusal that applies.
+// The marks and the lengths get what the run leaves.
 fn run_within(
     version: Version,
     words: &[u32],
@@ -40,10 +40,12 @@ fn run_within(
         (length (now (marks .entry))) (length (now (lengths .entry))) room ⌝ }
     ensures { λ _. ⌜
         now (marks .exit) ≡ kept (scriptOf version (now (words .entry))) room (now (marks .entry))
-        (marksAfter (scriptOf version (now (words .entry))) (now (weights .entry)) (now (marks .entry)) (now (lengths .entry))) ⌝ }
+        (marksAfter (scriptOf version (now (words .entry))) (now (weights .entry)) (now (marks .entry))
+        (now (lengths .entry))) ⌝ }
     ensures { λ _. ⌜
         now (lengths .exit) ≡ kept (scriptOf version (now (words .entry))) room (now (lengths .entry))
-        (lengthsAfter (scriptOf version (now (words .entry))) (now (weights .entry)) (now (marks .entry)) (now (lengths .entry))) ⌝ }
+        (lengthsAfter (scriptOf version (now (words .entry))) (now (weights .entry)) (now (marks .entry))
+        (now (lengths .entry))) ⌝ }
 {
     let n = words.len();
     if MOST_WORDS < n {
@@ -61,8 +63,9 @@ fn run_within(
     runs::longest_run(version, words, weights, marks, lengths)
 }
 
-// The longest run, the lowest word at which it begins, and in `path` the words of one longest stretch from there on,
-// as many as `count` says. Or the first refusal that applies. The marks and the lengths get what the run leaves.
+// The longest run, the lowest word at which it begins, and in `path` the words of one longest stretch
+// from there on, as many as `count` says. Or the first refusal that applies. The marks and the
+// lengths get what the run leaves.
 pub fn longest_path(
     words: &[u32],
     weights: &[u8],

@@ -1,15 +1,15 @@
-// The words of one longest stretch, from its first on: where control can go on without a service, the longest way
-// from there. A walk for each version, so that none asks of a word which version it is of.
+// The words of one longest stretch, from its first on: where control can go on without a service, the longest
+// way from there. A walk for each version, so that none asks of a word which version it is of.
 ghost use mathlib.Core.Path.{_≡_};
 ghost use lib.ListN.{length};
 ghost use Rattle.fields.specs.declared.version.Version.the-variants.{Lua53};
-ghost use Rattle.runs.specs.Steps.{listOf, servesOf, Below};
+ghost use Rattle.sweep.specs.Steps.{listOf, servesOf, Below};
 ghost use Rattle.runs.specs.Script.{scriptOf, lua54};
 ghost use Rattle.witness.specs.Following.{onwards};
 ghost use Rattle.witness.specs.Walking.{at, Walks, Walked};
-use runs::edges::Successors;
-use runs::edges::serves;
 use runs::successors::successors;
+use sweep::edges::Successors;
+use sweep::edges::serves;
 
 // Where a longest stretch goes on from a word.
 pub enum Onward {
@@ -18,7 +18,8 @@ pub enum Onward {
     To(usize),
 }
 
-// Of the steps of word p to which the step does not serve, the one with the greatest length, the lower on a tie.
+// Of the steps of word p to which the step does not serve, the one with the greatest
+// length, the lower on a tie.
 fn go_on(steps: Successors, lengths: &[u32], p: usize) -> Onward
     requires { ⌜ Below (length (now lengths)) steps ⌝ }
     ensures { λ r. ⌜ r ≡ onwards servesOf (at (now (lengths .entry))) p (listOf steps) ⌝ }
@@ -60,7 +61,8 @@ fn go_on(steps: Successors, lengths: &[u32], p: usize) -> Onward
 pub(crate) fn write_path(words: &[u32], lengths: &[u32], first: usize, path: &mut [u32]) -> usize
     requires { ⌜ Walks (lua54 (now words)) (now lengths) first (now path) ⌝ }
     ensures { λ r. ⌜
-        Walked (lua54 (now (words .entry))) (now (lengths .entry)) first (now (path .entry)) (now (path .exit)) r ⌝ }
+        Walked (lua54 (now (words .entry))) (now (lengths .entry)) first (now (path .entry))
+        (now (path .exit)) r ⌝ }
 {
     let n = words.len();
     let mut count: usize = 0;
@@ -81,7 +83,8 @@ pub(crate) fn write_path(words: &[u32], lengths: &[u32], first: usize, path: &mu
 pub(crate) fn write_path_53(words: &[u32], lengths: &[u32], first: usize, path: &mut [u32]) -> usize
     requires { ⌜ Walks (scriptOf Lua53 (now words)) (now lengths) first (now path) ⌝ }
     ensures { λ r. ⌜
-        Walked (scriptOf Lua53 (now (words .entry))) (now (lengths .entry)) first (now (path .entry)) (now (path .exit)) r ⌝ }
+        Walked (scriptOf Lua53 (now (words .entry))) (now (lengths .entry)) first (now (path .entry))
+        (now (path .exit)) r ⌝ }
 {
     let n = words.len();
     let mut count: usize = 0;

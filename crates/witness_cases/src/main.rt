@@ -1,11 +1,11 @@
 // Cases of the words of a longest run. What is printed is held to the stored output.
+use fields::version::Version;
 use print_cases::end;
 use print_cases::number;
 use print_cases::numbers;
 use print_cases::text;
 use witness::PathRun;
 use witness::longest_path;
-use witness::longest_path_53;
 
 fn answer(r: PathRun) {
     match r {
@@ -37,20 +37,11 @@ fn show(what: &[u8], r: PathRun, path: &[u32]) {
 }
 
 // What stood in the path was 9 and is to stay so past the count.
-fn case(what: &[u8], words: &[u32], weights: &[u8]) {
+fn case(what: &[u8], version: Version, words: &[u32], weights: &[u8]) {
     let mut marks = [0u8; 8];
     let mut lengths = [0u32; 8];
     let mut path = [9u32; 8];
-    let r = longest_path(words, weights, &mut marks, &mut lengths, &mut path);
-    show(what, r, &path);
-}
-
-// The same of words of 5.3.
-fn case_53(what: &[u8], words: &[u32], weights: &[u8]) {
-    let mut marks = [0u8; 8];
-    let mut lengths = [0u32; 8];
-    let mut path = [9u32; 8];
-    let r = longest_path_53(words, weights, &mut marks, &mut lengths, &mut path);
+    let r = longest_path(version, words, weights, &mut marks, &mut lengths, &mut path);
     show(what, r, &path);
 }
 
@@ -59,7 +50,14 @@ fn short(what: &[u8], words: &[u32], weights: &[u8]) {
     let mut marks = [0u8; 8];
     let mut lengths = [0u32; 8];
     let mut path = [9u32; 3];
-    let r = longest_path(words, weights, &mut marks, &mut lengths, &mut path);
+    let r = longest_path(
+        Version::Lua54,
+        words,
+        weights,
+        &mut marks,
+        &mut lengths,
+        &mut path,
+    );
     show(what, r, &path);
 }
 
@@ -71,10 +69,15 @@ fn ways() {
     heavy[0] = 2;
     let mut zero = [1u8; 128];
     zero[7] = 0;
-    case(b"of two equal ways the lower", &words, &ones);
-    case(b"of two ways the heavier", &words, &heavy);
+    case(
+        b"of two equal ways the lower",
+        Version::Lua54,
+        &words,
+        &ones,
+    );
+    case(b"of two ways the heavier", Version::Lua54, &words, &heavy);
     short(b"6, a path too short", &words, &ones);
-    case(b"18, a weight of 0", &words, &zero);
+    case(b"18, a weight of 0", Version::Lua54, &words, &zero);
     short(b"6 before 18", &words, &zero);
 }
 
@@ -82,13 +85,13 @@ fn ways() {
 fn others() {
     let sheet = [2147483649u32, 2147483669, 109051951, 2147483192];
     let ones = [1u8; 128];
-    case(b"a loop ends at its service", &sheet, &ones);
+    case(b"a loop ends at its service", Version::Lua54, &sheet, &ones);
     let none: [u32; 0] = [];
-    case(b"7, no words", &none, &ones);
+    case(b"7, no words", Version::Lua54, &none, &ones);
     let unknown = [83u32];
-    case(b"8, a bad word", &unknown, &ones);
+    case(b"8, a bad word", Version::Lua54, &unknown, &ones);
     let older = [31u32, 2147483678, 0, 8388646];
-    case_53(b"5.3, EQ, JMP, MOVE, RETURN", &older, &ones);
+    case(b"5.3, EQ, JMP, MOVE, RETURN", Version::Lua53, &older, &ones);
 }
 
 fn main() {

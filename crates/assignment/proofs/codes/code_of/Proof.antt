@@ -2,8 +2,8 @@ use mathlib.Core.Path.{_≡_, sym, ap, ap₂, subst, _∙_}
 use Prim.Native.Nat.{ℕ, _+_, _*_, _≤_, _<_}
 use native.Mathlib.Omega.{arith}
 use borrow.Author.Needs.{needs}
-use Rattle.runs.specs.declared.edges.Successors.{Successors}
-use Rattle.runs.specs.declared.edges.Successors.the-variants.{Invalid, Stop, One, Two}
+use Rattle.sweep.specs.declared.edges.Successors.{Successors}
+use Rattle.sweep.specs.declared.edges.Successors.the-variants.{Invalid, Stop, One, Two}
 use Rattle.assignment.specs.Uses.{readsBy, setsBy}
 use Rattle.assignment.specs.Codes.{bitOf, cutsBy, codeOf}
 use Rattle.assignment.proofs.Cuts.{bit-small, code-small}

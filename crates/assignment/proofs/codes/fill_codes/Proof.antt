@@ -4,7 +4,7 @@ use native.Mathlib.Omega.{arith}
 use borrow.Author.Needs.{needs}
 use lib.ListN.{length}
 use Rattle.common.proofs.Writing.{Writing, writing-none, writing-more, writing-done}
-use Rattle.runs.specs.declared.edges.Successors.{Successors}
+use Rattle.sweep.specs.declared.edges.Successors.{Successors}
 use Rattle.touches.specs.declared.answer.Touches.{Touches}
 use Rattle.touches.specs.Touches.{touchesOf}
 use Rattle.touches.specs.Meaning.{rangesIn}

@@ -1,7 +1,7 @@
 use mathlib.Core.Path.{ap, _∙_}
 use borrow.Author.Tests.{eq-eqb, ne-eqb}
 use borrow.Author.Needs.{needs}
-use Rattle.runs.specs.Steps.{isInvalid}
+use Rattle.sweep.specs.Steps.{isInvalid}
 use Rattle.assignment.proofs.definite.reaches_bad.Statement.{statement}
 use Rattle.assignment.proofs.definite.reaches_bad.Tie as tie
 

@@ -23,8 +23,13 @@ put-records-requires c κs =
 returns : tie.Need-returns
 returns c =
     let t = c .before .before .before in
-    let a = t .before .before .before .before .before .before .before .before .before .args in
-    (rw (t .before .before .planned .ensures), rw (← t .before .before .planned .ensures) (rw (← length-records (now (a .words)) (now (a .tags)) (now (a .payloads)) (now (a .names)) (t .before .before .planned .result .count)) (t .put-records .ensures ∙ put-laws .start (now (a .numbers)) (recordsNumbers (now (a .words)) (now (a .tags)) (now (a .payloads)) (now (a .names)) (t .before .before .planned .result .count)))))
+    let a = t .before .before .before .before .before .before .before .before .before .args in (
+      rw (t .before .before .planned .ensures),
+      rw (← t .before .before .planned .ensures) (rw (← length-records (now (a .words))
+          (now (a .tags)) (now (a .payloads)) (now (a .names)) (t .before .before .planned .result .count))
+          (t .put-records .ensures ∙ put-laws .start (now (a .numbers)) (recordsNumbers (now (a .words))
+          (now (a .tags)) (now (a .payloads)) (now (a .names)) (t .before .before .planned .result .count)))),
+    )
 
 pub lawendeb-lift-spec : {M : Type 1} → statement M
 lawendeb-lift-spec = tie.close (tie.spec (λ c κs. search needs) put-records-requires (λ c. search needs) (λ c. search needs) returns)

@@ -32,4 +32,8 @@ returns c =
     put-laws .and-then l _ _ at 10 _ _ e₄ refl (omega (arith, s .pre)) (rw (c₅ .before .flat-effect .ensures) at (c₅ .put-slot .ensures))
 
 pub put-head-spec : {M : Type 1} → statement M
-put-head-spec = tie.close (tie.spec (λ c. search needs) (λ c. search needs) (λ c κs. search needs) (λ c κs. search needs) (λ c. search needs) (λ c κs. search needs) (λ c κs. search needs) (λ c. search needs) (λ c κs. search needs) (λ c κs. search needs) (λ c. search needs) (λ c κs. search needs) (λ c κs. search needs) add-put-slot (λ c κs. search needs) put-slot-requires (λ c. search needs) returns)
+put-head-spec =
+    tie.close (tie.spec (λ c. search needs) (λ c. search needs) (λ c κs. search needs) (λ c κs. search needs)
+    (λ c. search needs) (λ c κs. search needs) (λ c κs. search needs) (λ c. search needs)
+    (λ c κs. search needs) (λ c κs. search needs) (λ c. search needs) (λ c κs. search needs)
+    (λ c κs. search needs) add-put-slot (λ c κs. search needs) put-slot-requires (λ c. search needs) returns)

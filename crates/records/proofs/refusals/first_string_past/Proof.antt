@@ -36,7 +36,14 @@ shared-slice-read-is-string-past-2 c = omega arith
 
 returns : tie.Need-returns Inv-loop μ-loop
 unfolding stringPastAt
-returns c = lowest-laws .hit (stringPastAt (now (c .before .before .before .before .before .before .before .before .args .tags)) (now (c .before .before .before .before .before .before .before .before .args .payloads)) (c .before .before .before .before .before .before .before .before .args .bytes)) (length (now (c .before .before .before .before .before .before .before .before .args .tags))) (c .before .before .before .before .before .loop .i) (c .before .before .before .before .loop-test .taken) (sym (c .before .is-string-past .ensures) ∙ c .if1 .taken) ∙ sym (c .before .before .before .before .before .loop .inv .1)
+returns c = lowest-laws .hit
+    (stringPastAt (now (c .before .before .before .before .before .before .before .before .args .tags))
+    (now (c .before .before .before .before .before .before .before .before .args .payloads))
+    (c .before .before .before .before .before .before .before .before .args .bytes))
+    (length (now (c .before .before .before .before .before .before .before .before .args .tags)))
+    (c .before .before .before .before .before .loop .i) (c .before .before .before .before .loop-test .taken)
+    (sym (c .before .is-string-past .ensures) ∙ c .if1 .taken)
+    ∙ sym (c .before .before .before .before .before .loop .inv .1)
 
 add-i : tie.Need-add-i Inv-loop μ-loop
 unfolding stringPastAt
@@ -48,7 +55,16 @@ loop-less c = omega arith
 
 loop-again : tie.Need-loop-again Inv-loop μ-loop
 unfolding stringPastAt
-loop-again c = (omega arith, c .before .before .before .before .before .loop .inv .1 ∙ lowest-laws .miss (stringPastAt (now (c .before .before .before .before .before .before .before .before .args .tags)) (now (c .before .before .before .before .before .before .before .before .args .payloads)) (c .before .before .before .before .before .before .before .before .args .bytes)) (length (now (c .before .before .before .before .before .before .before .before .args .tags))) (c .before .before .before .before .before .loop .i) (c .before .before .before .before .loop-test .taken) (sym (c .before .is-string-past .ensures) ∙ c .if1 .left))
+loop-again c = (
+  omega arith,
+  c .before .before .before .before .before .loop .inv .1 ∙ lowest-laws .miss
+      (stringPastAt (now (c .before .before .before .before .before .before .before .before .args .tags))
+      (now (c .before .before .before .before .before .before .before .before .args .payloads))
+      (c .before .before .before .before .before .before .before .before .args .bytes))
+      (length (now (c .before .before .before .before .before .before .before .before .args .tags)))
+      (c .before .before .before .before .before .loop .i) (c .before .before .before .before .loop-test .taken)
+      (sym (c .before .is-string-past .ensures) ∙ c .if1 .left),
+)
 
 returns-2 : tie.Need-returns-2 Inv-loop μ-loop
 returns-2 c = lowest-laws .end (stringPastAt (now (c .before .before .before .before .args .tags)) (now (c .before .before .before .before .args .payloads)) (c .before .before .before .before .args .bytes)) (length (now (c .before .before .before .before .args .tags))) (c .before .loop .i) (omega arith) ∙ sym (c .before .loop .inv .1)

@@ -40,7 +40,14 @@ loop-less c = omega arith
 
 loop-again : tie.Need-loop-again Inv-loop μ-loop
 unfolding unknownTagAt
-loop-again c = (omega arith, c .before .before .before .before .loop .inv .1 ∙ lowest-laws .miss (unknownTagAt (now (c .before .before .before .before .before .before .args .tags))) (length (now (c .before .before .before .before .before .before .args .tags))) (c .before .before .before .before .loop .i) (c .before .before .before .loop-test .taken) (sym (c .before .is-unknown .ensures) ∙ c .if1 .left))
+loop-again c = (
+  omega arith,
+  c .before .before .before .before .loop .inv .1
+      ∙ lowest-laws .miss (unknownTagAt (now (c .before .before .before .before .before .before .args .tags)))
+      (length (now (c .before .before .before .before .before .before .args .tags)))
+      (c .before .before .before .before .loop .i) (c .before .before .before .loop-test .taken)
+      (sym (c .before .is-unknown .ensures) ∙ c .if1 .left),
+)
 
 returns-2 : tie.Need-returns-2 Inv-loop μ-loop
 returns-2 c = lowest-laws .end (unknownTagAt (now (c .before .before .before .args .tags))) (length (now (c .before .before .before .args .tags))) (c .before .loop .i) (omega arith) ∙ sym (c .before .loop .inv .1)

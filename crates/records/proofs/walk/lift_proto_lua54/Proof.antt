@@ -291,7 +291,12 @@ module _ {M : Type 1} (𝓤 : URA M) (H : Heap 𝓤) (A : Atoms 𝓤) (W : Given
         move ! (0 ∷ 16 ∷ 17 ∷ 18 ∷ []) $ closes-slice ! tt R.the-row ys zs (length-filled ws ts ps ns n ys) b o $
         -- [obs; the borrow; out's token; _7; _9; _10; _11; _12; _1; _2; _3; _4; _5; _6; _8; _0; the slices; their token; and that each local dies]
         returns ! (look ! 17 refl) $ forget ! 3 refl $ forget ! 4 refl $ forget ! 8 refl $ forget ! 9 refl $ forget ! 10 refl $ forget ! 11 refl $ forget ! 12 refl $ forget ! 13 refl $ forget ! 14 refl $ forget ! 15 refl $ forget ! 16 refl $ forget ! 17 refl $
-        move ! (17 ∷ 20 ∷ []) $ free1 ! $ move ! (8 ∷ 19 ∷ []) $ free1 ! $ move ! (8 ∷ 18 ∷ []) $ free1 ! $ move ! (8 ∷ 17 ∷ []) $ free1 ! $ move ! (8 ∷ 16 ∷ []) $ free1 ! $ move ! (8 ∷ 15 ∷ []) $ free1 ! $ move ! (8 ∷ 14 ∷ []) $ free1 ! $ move ! (8 ∷ 13 ∷ []) $ free1 ! $ move ! (8 ∷ 12 ∷ []) $ free1 ! $ move ! (3 ∷ 11 ∷ []) $ free1 ! $ move ! (7 ∷ 10 ∷ []) $ free1 ! $ move ! (3 ∷ 9 ∷ []) $ free1 ! $ move ! (3 ∷ 8 ∷ []) $ free1 ! $ move ! (3 ∷ 7 ∷ []) $ free1 ! $ move ! (3 ∷ 6 ∷ []) $ free1 ! $ free0 ! $ by ! (exits room (answer-is p-is))
+        move ! (17 ∷ 20 ∷ []) $ free1 ! $ move ! (8 ∷ 19 ∷ []) $ free1 ! $ move ! (8 ∷ 18 ∷ []) $ free1 ! $
+        move ! (8 ∷ 17 ∷ []) $ free1 ! $ move ! (8 ∷ 16 ∷ []) $ free1 ! $ move ! (8 ∷ 15 ∷ []) $ free1 ! $
+        move ! (8 ∷ 14 ∷ []) $ free1 ! $ move ! (8 ∷ 13 ∷ []) $ free1 ! $ move ! (8 ∷ 12 ∷ []) $ free1 ! $
+        move ! (3 ∷ 11 ∷ []) $ free1 ! $ move ! (7 ∷ 10 ∷ []) $ free1 ! $ move ! (3 ∷ 9 ∷ []) $ free1 ! $
+        move ! (3 ∷ 8 ∷ []) $ free1 ! $ move ! (3 ∷ 7 ∷ []) $ free1 ! $ move ! (3 ∷ 6 ∷ []) $ free1 ! $
+        free0 ! $ by ! (exits room (answer-is p-is))
 
     below : (t i : ℕ) → suc i + t ≡ n → ent 𝓤 (⋆ 𝓤 H A (At (suc i))) (Below (suc t))
     below t i e =
@@ -334,7 +339,11 @@ module _ {M : Type 1} (𝓤 : URA M) (H : Heap 𝓤) (A : Atoms 𝓤) (W : Given
     -- the call that makes the plan
     plans : Triple 𝓤 (𝓣 .C #planned) (Planned 𝓤 H A at-mem run) → Sq W (raw (Planned 𝓤 H A at-mem run .pre to-plan) ∷ ‵ Lent ∷ ‵ (flft κ′ q′) ∷ ‵ ftrue ∷ ‵ Owned ∷ Locals (‵ (fat fullShare word l₁₀ 0 (vint w64 (length ys)))) (‵ (froom word l₉ 0)) (‵ (froom word l₈ 0)) (‵ (froom P′.mir l₇ 0))) (runs C Λ En mir.t-2 (atRet En Post))
     plans known-plan =
-        calls-at ! (fmOf 𝓤 H (W .laws) 𝓣) (Planned 𝓤 H A at-mem run) known-plan to-plan (and-then ! (load ! (from ! (stop !)) (look ! 31 refl)) (and-then ! (load ! (from ! (stop !)) (look ! 29 refl)) (and-then ! (load ! (from ! (stop !)) (look ! 27 refl)) (and-then ! (load ! (from ! (stop !)) (look ! 25 refl)) (and-then ! (load ! (from ! (stop !)) (look ! 23 refl)) (and-then ! (load ! (from ! (stop !)) (look ! 13 refl)) (no-more !))))))) (λ u.
+        calls-at ! (fmOf 𝓤 H (W .laws) 𝓣) (Planned 𝓤 H A at-mem run) known-plan to-plan
+        (and-then ! (load ! (from ! (stop !)) (look ! 31 refl)) (and-then !
+        (load ! (from ! (stop !)) (look ! 29 refl)) (and-then ! (load ! (from ! (stop !)) (look ! 27 refl))
+        (and-then ! (load ! (from ! (stop !)) (look ! 25 refl)) (and-then ! (load ! (from ! (stop !))
+        (look ! 23 refl)) (and-then ! (load ! (from ! (stop !)) (look ! 13 refl)) (no-more !))))))) (λ u.
         use1 W (later (some (λ (r : Plan). ((‵ (flft κ q) ⊛ ‵ ftrue) ⊛ ‵ (P.the-row .own r (u ∷ []))) ⊛ raw (ensured 𝓤 H A pl.ended (pl.clauses 𝓤 H A at-mem run) (κ, tt) (lent.y 𝓤 H A W at-mem run κ q wr tr pr nr br (length ys)) tt r)))) (id⊢ 𝓤 _) $ await ! tt $ pick ! (λ r.
         split ! $ move ! (1 ∷ []) $ use1 W (raw (fact 𝓤 (r ≡ p))) (lent.said-plan 𝓤 H A W at-mem run κ q wr tr pr nr br (length ys) r) $ heard ! (r ≡ p) (λ e. split ! $ move ! (1 ∷ []) $
         -- [the result; the token; the slices; out's token; true; what out owns; _12 (6); …]

@@ -4,10 +4,11 @@ use mathlib.Core.Path.{sym, ap₂, subst, _∙_}
 use borrow.Author.Needs.{needs}
 use lib.ListN.{length}
 use Rattle.common.specs.Limits.{mostWords}
-use Rattle.runs.specs.declared.edges.Successors.{Successors}
-use Rattle.runs.specs.Cut.{cutSteps, stepsCut}
-use Rattle.runs.specs.Entries.{Says}
-use Rattle.runs.proofs.Entries.{Settling, settling-none, settling-more, settling-done}
+use Rattle.sweep.specs.declared.edges.Successors.{Successors}
+use Rattle.sweep.specs.Cut.{cutSteps}
+use Rattle.runs.specs.Cut.{stepsCut}
+use Rattle.sweep.specs.Entries.{Says}
+use Rattle.sweep.proofs.Settling.{Settling, settling-none, settling-more, settling-done}
 use Rattle.runs.proofs.Cut.{cut-outside}
 use Rattle.runs.proofs.cutting.settle_cut.Statement.{statement}
 use Rattle.runs.proofs.cutting.settle_cut.Tie as tie

@@ -6,7 +6,7 @@ use lib.ListN.{length}
 use borrow.Author.Needs.{needs}
 use Rattle.fields.specs.declared.version.Version.{Version}
 use Rattle.runs.specs.Script.{scriptOf, weightOf}
-use Rattle.runs.specs.PassInvariants.{Fills}
+use Rattle.sweep.specs.PassInvariants.{Fills}
 use Rattle.runs.proofs.Masks.{mask-small, filled-by}
 use Rattle.runs.proofs.Searched.{fill-asks, filled-length, measured-invalid, measured-accepted}
 use Rattle.runs.proofs.longest.measure_run.Statement.{statement}
@@ -53,7 +53,7 @@ returns-2 c =
 fill-lengths-requires : tie.Need-fill-lengths-requires
 fill-lengths-requires c κs =
     let s = c .before .before .before .before .before .before in
-    (fill-asks (version s) (words s) (s .pre .0), sym (s .pre .0 .lent .l-same), omega (arith, c .before .slot-mask .ensures, mask-small (version s)), s .pre .1)
+    (fill-asks (version s) (words s) (s .pre .0), sym (s .pre .0 .lent .l-same), omega (arith, c .before .slot-mask .ensures, mask-small (version s), s .pre .1))
 
 pub measure-run-spec : {M : Type 1} → statement M
 measure-run-spec =

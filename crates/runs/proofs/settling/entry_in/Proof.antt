@@ -6,11 +6,11 @@ use native.Mathlib.Omega.{arith}
 use lib.ListN.{length, getD}
 use borrow.Author.Needs.{needs}
 use Rattle.common.specs.Limits.{mostWords}
-use Rattle.runs.specs.declared.edges.Successors.{Successors}
+use Rattle.sweep.specs.declared.edges.Successors.{Successors}
 use Rattle.runs.specs.Columns.{classFrom, companionFrom}
-use Rattle.runs.specs.Steps.{unless}
+use Rattle.sweep.specs.Steps.{unless}
 use Rattle.runs.specs.Successors.{nextOf, standsAt, successorsOf}
-use Rattle.runs.specs.Entries.{Packs, Says}
+use Rattle.sweep.specs.Entries.{Packs, Says}
 use Rattle.runs.proofs.Columns.{class-in, companion-in}
 use Rattle.runs.proofs.Words.{by-columns, packs}
 use Rattle.runs.proofs.settling.entry_in.Statement.{statement}

@@ -10,11 +10,11 @@ use borrow.Author.Tests.{le-ltb}
 use Rattle.common.specs.Limits.{mostWords}
 use Rattle.fields.specs.Word53.{aOf}
 use Rattle.fields.specs.Table53.{comparing, jumpAfter}
-use Rattle.runs.specs.declared.edges.Successors.{Successors}
+use Rattle.sweep.specs.declared.edges.Successors.{Successors}
 use Rattle.runs.specs.Columns53.{classFrom, companionFrom}
-use Rattle.runs.specs.Steps.{unless, two}
+use Rattle.sweep.specs.Steps.{unless, two}
 use Rattle.runs.specs.Successors53.{nextOf, standsAt, successorsOf}
-use Rattle.runs.specs.Entries.{Packs, Says}
+use Rattle.sweep.specs.Entries.{Packs, Says}
 use Rattle.runs.proofs.Columns53.{class-of-byte, companion-of-byte}
 use Rattle.runs.proofs.Words53.{by-columns, packs}
 use Rattle.runs.proofs.settling53.entry_at.Statement.{statement}

@@ -3,7 +3,7 @@ use native.Mathlib.Omega.{arith}
 use mathlib.Core.Path.{sym, _∙_}
 use lib.ListN.{length}
 use Rattle.runs.specs.Successors53.{successorsOf}
-use Rattle.runs.proofs.Entries.{Settling, settling-none, settling-more, settling-done}
+use Rattle.sweep.proofs.Settling.{Settling, settling-none, settling-more, settling-done}
 use Rattle.runs.proofs.Words53.{outside}
 use Rattle.runs.proofs.settling53.settle_edges.Statement.{statement}
 use Rattle.runs.proofs.settling53.settle_edges.Tie as tie

@@ -1,8 +1,8 @@
 -- `runs::successors::arithmetic` meets its contract. Assumes nothing.
 use native.Mathlib.Omega.{arith}
-use Rattle.runs.specs.Steps.{unless}
+use Rattle.sweep.specs.Steps.{unless}
 use Rattle.runs.specs.Successors.{opcodeAt}
-use Rattle.runs.proofs.Steps.{two-in, none-out}
+use Rattle.sweep.proofs.Steps.{two-in, none-out}
 use borrow.Author.Needs.{needs}
 use Rattle.runs.proofs.successors.arithmetic.Statement.{statement}
 use Rattle.runs.proofs.successors.arithmetic.Tie as tie

@@ -1,7 +1,7 @@
 -- `runs::successors::jump` meets its contract: the sum in naturals, less the offset.
 -- Assumes nothing.
 use mathlib.Core.Path.{_∙_}
-use Rattle.runs.proofs.Steps.{away-in, away-below}
+use Rattle.sweep.proofs.Steps.{away-in, away-below}
 use borrow.Author.Needs.{needs}
 use Rattle.runs.proofs.successors.jump.Statement.{statement}
 use Rattle.runs.proofs.successors.jump.Tie as tie

@@ -2,7 +2,7 @@
 -- Assumes nothing.
 use mathlib.Core.Path.{_≡_, _∙_}
 use native.Mathlib.Omega.{arith}
-use Rattle.runs.proofs.Steps.{back-in, back-below, back-none}
+use Rattle.sweep.proofs.Steps.{back-in, back-below, back-none}
 use borrow.Author.Needs.{needs}
 use Rattle.runs.proofs.successors.loop_back.Statement.{statement}
 use Rattle.runs.proofs.successors.loop_back.Tie as tie

@@ -1,7 +1,7 @@
 -- `runs::successors::metamethod` meets its contract. Assumes nothing.
 use native.Mathlib.Nat.{pos-of-ne-zero}
 use native.Mathlib.Omega.{arith}
-use Rattle.runs.specs.Steps.{unless}
+use Rattle.sweep.specs.Steps.{unless}
 use borrow.Author.Needs.{needs}
 use borrow.Author.Tests.{lt-ltb, le-ltb}
 use Rattle.runs.proofs.successors.metamethod.Statement.{statement}

@@ -6,7 +6,7 @@ use mathlib.Core.List.{List}
 use native.Mathlib.Omega.{arith}
 use lib.ListN.{length, getD}
 use Rattle.runs.specs.Columns.{classFrom, companionFrom}
-use Rattle.runs.specs.Steps.{unless}
+use Rattle.sweep.specs.Steps.{unless}
 use Rattle.runs.specs.Successors.{nextOf, standsAt, successorsOf}
 use Rattle.runs.proofs.Columns.{class-of-byte, companion-of-byte}
 use Rattle.runs.proofs.Words.{outside, by-columns}

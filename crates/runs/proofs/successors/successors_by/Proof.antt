@@ -1,6 +1,6 @@
 -- `runs::successors::successors_by` meets its contract: the companion, then the class.
 -- Assumes nothing.
-use Rattle.runs.specs.Steps.{unless}
+use Rattle.sweep.specs.Steps.{unless}
 use borrow.Author.Needs.{needs}
 use Rattle.runs.proofs.successors.successors_by.Statement.{statement}
 use Rattle.runs.proofs.successors.successors_by.Tie as tie

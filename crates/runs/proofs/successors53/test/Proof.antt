@@ -2,9 +2,9 @@
 use mathlib.Core.Path.{sym, _∙_}
 use native.Mathlib.Omega.{arith}
 use Rattle.fields.specs.Opcodes53.{«OP_JMP»}
-use Rattle.runs.specs.Steps.{unless}
+use Rattle.sweep.specs.Steps.{unless}
 use Rattle.runs.specs.Successors53.{opcodeAt}
-use Rattle.runs.proofs.Steps.{two-in, none-out}
+use Rattle.sweep.proofs.Steps.{two-in, none-out}
 use borrow.Author.Needs.{needs}
 use borrow.Author.Tests.{eq-eqb, ne-eqb}
 use Rattle.runs.proofs.successors53.test.Statement.{statement}

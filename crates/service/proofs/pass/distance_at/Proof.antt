@@ -5,8 +5,8 @@ use native.Mathlib.Omega.{arith}
 use lib.ListN.{length, getD}
 use borrow.Author.Needs.{needs}
 use Rattle.common.specs.Limits.{mostWords}
-use Rattle.runs.specs.Entries.{«TARGETS», «ENTRIES»}
-use Rattle.runs.specs.Steps.{servesOf}
+use Rattle.sweep.specs.Entries.{«TARGETS», «ENTRIES»}
+use Rattle.sweep.specs.Steps.{servesOf}
 use Rattle.service.proofs.Near.{near-none, near-next, near-both, near-serves, near-target, target-in, next-low, target-low}
 use Rattle.service.proofs.pass.distance_at.Statement.{statement}
 use Rattle.service.proofs.pass.distance_at.Tie as tie

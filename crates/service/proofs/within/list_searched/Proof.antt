@@ -1,7 +1,7 @@
 use mathlib.Core.Path.{refl}
 use native.Mathlib.Omega.{arith}
 use borrow.Author.Needs.{needs}
-use Rattle.runs.specs.Entries.{entries}
+use Rattle.sweep.specs.Entries.{entries}
 use Rattle.service.proofs.Near.{same-length}
 use Rattle.service.proofs.Cross.{marks-long}
 use Rattle.service.proofs.Outcome.{holds-of, listed-noted, list-bad, list-good}

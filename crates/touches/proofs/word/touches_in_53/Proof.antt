@@ -3,7 +3,7 @@
 use mathlib.Core.Path.{sym, ap, _∙_}
 use denote.Ref.{now}
 use Rattle.fields.specs.declared.version.Version.the-variants.{Lua53}
-use Rattle.runs.specs.Steps.{isInvalid}
+use Rattle.sweep.specs.Steps.{isInvalid}
 use Rattle.touches.specs.Table.{touchesLent}
 use Rattle.touches.proofs.Rows.{valid-inside}
 use borrow.Author.Needs.{needs}

@@ -32,7 +32,13 @@ shared-slice-read-is-name-past c = omega arith
 
 returns : tie.Need-returns Inv-loop μ-loop
 unfolding namePastAt
-returns c = lowest-laws .hit (namePastAt (now (c .before .before .before .before .before .before .args .names)) (c .before .before .before .before .before .before .args .bytes)) (length (now (c .before .before .before .before .before .before .args .names))) (c .before .before .before .before .loop .i) (c .before .before .before .loop-test .taken) (sym (c .before .is-name-past .ensures) ∙ c .if1 .taken) ∙ sym (c .before .before .before .before .loop .inv .1)
+returns c =
+    lowest-laws .hit (namePastAt (now (c .before .before .before .before .before .before .args .names))
+    (c .before .before .before .before .before .before .args .bytes))
+    (length (now (c .before .before .before .before .before .before .args .names)))
+    (c .before .before .before .before .loop .i)
+    (c .before .before .before .loop-test .taken) (sym (c .before .is-name-past .ensures) ∙ c .if1 .taken)
+    ∙ sym (c .before .before .before .before .loop .inv .1)
 
 add-i : tie.Need-add-i Inv-loop μ-loop
 unfolding namePastAt
@@ -44,7 +50,15 @@ loop-less c = omega arith
 
 loop-again : tie.Need-loop-again Inv-loop μ-loop
 unfolding namePastAt
-loop-again c = (omega arith, c .before .before .before .before .loop .inv .1 ∙ lowest-laws .miss (namePastAt (now (c .before .before .before .before .before .before .args .names)) (c .before .before .before .before .before .before .args .bytes)) (length (now (c .before .before .before .before .before .before .args .names))) (c .before .before .before .before .loop .i) (c .before .before .before .loop-test .taken) (sym (c .before .is-name-past .ensures) ∙ c .if1 .left))
+loop-again c = (
+  omega arith,
+  c .before .before .before .before .loop .inv .1
+      ∙ lowest-laws .miss (namePastAt (now (c .before .before .before .before .before .before .args .names))
+      (c .before .before .before .before .before .before .args .bytes))
+      (length (now (c .before .before .before .before .before .before .args .names)))
+      (c .before .before .before .before .loop .i) (c .before .before .before .loop-test .taken)
+      (sym (c .before .is-name-past .ensures) ∙ c .if1 .left),
+)
 
 returns-2 : tie.Need-returns-2 Inv-loop μ-loop
 returns-2 c = lowest-laws .end (namePastAt (now (c .before .before .before .args .names)) (c .before .before .before .args .bytes)) (length (now (c .before .before .before .args .names))) (c .before .loop .i) (omega arith) ∙ sym (c .before .loop .inv .1)

@@ -5,7 +5,7 @@ use Prim.Native.Nat.{ℕ, _<_}
 use native.Mathlib.Omega.{arith}
 use lib.ListN.{length}
 use borrow.Author.Needs.{needs}
-use Rattle.runs.specs.Steps.{servesOf}
+use Rattle.sweep.specs.Steps.{servesOf}
 use Rattle.witness.proofs.Onwards.{by-steps, one-serves, one-on, both-serve, second-on, first-on, second-greater, first-greater, two-in}
 use Rattle.witness.proofs.walking.go_on.Statement.{statement}
 use Rattle.witness.proofs.walking.go_on.Tie as tie
