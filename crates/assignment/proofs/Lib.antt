@@ -1,8 +1,11 @@
-pub mod Lowest
+pub mod Some
 pub mod Within
-pub mod Digits
-pub mod Cuts
+pub mod Bits
+pub mod Sets
+pub mod Pages
 pub mod Uses
-pub mod Finding
+pub mod Moves
+pub mod Visiting
+pub mod Found
 pub mod Outcome
 pub mod Meaning

@@ -1,7 +1,7 @@
 -- Registers in ranges. Assumes nothing.
 use mathlib.Core.Path.{_≡_, refl, sym, ap, _∙_}
 use mathlib.Core.Logic.{_↔_, inl, inr}
-use mathlib.Core.Bool.{Bool, true, false, cond, _&&_, _||_, or-false, false≢true}
+use mathlib.Core.Bool.{Bool, true, false, cond, _&&_, _||_, false≢true}
 use mathlib.Core.List.{List, [], _∷_}
 use Prim.Native.Nat.{ℕ, zero, suc, _≤_, _<_, min, max}
 use native.Mathlib.Omega.{arith}
@@ -11,7 +11,7 @@ use lib.ListN.{length, getD, take}
 use Rattle.touches.specs.declared.answer.Range.{Range}
 use Rattle.touches.specs.Meaning.{Within}
 use Rattle.assignment.specs.Uses.{inRange, inRanges, endOf}
-use Rattle.assignment.specs.Codes.{mostRegisters, nextOf, nextIn}
+use Rattle.assignment.specs.Blocks.{mostRegisters, nextOf, nextIn}
 
 -- the test is that of the relation
 in-within : (r : ℕ) (xs : List Range) → inRanges r xs ≡ true → Within r xs
@@ -62,62 +62,8 @@ module _ (l : List Range) (e : length l ≡ 3) (k : ℕ) where
   by-three : {X : Type 0} (f : List Range → X) → f (take k (nth l 0 ∷ nth l 1 ∷ nth l 2 ∷ [])) ≡ f (take k l)
   by-three f = ap (λ (x : List Range). f (take k x)) (sym (three l e))
 
--- which place decides
-module _ (r : ℕ) (a b c : Range) where
-  first-place : (k : ℕ) → (k ≡ 0 → ⊥) → inRange r a ≡ true → true ≡ inRanges r (take k (a ∷ b ∷ c ∷ []))
-  unfolding inRanges
-  first-place zero n e = absurd (n refl)
-  first-place (suc k) n e = rw e
-
-  only-place : (k : ℕ) → k ≡ 1 → inRange r a ≡ false → false ≡ inRanges r (take k (a ∷ b ∷ c ∷ []))
-  unfolding inRanges
-  only-place k d e = rw (d, e)
-
-  second-place : (k : ℕ) → (k ≡ 0 → ⊥) → (k ≡ 1 → ⊥) → inRange r a ≡ false → inRange r b ≡ true → true ≡ inRanges r (take k (a ∷ b ∷ c ∷ []))
-  unfolding inRanges
-  second-place zero n m e f = absurd (n refl)
-  second-place (suc zero) n m e f = absurd (m refl)
-  second-place (suc (suc k)) n m e f = rw (e, f)
-
-  two-places : (k : ℕ) → k ≡ 2 → inRange r a ≡ false → inRange r b ≡ false → false ≡ inRanges r (take k (a ∷ b ∷ c ∷ []))
-  unfolding inRanges
-  two-places k d e f = rw (d, e, f)
-
-  third-place : (k : ℕ) → (k ≡ 0 → ⊥) → (k ≡ 1 → ⊥) → (k ≡ 2 → ⊥) → inRange r a ≡ false → inRange r b ≡ false → inRange r c ≡ inRanges r (take k (a ∷ b ∷ c ∷ []))
-  unfolding inRanges
-  third-place zero n m o e f = absurd (n refl)
-  third-place (suc zero) n m o e f = absurd (m refl)
-  third-place (suc (suc zero)) n m o e f = absurd (o refl)
-  third-place (suc (suc (suc zero))) n m o e f = rw (e, f, or-false)
-  third-place (suc (suc (suc (suc k)))) n m o e f = rw (e, f, or-false)
-
--- the same of any three
-module _ (r : ℕ) (l : List Range) (t : length l ≡ 3) (k : ℕ) where
-  pub in-none : k ≡ 0 → false ≡ inRanges r (take k l)
-  unfolding inRanges
-  in-none e = rw e
-
-  module _ (n : k ≡ 0 → ⊥) where
-    pub in-first : inRange r (nth l 0) ≡ true → true ≡ inRanges r (take k l)
-    in-first e = first-place r (nth l 0) (nth l 1) (nth l 2) k n e ∙ by-three l t k (inRanges r)
-
-    module _ (a : inRange r (nth l 0) ≡ false) where
-      pub in-only : k ≡ 1 → false ≡ inRanges r (take k l)
-      in-only e = only-place r (nth l 0) (nth l 1) (nth l 2) k e a ∙ by-three l t k (inRanges r)
-
-      module _ (m : k ≡ 1 → ⊥) where
-        pub in-second : inRange r (nth l 1) ≡ true → true ≡ inRanges r (take k l)
-        in-second e = second-place r (nth l 0) (nth l 1) (nth l 2) k n m a e ∙ by-three l t k (inRanges r)
-
-        module _ (b : inRange r (nth l 1) ≡ false) where
-          pub in-two : k ≡ 2 → false ≡ inRanges r (take k l)
-          in-two e = two-places r (nth l 0) (nth l 1) (nth l 2) k e a b ∙ by-three l t k (inRanges r)
-
-          pub in-third : (k ≡ 2 → ⊥) → inRange r (nth l 2) ≡ inRanges r (take k l)
-          in-third o = third-place r (nth l 0) (nth l 1) (nth l 2) k n m o a b ∙ by-three l t k (inRanges r)
-
--- the end and the next register of three ranges, up to a count
-module _ (f : List Range → ℕ) (l : List Range) (t : length l ≡ 3) (k : ℕ) where
+-- what is said of three ranges, up to a count
+module _ {X : Type 0} (f : List Range → X) (l : List Range) (t : length l ≡ 3) (k : ℕ) where
   pub of-none : k ≡ 0 → f [] ≡ f (take k l)
   of-none e = rw e
 

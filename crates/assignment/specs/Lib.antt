@@ -1,6 +1,6 @@
 -- Request C-15: registers set before use.
 pub mod Uses
 pub mod Answers
-pub mod Codes
+pub mod Blocks
 pub mod Flat
 pub mod Meaning

@@ -20,13 +20,16 @@ unfoldable pub inRanges : ℕ → List Range → Bool
 inRanges r [] = false
 inRanges r (x ∷ xs) = inRange r x || inRanges r xs
 
--- "each register named as read". "a read up to the top needs nothing beyond its named registers": the list of those up to the top is not asked
+-- "each register named as read". "a read up to the top needs nothing beyond its named registers":
+-- the list of those up to the top is not asked
 abbrev pub readsBy : Touches → ℕ → Bool
 readsBy t r = inRanges r (rangesIn (t .reads))
 
--- "named as written": on every way on, or on the way on that is taken, "listed with that step". "A write up to the stack top sets nothing"
+-- "named as written": on every way on, or on the way on that is taken, "listed with that step".
+-- "A write up to the stack top sets nothing"
 abbrev pub setsBy : Touches → ℕ → ℕ → Bool
-setsBy t q r = inRanges r (rangesIn (t .writes)) || (eqb q (t .edge) && inRanges r (rangesIn (t .«edge_writes»)))
+setsBy t q r =
+    inRanges r (rangesIn (t .writes)) || (eqb q (t .edge) && inRanges r (rangesIn (t .«edge_writes»)))
 
 -- one past the highest register of some ranges
 unfoldable pub endOf : List Range → ℕ

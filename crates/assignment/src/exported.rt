@@ -27,8 +27,10 @@ pub extern "C" fn lawendeb_definite_assignment(
     parameters: u8,
     marks: &mut [u8],
 ) -> FlatAnswer
-    ensures { λ r. ⌜ r ≡ flatAnswer (assignmentOf (now (words .entry)) parameters (length (now (marks .entry)))) ⌝ }
-    ensures { λ _. ⌜ now (marks .exit) ≡ marksAssigned (now (words .entry)) parameters (now (marks .entry)) ⌝ }
+    ensures { λ r. ⌜
+        r ≡ flatAnswer (assignmentOf (now (words .entry)) parameters (length (now (marks .entry)))) ⌝ }
+    ensures { λ _. ⌜ now (marks .exit)
+        ≡ marksAssigned (now (words .entry)) parameters (now (marks .entry)) ⌝ }
 {
     flat_answer(definite_assignment(words, parameters, marks))
 }

@@ -1,8 +1,8 @@
 // Over runs and touches: registers set before use (request C-15). In the field's terms: definite assignment.
-mod codes;
 pub mod definite;
 pub mod exported;
 mod ranges;
-mod unset;
+mod search;
+mod waiting;
 
 pub use definite::definite_assignment;

@@ -1,10 +1,12 @@
-// Registers in the ranges that a word's lists have, up to their count.
+// Sets of registers: those of a block, from register r on, as the bits of a number. The highest bit is no
+// register's.
 ghost use mathlib.Core.Path.{_≡_};
 ghost use Prim.Native.Nat.{_≤_, _<_, min, max};
+ghost use lib.Dec.{ltb};
 ghost use lib.ListN.{length};
 ghost use Rattle.touches.specs.Meaning.{rangesIn};
 ghost use Rattle.assignment.specs.Uses.{inRange, inRanges, endOf, setsBy};
-ghost use Rattle.assignment.specs.Codes.{mostRegisters, nextOf, nextIn, Listed};
+ghost use Rattle.assignment.specs.Blocks.{mostRegisters, nextOf, nextIn, Listed, Holds};
 use touches::Touches;
 use touches::answer::Range;
 use touches::answer::Ranges;
@@ -12,39 +14,62 @@ use touches::answer::Ranges;
 // Registers are numbers of 16 bits, so many of them.
 pub(crate) const MOST_REGISTERS: usize = 65536;
 
-fn in_range(x: Range, r: usize) -> bool
-    ensures { λ b. ⌜ b ≡ inRange r x ⌝ }
+// So many registers a block has.
+pub(crate) const BLOCK: usize = 63;
+
+// All registers of a block.
+const ALL: u64 = 9223372036854775807;
+
+// The registers below one.
+fn below(r: usize, end: usize) -> u64
+    ensures { λ m. ⌜ Holds r (λ s. ltb s end) m ⌝ }
 {
-    let first = x.first as usize;
-    let last = x.last as usize;
-    if first <= r {
-        return r <= last;
+    if end <= r {
+        return 0;
     }
-    false
+    let count = end - r;
+    if BLOCK <= count {
+        return ALL;
+    }
+    (1 << count) - 1
 }
 
-pub(crate) fn in_ranges(x: Ranges, r: usize) -> bool
+fn in_range(r: usize, x: Range) -> u64
+    ensures { λ m. ⌜ Holds r (λ s. inRange s x) m ⌝ }
+{
+    below(r, x.last as usize + 1) & (ALL - below(r, x.first as usize))
+}
+
+pub(crate) fn in_ranges(r: usize, x: Ranges) -> u64
     requires { ⌜ length (x .items) ≡ 3 ⌝ }
-    ensures { λ b. ⌜ b ≡ inRanges r (rangesIn x) ⌝ }
+    ensures { λ m. ⌜ Holds r (λ s. inRanges s (rangesIn x)) m ⌝ }
 {
     let items = x.items;
     let count = x.count;
     if count == 0 {
-        return false;
-    }
-    if in_range(items[0], r) {
-        return true;
+        return 0;
     }
     if count == 1 {
-        return false;
-    }
-    if in_range(items[1], r) {
-        return true;
+        return in_range(r, items[0]);
     }
     if count == 2 {
-        return false;
+        return in_range(r, items[0]) | in_range(r, items[1]);
     }
-    in_range(items[2], r)
+    in_range(r, items[0]) | (in_range(r, items[1]) | in_range(r, items[2]))
+}
+
+// The registers that a word that touches t sets on the step to q.
+pub(crate) fn set_by(r: usize, t: Touches, q: usize) -> u64
+    requires { ⌜ Listed t ⌝ }
+    ensures { λ m. ⌜ Holds r (setsBy t q) m ⌝ }
+{
+    let writes = t.writes;
+    let always = in_ranges(r, writes);
+    if q == t.edge {
+        let edge_writes = t.edge_writes;
+        return always | in_ranges(r, edge_writes);
+    }
+    always
 }
 
 fn larger(x: usize, y: usize) -> usize
@@ -102,20 +127,4 @@ pub(crate) fn next_in(x: Ranges, r: usize) -> usize
             smaller(next_of(items[2], r), MOST_REGISTERS),
         ),
     )
-}
-
-// Whether a word that touches t sets register r on the step to q.
-pub(crate) fn sets(t: Touches, q: usize, r: usize) -> bool
-    requires { ⌜ Listed t ⌝ }
-    ensures { λ b. ⌜ b ≡ setsBy t q r ⌝ }
-{
-    let writes = t.writes;
-    if in_ranges(writes, r) {
-        return true;
-    }
-    if q == t.edge {
-        let edge_writes = t.edge_writes;
-        return in_ranges(edge_writes, r);
-    }
-    false
 }

@@ -6,7 +6,6 @@ pub mod BothTables
 pub mod Columns
 pub mod Columns53
 pub mod Counted
-pub mod Cut
 pub mod Demand
 pub mod EntryLaws
 pub mod Lawful

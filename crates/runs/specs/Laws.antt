@@ -1,5 +1,4 @@
--- What callers go by: of the proofs here crates above cite `laws` of Laws.antt and
--- `cut-laws` of Cut.antt alone.
+-- What callers go by: of the proofs here crates above cite `laws` of Laws.antt alone.
 -- Assumes nothing.
 use Prim.Native.Nat.{ℕ, _%_, _≤_, _<_}
 use mathlib.Core.Path.{_≡_}

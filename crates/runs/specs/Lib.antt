@@ -17,7 +17,6 @@ pub mod Counted
 pub mod Demand
 pub mod Order
 pub mod Slices
-pub mod Cut
 pub mod Outcome
 pub mod Flat
 pub mod EntryLaws

@@ -1,5 +1,4 @@
 // Layer 2, over fields and sweep: the successors of a word, and the longest run without a service.
-pub mod cutting;
 pub mod flat;
 pub mod inner;
 pub mod longest;

@@ -8,7 +8,6 @@ use Rattle.sweep.specs.declared.edges.Successors.the-variants.{Invalid, 
 use Rattle.sweep.specs.Steps.{listOf, graphBy, Below}
 use Rattle.sweep.specs.Laws.{Laws}
 use Rattle.sweep.proofs.Steps.{forward, serving}
-use Rattle.sweep.proofs.Cut.{cut-below}
 use Rattle.sweep.proofs.Entries.{entries-stay, entries-length, entry-is, entry-next, entry-target, entry-stop, entry-invalid, entry-both, carries}
 use Rattle.sweep.proofs.Held.{held-of}
 
@@ -31,7 +30,6 @@ laws =
       forward = forward;
       inside = inside;
       lawful = lawful;
-      cut-below = cut-below;
       kinds = λ e p. record { invalid = entry-invalid e p; returns = entry-stop e p; next = entry-next e p; target = entry-target e p; both = entry-both e p };
       entry-is = entry-is;
       as-long = entries-length;

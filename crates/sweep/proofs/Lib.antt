@@ -1,4 +1,3 @@
-pub mod Cut
 pub mod Entries
 pub mod Held
 pub mod Laws

@@ -11,7 +11,6 @@ use Rattle.graph.specs.Graph.{In, Lawful}
 use Rattle.sweep.specs.declared.edges.Successors.{Successors}
 use Rattle.sweep.specs.declared.edges.Successors.the-variants.{Invalid, Stop, One}
 use Rattle.sweep.specs.Steps.{ordered, listOf, servesOf, graphBy, Below}
-use Rattle.sweep.specs.Cut.{cutSteps}
 use Rattle.sweep.specs.Entries.{
   «TARGETS»,
   «ENTRIES»,
@@ -45,8 +44,6 @@ pub record Laws : Type 0 where
   -- steps below n are among n words, and their graph is lawful
   pub inside : (n : ℕ) (s : Successors) → Below n s → (q : ℕ) → In q (listOf s) → q < n
   pub lawful : (n : ℕ) (steps : ℕ → Successors) → ((p : ℕ) → Below n (steps p)) → Lawful (graphBy n steps)
-  -- those that a number leaves are below n, too
-  pub cut-below : (number n : ℕ) (s : Successors) → Below n s → Below n (cutSteps number s)
   -- how an entry is read
   pub kinds : (e p : ℕ) → Kinds e p
   -- an element's entry

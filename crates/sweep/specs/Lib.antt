@@ -2,7 +2,6 @@
 -- pass over the lengths make of them.
 pub mod Steps
 pub mod Entries
-pub mod Cut
 pub mod SearchInvariants
 pub mod PassInvariants
 pub mod Laws

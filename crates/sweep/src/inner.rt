@@ -1,7 +1,6 @@
 // What crates of this repository that settle entries, or go by settled ones, call. These functions ask for
 // what a check of the sizes, the pass that settles or the search leaves, so that no entry of C or of a
 // program is among them.
-pub use crate::cutting::cut_entry;
 pub use crate::edges::both_of;
 pub use crate::edges::has_successor;
 pub use crate::edges::one_of;

@@ -1,28 +1,60 @@
-use mathlib.Core.Path.{sym, _∙_}
+use mathlib.Core.Path.{subst}
+use mathlib.Core.List.{List}
+use Prim.Native.Nat.{ℕ}
+use lib.Bits.{bitOr}
 use borrow.Author.Needs.{needs}
-use Rattle.assignment.proofs.Within.{in-none, in-first, in-only, in-second, in-two, in-third}
+use Rattle.touches.specs.declared.answer.Range.{Range}
+use Rattle.assignment.specs.Uses.{inRanges}
+use Rattle.assignment.specs.Blocks.{Holds}
+use Rattle.assignment.proofs.Within.{of-none, of-one, of-two, of-three}
+use Rattle.assignment.proofs.Sets.{among-none, among-one, among-more}
 use Rattle.assignment.proofs.ranges.in_ranges.Statement.{statement}
 use Rattle.assignment.proofs.ranges.in_ranges.Tie as tie
 
-returns-6 : tie.Need-returns-6
-returns-6 c =
-    let s = c .before .before .before .before .before .before .before .before .before .before .before .before in
-    let d = c .before .before in
-    c .in-range3 .ensures ∙ in-third (s .args .r) (s .args .x .items) (s .pre) (s .args .x .count) (c .before .before .before .before .before .before .before .before .before .before .if1 .left) (sym (c .before .before .before .before .before .before .before .before .in-range .ensures) ∙ c .before .before .before .before .before .before .before .if2 .left) (c .before .before .before .before .before .before .if3 .left) (sym (c .before .before .before .before .in-range2 .ensures) ∙ c .before .before .before .if4 .left) (d .if5 .left)
+abbrev Among : ℕ → ℕ → List Range → Type 0
+Among r x xs = Holds r (λ s. inRanges s xs) x
+
+abbrev same : List Range → List Range
+same xs = xs
+
+returns : tie.Need-returns
+returns c = let s = c .before .before in subst (λ (xs : List Range). Among (s .args .r) 0 xs) (of-none same (s .args .x .items) (s .pre) (s .args .x .count) (c .if1 .taken)) (among-none (s .args .r))
+
+returns-2 : tie.Need-returns-2
+returns-2 c =
+    let s = c .before .before .before .before .before in
+    subst (λ (xs : List Range). Among (s .args .r) (c .in-range .result) xs) (of-one same (s .args .x .items) (s .pre) (s .args .x .count) (c .before .before .if2 .taken)) (among-one (s .args .r) _ (c .in-range .ensures))
+
+returns-3 : tie.Need-returns-3
+returns-3 c =
+    let s = c .before .before .before .before .before .before .before .before in
+    subst (λ (xs : List Range). Among (s .args .r) (bitOr (c .before .before .in-range2 .result) (c .in-range3 .result)) xs) (of-two same (s .args .x .items) (s .pre) (s .args .x .count) (c .before .before .before .before .if3 .taken))
+    (among-more (s .args .r) _ _ (c .before .before .in-range2 .ensures) (among-one (s .args .r) _ (c .in-range3 .ensures)))
+
+returns-4 : tie.Need-returns-4
+returns-4 c =
+    let s = c .before .before .before .before .before .before .before .before .before .before in
+    subst (λ (xs : List Range). Among (s .args .r) (bitOr (c .before .before .before .before .in-range4 .result) (bitOr (c .before .before .in-range5 .result) (c .in-range6 .result))) xs)
+    (of-three same (s .args .x .items) (s .pre) (s .args .x .count) (c .before .before .before .before .before .before .before .before .if1 .left) (c .before .before .before .before .before .before .before .if2 .left) (c .before .before .before .before .before .before .if3 .left))
+    (among-more (s .args .r) _ _ (c .before .before .before .before .in-range4 .ensures) (among-more (s .args .r) _ _ (c .before .before .in-range5 .ensures) (among-one (s .args .r) _ (c .in-range6 .ensures))))
 
 pub in-ranges-spec : {M : Type 1} → statement M
 in-ranges-spec =
     tie.close
     (tie.spec
-    (λ c. let s = c .before .before in in-none (s .args .r) (s .args .x .items) (s .pre) (s .args .x .count) (c .if1 .taken))
+    returns
     (λ c. search needs)
     (λ c κs. search needs)
-    (λ c. let s = c .before .before .before .before .before in in-first (s .args .r) (s .args .x .items) (s .pre) (s .args .x .count) (c .before .before .before .if1 .left) (sym (c .before .in-range .ensures) ∙ c .if2 .taken))
-    (λ c. let s = c .before .before .before .before .before .before in in-only (s .args .r) (s .args .x .items) (s .pre) (s .args .x .count) (c .before .before .before .before .if1 .left) (sym (c .before .before .in-range .ensures) ∙ c .before .if2 .left) (c .if3 .taken))
+    returns-2
     (λ c. search needs)
     (λ c κs. search needs)
-    (λ c. let s = c .before .before .before .before .before .before .before .before .before in in-second (s .args .r) (s .args .x .items) (s .pre) (s .args .x .count) (c .before .before .before .before .before .before .before .if1 .left) (sym (c .before .before .before .before .before .in-range .ensures) ∙ c .before .before .before .before .if2 .left) (c .before .before .before .if3 .left) (sym (c .before .in-range2 .ensures) ∙ c .if4 .taken))
-    (λ c. let s = c .before .before .before .before .before .before .before .before .before .before in in-two (s .args .r) (s .args .x .items) (s .pre) (s .args .x .count) (c .before .before .before .before .before .before .before .before .if1 .left) (sym (c .before .before .before .before .before .before .in-range .ensures) ∙ c .before .before .before .before .before .if2 .left) (c .before .before .before .before .if3 .left) (sym (c .before .before .in-range2 .ensures) ∙ c .before .if4 .left) (c .if5 .taken))
     (λ c. search needs)
     (λ c κs. search needs)
-    returns-6)
+    returns-3
+    (λ c. search needs)
+    (λ c κs. search needs)
+    (λ c. search needs)
+    (λ c κs. search needs)
+    (λ c. search needs)
+    (λ c κs. search needs)
+    returns-4)

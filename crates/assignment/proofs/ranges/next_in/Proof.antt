@@ -3,7 +3,7 @@ use Prim.Native.Nat.{ℕ, _≤_, min}
 use native.Mathlib.Omega.{arith}
 use borrow.Author.Needs.{needs}
 use Rattle.assignment.specs.Uses.{endOf}
-use Rattle.assignment.specs.Codes.{nextIn}
+use Rattle.assignment.specs.Blocks.{nextIn}
 use Rattle.assignment.proofs.Within.{of-none, of-one, of-two, of-three}
 use Rattle.assignment.proofs.ranges.next_in.Statement.{statement}
 use Rattle.assignment.proofs.ranges.next_in.Tie as tie
