@@ -1,3 +1,4 @@
+-- Inner: no promise and no law between crates rests on what stands here.
 -- What the private functions ask and leave: the registers of a block as the bits of a number, and a search
 -- that goes for all of them at once. No exported contract cites it.
 -- Assumes nothing.

@@ -3,10 +3,12 @@ pub use print_cases::bytes;
 pub use print_cases::end;
 pub use print_cases::number;
 pub use print_cases::number_u32;
-pub use print_cases::numbers;
+use print_cases::numbers;
 pub use print_cases::text;
 use runs::flat::FlatRun;
 use runs::flat::FlatSuccessors;
+use service::exported::FlatCrossed;
+use service::exported::FlatNearest;
 
 pub fn steps(s: FlatSuccessors) {
     if s.kind == 0 {
@@ -45,5 +47,24 @@ pub fn slices(marks: &[u8], lengths: &[u32]) {
     bytes(marks);
     text(b" lengths");
     numbers(lengths);
-    end();
+}
+
+pub fn nearest(a: FlatNearest) {
+    if a.number != 0 {
+        text(b" refused");
+        return;
+    }
+    if a.found == 1 {
+        number(a.fewest);
+        return;
+    }
+    text(b" -");
+}
+
+pub fn crossed(a: FlatCrossed) {
+    if a.number != 0 {
+        text(b" refused");
+        return;
+    }
+    number(a.count);
 }

@@ -30,14 +30,40 @@ pub fn number_u32(x: u32) {
     number(x as u64);
 }
 
+// Of more than 128 elements only the first and the last five are printed.
+fn is_shown(i: usize, len: usize) -> bool {
+    if len <= 128 {
+        return true;
+    }
+    if i == 0 {
+        return true;
+    }
+    if len < i {
+        return false;
+    }
+    len - i <= 5
+}
+
+fn byte_of(i: usize, len: usize, x: u8) {
+    if is_shown(i, len) {
+        number_u8(x);
+    }
+}
+
 pub fn bytes(s: &[u8]) {
     for i in 0..s.len() {
-        number_u8(s[i]);
+        byte_of(i, s.len(), s[i]);
+    }
+}
+
+fn number_of(i: usize, len: usize, x: u32) {
+    if is_shown(i, len) {
+        number_u32(x);
     }
 }
 
 pub fn numbers(s: &[u32]) {
     for i in 0..s.len() {
-        number_u32(s[i]);
+        number_of(i, s.len(), s[i]);
     }
 }

@@ -1,13 +1,15 @@
-// Lists of eight records, lent to lift_proto_lua54: the answer, and what each place holds afterwards. The stored sums are of luad's own
-// records where the function is accepted and the place is below n, else of the record that was lent (compare/SAMPLE.md).
+// Lists of eight records, lent to lift_proto_lua54: the answer, and what each place holds afterwards.
+// The stored sums are of luad's own records where the function is accepted and the place is below n, else of
+// the record that was lent (compare/SAMPLE.md).
 ghost use mathlib.Core.Path.{_≡_};
 ghost use lib.ListN.{length, replicate};
 ghost use Rattle.records.specs.Refusals.{planOf};
 ghost use Rattle.records.specs.Walk.{recordsAfter};
-use crate::print;
 use crate::sums;
-use crate::tables;
 use common::Answer;
+use print_cases::end;
+use print_cases::number;
+use print_cases::text;
 use records::walk::lift_proto_lua54;
 use values::ir::Confidence;
 use values::ir::EffectTarget;
@@ -27,7 +29,8 @@ struct Few {
     records: [SemanticInstruction; 8],
 }
 
-// A list of its own, filled with one record, lent, and handed back: whoever calls this needs no walk of the MIR.
+// A list of its own, filled with one record, lent, and handed back: whoever calls this
+// needs no walk of the MIR.
 fn lift_few<'a>(
     words: &'a [u32],
     tags: &'a [u8],
@@ -36,8 +39,10 @@ fn lift_few<'a>(
     bytes: &'a [u8],
     blank: SemanticInstruction,
 ) -> Few
-    ensures { λ r. ⌜ (r .answer ≡ planOf (length (now (words .entry))) (now (tags .entry)) (now (payloads .entry)) (now (names .entry)) (length (now (bytes .entry))) 8 .answer)
-        × (r .records ≡ recordsAfter (now (words .entry)) (now (tags .entry)) (now (payloads .entry)) (now (names .entry)) (length (now (bytes .entry))) (replicate 8 blank)) ⌝ }
+    ensures { λ r. ⌜ (r .answer ≡ planOf (length (now (words .entry))) (now (tags .entry))
+        (now (payloads .entry)) (now (names .entry)) (length (now (bytes .entry))) 8 .answer)
+        × (r .records ≡ recordsAfter (now (words .entry)) (now (tags .entry)) (now (payloads .entry))
+        (now (names .entry)) (length (now (bytes .entry))) (replicate 8 blank)) ⌝ }
 {
     let mut records = [blank; 8];
     let answer = lift_proto_lua54(words, tags, payloads, names, bytes, &mut records);
@@ -84,52 +89,30 @@ fn show_places(records: [SemanticInstruction; 8]) {
     let mut i: usize = 0;
     while i < 8 {
         let record = records[i];
-        print::text(b"place");
-        print::number(i as u64);
-        print::number(record.pc as u64);
-        print::number(record.raw_word as u64);
-        print::number(sums::record(0, record));
-        print::end();
+        text(b"place");
+        number(i as u64);
+        number(record.pc as u64);
+        number(record.raw_word as u64);
+        number(sums::record(0, record));
+        end();
         i += 1;
     }
 }
 
-fn show<'a>(label: &[u8], words: &'a [u32], tags: &'a [u8]) {
-    let payloads = tables::payloads();
-    let names = tables::names();
-    let few = lift_few(words, tags, &payloads, &names, b"_ENVprint", unwritten());
+pub fn show<'a>(
+    label: &[u8],
+    words: &'a [u32],
+    tags: &'a [u8],
+    payloads: &'a [u64],
+    names: &'a [u64],
+    bytes: &'a [u8],
+) {
+    let few = lift_few(words, tags, payloads, names, bytes, unwritten());
     let answer = few.answer;
     let records = few.records;
-    print::text(label);
-    print::number(answer.number as u64);
-    print::number(answer.place as u64);
-    print::end();
+    text(label);
+    number(answer.number as u64);
+    number(answer.place as u64);
+    end();
     show_places(records);
-}
-
-// Fewer words than places: document 01's sheet, and the same with an unknown tag.
-pub fn fewer_words() {
-    let words = [2147483649u32, 2147483669, 109051951, 2147483192];
-    let mut tags = tables::tags();
-    show(b"4 words", &words, &tags);
-    tags[2] = 2;
-    show(b"unknown tag", &words, &tags);
-}
-
-// As many words as places, and one more: GETTABUP, LOADK, CALL, ADD, MMBIN, LOADKX, EXTRAARG, RETURN, and RETURN0.
-pub fn as_many_words() {
-    let words = [
-        67108875u32,
-        65667,
-        16908356,
-        16843042,
-        100728878,
-        4,
-        466,
-        65606,
-        71,
-    ];
-    let tags = tables::tags();
-    show(b"8 words", &words[..8], &tags);
-    show(b"9 words", &words, &tags);
 }

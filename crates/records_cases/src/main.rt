@@ -1,20 +1,34 @@
-// The limits of what lifting takes, the records of a fixed sample of words, and lists of records that are lent. What is printed is held to the
-// stored output.
-mod limits;
+// The limits of what lifting takes, the records of words by their sums, and lists of records that
+// are lent. The questions stand in the file stdin, a line each (crate vectors), and what is printed is
+// held to the stored output.
+mod lent;
 mod list;
-mod print;
-mod sample;
+mod questions;
 mod sums;
-mod tables;
+
+fn ask(line: &[u8]) {
+    match vectors::which(line, b"plan|sums|lift") {
+        0 => {
+            questions::plan(line);
+        }
+        1 => {
+            questions::sums(line);
+        }
+        2 => {
+            questions::lift(line);
+        }
+        _ => {}
+    }
+}
+
+fn ask_all(text: &[u8]) {
+    for i in 0..text.len() {
+        ask(vectors::line_at(text, i));
+    }
+}
 
 fn main() {
-    limits::words_and_records();
-    limits::constants();
-    limits::tags();
-    limits::strings();
-    limits::names();
-    sample::opcodes();
-    sample::corners();
-    list::fewer_words();
-    list::as_many_words();
+    let mut page = io::large_buffer();
+    let n = vectors::read(&mut page);
+    ask_all(pages::first(&page, n));
 }

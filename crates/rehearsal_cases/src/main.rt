@@ -1,24 +1,25 @@
-// Cases of request C-21: turns, waits, choices, the three ends, and what is turned away. What is printed is held to
-// the stored output.
+// Request C-21: turns, waits, choices, the three ends, and what is turned away. The questions stand in the
+// file stdin, a line each (crate vectors), and what is printed is held to the stored output.
 mod print;
-mod refusals;
-mod show;
-mod turns;
-mod words;
+mod question;
+
+fn ask(line: &[u8]) {
+    if vectors::which(line, b"rehearse") > 0 {
+        return;
+    }
+    print::text(vectors::part(line, 1));
+    question::rehearsal(line);
+    print::end();
+}
+
+fn ask_all(text: &[u8]) {
+    for i in 0..text.len() {
+        ask(vectors::line_at(text, i));
+    }
+}
 
 fn main() {
-    turns::of_two();
-    turns::of_equals();
-    turns::finishing();
-    turns::services();
-    turns::choices();
-    turns::missing_choices();
-    turns::limits();
-    turns::ends();
-    refusals::counts();
-    refusals::quanta();
-    refusals::choices();
-    refusals::lengths();
-    refusals::bad_words();
-    refusals::no_words();
+    let mut page = io::large_buffer();
+    let n = vectors::read(&mut page);
+    ask_all(pages::first(&page, n));
 }

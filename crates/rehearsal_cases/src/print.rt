@@ -1,6 +1,9 @@
 // What the cases print of an answer.
+use print_cases::bytes;
+pub use print_cases::end;
 use print_cases::number;
-use print_cases::text;
+use print_cases::numbers;
+pub use print_cases::text;
 use rehearsal::Rehearsal;
 
 // The longest wait of each of four, or the refusal's number and place.
@@ -24,4 +27,12 @@ pub fn answer(r: Rehearsal) {
             number(place as u64);
         }
     }
+}
+
+// Both slices: what no run touches is to stay as it was.
+pub fn slices(marks: &[u8], lengths: &[u32]) {
+    text(b" marks");
+    bytes(marks);
+    text(b" lengths");
+    numbers(lengths);
 }

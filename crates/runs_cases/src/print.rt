@@ -1,10 +1,11 @@
 // What the cases print.
-pub use print_cases::bytes;
+use print_cases::bytes;
 pub use print_cases::end;
-pub use print_cases::number;
-pub use print_cases::numbers;
+use print_cases::number;
+use print_cases::numbers;
 pub use print_cases::text;
 use runs::Run;
+use runs::RunRange;
 use sweep::edges::Successors;
 
 // The number, then L and first, or the place.
@@ -16,6 +17,29 @@ pub fn answer(run: Run) {
             number(first as u64);
         }
         Run::Refused { number: k, place } => {
+            text(b" refused");
+            number(k as u64);
+            number(place as u64);
+        }
+    }
+}
+
+// The number, then L and first of both tables, or the place.
+pub fn range(runs: RunRange) {
+    match runs {
+        RunRange::Accepted {
+            low_longest,
+            low_first,
+            high_longest,
+            high_first,
+        } => {
+            text(b" accepted");
+            number(low_longest as u64);
+            number(low_first as u64);
+            number(high_longest as u64);
+            number(high_first as u64);
+        }
+        RunRange::Refused { number: k, place } => {
             text(b" refused");
             number(k as u64);
             number(place as u64);
@@ -39,4 +63,11 @@ pub fn steps(s: Successors) {
             number(b as u64);
         }
     }
+}
+
+pub fn slices(marks: &[u8], lengths: &[u32]) {
+    text(b" marks");
+    bytes(marks);
+    text(b" lengths");
+    numbers(lengths);
 }

@@ -2,8 +2,8 @@
 use common::Answer;
 pub use print_cases::bytes;
 pub use print_cases::end;
-pub use print_cases::number;
-pub use print_cases::numbers;
+use print_cases::number;
+use print_cases::numbers;
 pub use print_cases::text;
 use service::Crossed;
 use service::Nearest;
@@ -53,5 +53,4 @@ pub fn slices(marks: &[u8], lengths: &[u32]) {
     bytes(marks);
     text(b" lengths");
     numbers(lengths);
-    end();
 }

@@ -2,7 +2,7 @@
 use print_cases::end;
 use print_cases::number;
 use print_cases::number_u32;
-use print_cases::text;
+pub use print_cases::text;
 use touches::answer::Indices;
 use touches::answer::Range;
 use touches::answer::Ranges;
@@ -49,29 +49,6 @@ fn indices(label: &[u8], r: Indices) {
     if r.count > 2 {
         number_u32(items[2]);
     }
-}
-
-pub fn case(label: &[u8]) {
-    text(label);
-}
-
-pub fn opcode(opcode: u8, k: u32) {
-    text(b"opcode");
-    number(opcode as u64);
-    text(b" k");
-    number(k as u64);
-}
-
-pub fn case_53(label: &[u8]) {
-    text(b"5.3: ");
-    text(label);
-}
-
-pub fn opcode_53(opcode: u8, bit: u32) {
-    text(b"5.3: opcode");
-    number(opcode as u64);
-    text(b" bit");
-    number(bit as u64);
 }
 
 pub fn touches(t: Touches) {

@@ -1,11 +1,14 @@
-// Cases of the words of a longest run. What is printed is held to the stored output.
-use fields::version::Version;
+// The words of a longest run. The questions stand in the file stdin, a line each (crate vectors), and what
+// is printed is held to the stored output.
 use print_cases::end;
 use print_cases::number;
 use print_cases::numbers;
 use print_cases::text;
+use vectors::bytes_of;
+use vectors::words_of;
 use witness::PathRun;
 use witness::longest_path;
+use witness::longest_path_53;
 
 fn answer(r: PathRun) {
     match r {
@@ -27,74 +30,74 @@ fn answer(r: PathRun) {
     }
 }
 
-fn show(what: &[u8], r: PathRun, path: &[u32]) {
-    text(what);
-    text(b":");
-    answer(r);
+// Of words of 5.4, or of 5.3.
+fn asked(
+    older: bool,
+    words: &[u32],
+    weights: &[u8],
+    marks: &mut [u8],
+    lengths: &mut [u32],
+    path: &mut [u32],
+) -> PathRun {
+    if older {
+        return longest_path_53(words, weights, marks, lengths, path);
+    }
+    longest_path(words, weights, marks, lengths, path)
+}
+
+fn path_lent(
+    older: bool,
+    words: &mut [u32],
+    weights: &mut [u8],
+    marks: &mut [u8],
+    lengths: &mut [u32],
+    path: &mut [u32],
+) {
+    answer(asked(older, words, weights, marks, lengths, path));
     text(b" path");
     numbers(path);
     end();
 }
 
-// What stood in the path was 9 and is to stay so past the count.
-fn case(what: &[u8], version: Version, words: &[u32], weights: &[u8]) {
+// words | weights | marks | lengths | path
+fn show(older: bool, line: &[u8]) {
+    let mut words = [0u32; 8];
+    let mut weights = [0u8; 128];
     let mut marks = [0u8; 8];
     let mut lengths = [0u32; 8];
-    let mut path = [9u32; 8];
-    let r = longest_path(version, words, weights, &mut marks, &mut lengths, &mut path);
-    show(what, r, &path);
-}
-
-// A path of three places.
-fn short(what: &[u8], words: &[u32], weights: &[u8]) {
-    let mut marks = [0u8; 8];
-    let mut lengths = [0u32; 8];
-    let mut path = [9u32; 3];
-    let r = longest_path(
-        Version::Lua54,
-        words,
-        weights,
-        &mut marks,
-        &mut lengths,
-        &mut path,
+    let mut path = [0u32; 8];
+    text(vectors::part(line, 1));
+    path_lent(
+        older,
+        words_of(&mut words, line, 2),
+        bytes_of(&mut weights, line, 3),
+        bytes_of(&mut marks, line, 4),
+        words_of(&mut lengths, line, 5),
+        words_of(&mut path, line, 6),
     );
-    show(what, r, &path);
 }
 
-// A test whose two ways have a word each: EQ, JMP to the RETURN0, MOVE, RETURN0.
-fn ways() {
-    let words = [57u32, 2147483704, 0, 71];
-    let ones = [1u8; 128];
-    let mut heavy = [1u8; 128];
-    heavy[0] = 2;
-    let mut zero = [1u8; 128];
-    zero[7] = 0;
-    case(
-        b"of two equal ways the lower",
-        Version::Lua54,
-        &words,
-        &ones,
-    );
-    case(b"of two ways the heavier", Version::Lua54, &words, &heavy);
-    short(b"6, a path too short", &words, &ones);
-    case(b"18, a weight of 0", Version::Lua54, &words, &zero);
-    short(b"6 before 18", &words, &zero);
+// By the version that the name says.
+fn ask(line: &[u8]) {
+    match vectors::which(line, b"path|path_53") {
+        0 => {
+            show(false, line);
+        }
+        1 => {
+            show(true, line);
+        }
+        _ => {}
+    }
 }
 
-// Document 01's sheet: LOADI, ADDI, MMBINI, a JMP back to the ADDI, which serves.
-fn others() {
-    let sheet = [2147483649u32, 2147483669, 109051951, 2147483192];
-    let ones = [1u8; 128];
-    case(b"a loop ends at its service", Version::Lua54, &sheet, &ones);
-    let none: [u32; 0] = [];
-    case(b"7, no words", Version::Lua54, &none, &ones);
-    let unknown = [83u32];
-    case(b"8, a bad word", Version::Lua54, &unknown, &ones);
-    let older = [31u32, 2147483678, 0, 8388646];
-    case(b"5.3, EQ, JMP, MOVE, RETURN", Version::Lua53, &older, &ones);
+fn ask_all(text: &[u8]) {
+    for i in 0..text.len() {
+        ask(vectors::line_at(text, i));
+    }
 }
 
 fn main() {
-    ways();
-    others();
+    let mut page = io::large_buffer();
+    let n = vectors::read(&mut page);
+    ask_all(pages::first(&page, n));
 }
