@@ -1,6 +1,6 @@
--- The limits of documents 01 and 02 by their own numbers, beside the names that contracts cite: one that is changed in
--- its definition and in the code alike is refused here. Those of requests C-11, C-20 and C-21 stand by number in the
--- statements of chunk, budget and rehearsal, and the largest word in sheet's.
+-- The limits of documents 01 and 02 by their own numbers, beside the names that contracts cite:
+-- one that is changed in its definition and in the code alike is refused here. Those of requests C-11, C-20
+-- and C-21 stand by number in the statements of chunk, budget and rehearsal, and the largest word in sheet's.
 -- Assumes nothing.
 use Prim.Native.Nat.{ℕ}
 use mathlib.Core.Path.{_≡_}

@@ -1,4 +1,4 @@
--- Document 01, "Refused inputs": the limits.
+-- Document 01, "Refused inputs", RULES 8: the limits.
 -- Assumes nothing.
 use Prim.Native.Nat.{ℕ}
 

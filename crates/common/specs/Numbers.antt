@@ -1,4 +1,4 @@
--- Document 01, "Refused inputs", and document 02: the number of each condition, by name,
+-- Document 01, "Refused inputs", RULES 8, and document 02: the number of each condition, by name,
 -- beside the document's words.
 -- Assumes nothing.
 use Prim.Native.Nat.{ℕ}

@@ -1,4 +1,4 @@
-// Document 01, "Refused inputs": the limits. specs/Limits.antt has the same for definitions.
+// Document 01, "Refused inputs", RULES 8: the limits. specs/Limits.antt has the same for definitions.
 
 // Number 1: so many words pass.
 pub const MOST_WORDS: usize = 32768;

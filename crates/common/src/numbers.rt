@@ -1,5 +1,5 @@
-// Document 01, "Refused inputs", and document 02: each condition's number, by name. specs/Numbers.antt has
-// the same for definitions.
+// Document 01, "Refused inputs", RULES 8, and document 02: each condition's number, by name.
+// specs/Numbers.antt has the same for definitions.
 
 pub const ACCEPTED: u8 = 0;
 

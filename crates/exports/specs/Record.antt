@@ -222,7 +222,7 @@ pub record RecordWise (words tags payloads names : List ℕ) (bytes : ℕ) (numb
       eqb (answerOf (length words) tags payloads names bytes (roomIn numbers) .number) «ACCEPTED» ≡ false
       → numbersAfter words tags payloads names bytes numbers ≡ numbers
 
--- document 01's number and place
+-- document 01's number and place (RULES 8)
 abbrev pub flatAnswer : Answer → FlatAnswer
 flatAnswer answer = record { number = answer .number; place = answer .place }
 

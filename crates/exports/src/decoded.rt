@@ -1,4 +1,5 @@
-// The fields of a word (document 01, "Word fields"), and the mode that says which of them its opcode has.
+// The fields of a word (document 01, "Word fields", RULES 1), and the mode that says
+// which of them its opcode has.
 ghost use mathlib.Core.Path.{_≡_};
 ghost use Rattle.fields.specs.Word.{fieldsOf, opcodeOf};
 ghost use Rattle.fields.specs.Table.{modeNumber, modeOf};

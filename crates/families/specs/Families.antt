@@ -1,4 +1,4 @@
--- Document 01, "Records": one definition for each arm of lifter.rs, in its order, or one for
+-- Document 01, "Records", RULES 10: one definition for each arm of lifter.rs, in its order, or one for
 -- several arms that push the same.
 -- A refinement of the original: what stands here is the Rust's behaviour, and not Lua's. `raw` is the decoded
 -- word, as there. What an arm works out from pc comes as an argument: where a skip or a jump leads, and

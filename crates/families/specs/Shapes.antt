@@ -1,5 +1,5 @@
--- Document 01, "Records": "operands (at most 4), reads (3), writes (2)", and "Operand, read and write places
--- past the count hold register 0". The lists stand in the order in which lifter.rs pushes them.
+-- Document 01, "Records", RULES 10: "operands (at most 4), reads (3), writes (2)", and "Operand, read and
+-- write places past the count hold register 0". The lists stand in the order in which lifter.rs pushes them.
 -- Assumes nothing.
 use Prim.Native.Nat.{ℕ, zero, suc}
 use mathlib.Core.List.{List, [], _∷_}

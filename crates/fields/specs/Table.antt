@@ -59,7 +59,7 @@ modeOf =
     ∷ [])
     iABC
 
--- Column 1, the step class: document 01's table of steps, "Next word".
+-- Column 1, the step class: document 01's table of steps (RULES 2), "Next word".
 pub data StepClass : Type 0 where
   -- p+1
   following : StepClass
@@ -94,7 +94,7 @@ classNumber preparing = 7
 classNumber entering = 8
 classNumber invalid = 9
 
--- Column 2, the companion wanted: document 01's table of steps, "Bad unless".
+-- Column 2, the companion wanted: document 01's table of steps (RULES 2), "Bad unless".
 pub data Companion : Type 0 where
   -- nothing is asked
   alone : Companion
@@ -123,7 +123,7 @@ companionNumber extraAfterIfK = 5
 companionNumber callAtTarget = 6
 companionNumber loopAfter = 7
 
--- Document 01's table of steps, row for row: opcodes, "Next word", "Bad unless".
+-- Document 01's table of steps (RULES 2), row for row: opcodes, "Next word", "Bad unless".
 abbrev pub stepTable : List (Row (StepClass × Companion))
 stepTable =
     row op.«OP_TAILCALL» op.«OP_RETURN1» (returning, alone)

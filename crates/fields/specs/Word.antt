@@ -1,4 +1,4 @@
--- Document 01, "Word fields": the fields of a word.
+-- Document 01, "Word fields", RULES 1: the fields of a word.
 -- Assumes nothing.
 use Prim.Native.Nat.{ℕ, _+_, _-_, _/_, _%_, _^_}
 use lib.IntN.{ℤ, pos, _-ℤ_}

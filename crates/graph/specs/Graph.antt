@@ -1,4 +1,4 @@
--- Document 01, "Longest run", over any graph: which words follow which, and which edges serve.
+-- Document 01, "Longest run", RULES 3, over any graph: which words follow which, and which edges serve.
 -- Nothing here knows what a word is.
 -- Assumes nothing.
 use mathlib.Core.Path.{_≡_}

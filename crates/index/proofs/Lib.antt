@@ -10,3 +10,4 @@ pub mod Notes
 pub mod Counting
 pub mod Levels
 pub mod Laws
+pub mod Examples

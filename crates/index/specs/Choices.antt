@@ -1,5 +1,6 @@
--- A function of a chunk, chosen by its number, as request C-11 has it, or by its place: where its first byte stands. What is read, counted and filled
--- of it is the same; by its place none but its own bytes are read, and those of the functions within it.
+-- A function of a chunk, chosen by its number, as request C-11 has it, or by its place: where its first byte
+-- stands. What is read, counted and filled of it is the same; by its place none but its own bytes are read,
+-- and those of the functions within it.
 -- Assumes nothing.
 use mathlib.Core.List.{List}
 use Prim.Native.Nat.{ℕ}
@@ -12,7 +13,8 @@ use Rattle.chunk.specs.Chunk.{pick, chosen, Rooms, roomFor}
 use Rattle.index.specs.declared.choosing.Choice.{Choice}
 use Rattle.index.specs.declared.choosing.Choice.the-variants.{Number, Place}
 
--- the function whose first byte stands there: "The chunk's length is checked first", and the function is read to its end, as if it were the main one
+-- the function whose first byte stands there: "The chunk's length is checked first", and the function is read
+-- to its end, as if it were the main one
 unfoldable pub functionAt : ℕ → List ℕ → Result Function
 functionAt at bytes = only (leb (length bytes) mostBytes) (bind (loadFunction levelsBelow bytes at) (pick 0))
 

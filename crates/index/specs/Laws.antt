@@ -1,4 +1,5 @@
--- What callers go by beside the contracts: all functions of a chunk, by number and by place. proofs/Laws.antt proves it.
+-- What callers go by beside the contracts: all functions of a chunk, by number and by place.
+-- proofs/Laws.antt proves it.
 -- Assumes nothing.
 use mathlib.Core.Path.{_≡_}
 use mathlib.Core.List.{List, _∷_}
@@ -19,13 +20,16 @@ pub record AtItsPlace (k : ℕ) (bytes : List ℕ) (f : Function) : Type 0 where
   -- the function that is read from there is f, to its own end
   pub same : functionAt (f .firstAt) bytes ≡ done f (f .endAt)
   -- so that all that is told and filled of it is as for its number, whatever the slices are
-  pub counts : (rooms : Rooms) → countsOf (filledBy (Place (f .firstAt)) bytes rooms) ≡ countsOf (filledBy (Number k) bytes rooms)
+  pub counts : (rooms : Rooms)
+      → countsOf (filledBy (Place (f .firstAt)) bytes rooms) ≡ countsOf (filledBy (Number k) bytes rooms)
   pub slices :
       (rooms : Rooms) (part : Function → List ℕ) (out : List ℕ)
-      → after part (filledBy (Place (f .firstAt)) bytes rooms) out ≡ after part (filledBy (Number k) bytes rooms) out
+      → after part (filledBy (Place (f .firstAt)) bytes rooms) out
+      ≡ after part (filledBy (Number k) bytes rooms) out
   pub head : headOf (Place (f .firstAt)) bytes ≡ headOf (Number k) bytes
 
--- j is the function that k stands in: its bytes go on past k's first byte, and so do those of no other between them
+-- j is the function that k stands in: its bytes go on past k's first byte, and so do
+-- those of no other between them
 pub record Inner (fs : List Function) (j k : ℕ) : Type 0 where
   pub before : j < k
   pub encloses : (d : Function) → getD fs k d .firstAt < getD fs j d .endAt
@@ -48,8 +52,11 @@ pub record Listing (bytes : List ℕ) (fs : List Function) (at : ℕ) : Type 0 w
   pub parent : (k : ℕ) → 0 < k → k < length fs → Inner fs (getD (parentsOf fs) k 0) k
 
 pub record Laws : Type 0 where
-  pub listing : (bytes : List ℕ) (fs : List Function) (at : ℕ) → functionsOf bytes ≡ done fs at → Listing bytes fs at
+  pub listing : (bytes : List ℕ) (fs : List Function) (at : ℕ)
+      → functionsOf bytes ≡ done fs at → Listing bytes fs at
   -- of one that is not, every number is refused as the list is
-  pub refusing : (bytes : List ℕ) (e : Refusal) (k : ℕ) → functionsOf bytes ≡ refused e → chosen k bytes ≡ refused e
+  pub refusing : (bytes : List ℕ) (e : Refusal) (k : ℕ)
+      → functionsOf bytes ≡ refused e → chosen k bytes ≡ refused e
   -- by its number a function is filled as crate `chunk` fills it
-  pub by-number : (k : ℕ) (bytes : List ℕ) (rooms : Rooms) → filledBy (Number k) bytes rooms ≡ filled k bytes rooms
+  pub by-number : (k : ℕ) (bytes : List ℕ) (rooms : Rooms)
+      → filledBy (Number k) bytes rooms ≡ filled k bytes rooms

@@ -7,3 +7,4 @@ pub mod Listing
 pub mod Noting
 pub mod Refusing
 pub mod Laws
+pub mod Examples

@@ -1,5 +1,5 @@
--- The lines of a function's words: its linedefined and its line information, read at the positions that the first pass kept of it.
--- `specs/Ldebug.antt` says what they come to.
+-- The lines of a function's words: its linedefined and its line information, read at the positions that the
+-- first pass kept of it. `specs/Ldebug.antt` says what they come to.
 -- Assumes nothing.
 use mathlib.Core.Path.{_≡_}
 use mathlib.Core.List.{List, [], _∷_}
@@ -15,7 +15,17 @@ use Rattle.chunk.specs.Reading.{Result, done, refused, Reader, bind, andThen}
 use Rattle.chunk.specs.Lundump.{Vector, Function, loadBlock, loadInt, loadStringN}
 use Rattle.index.specs.declared.choosing.Choice.{Choice}
 use Rattle.index.specs.Choices.{chosenBy}
-use Rattle.index.specs.Ldebug.{AbsLine, LineInfo, noAbs, mostWithoutAbs, funcline, Rises, Estimated, linesFrom, linesOf}
+use Rattle.index.specs.Ldebug.{
+  AbsLine,
+  LineInfo,
+  noAbs,
+  mostWithoutAbs,
+  funcline,
+  Rises,
+  Estimated,
+  linesFrom,
+  linesOf,
+}
 
 -- what was read, 0 where nothing was: an accepted chunk is read to its end
 abbrev pub orNone : Result ℕ → ℕ
@@ -28,11 +38,13 @@ definedAt bytes at = orNone (andThen loadStringN loadInt bytes at)
 
 -- loadDebug: lineinfo, a byte for each instruction
 unfoldable pub readInfo : Reader Vector
-readInfo bytes at = bind (loadInt bytes at) (λ n at₁. bind (loadBlock n bytes at₁) (λ _ at₂. done (record { start = at₁; count = n }) at₂))
+readInfo bytes at = bind (loadInt bytes at)
+    (λ n at₁. bind (loadBlock n bytes at₁) (λ _ at₂. done (record { start = at₁; count = n }) at₂))
 
 -- loadDebug: `f->abslineinfo[i].pc = loadInt(S); f->abslineinfo[i].line = loadInt(S)`
 unfoldable pub readAbs : Reader AbsLine
-readAbs bytes at = bind (loadInt bytes at) (λ pc at₁. bind (loadInt bytes at₁) (λ line at₂. done (record { pc = pc; line = line }) at₂))
+readAbs bytes at = bind (loadInt bytes at)
+    (λ pc at₁. bind (loadInt bytes at₁) (λ line at₂. done (record { pc = pc; line = line }) at₂))
 
 abbrev pub andMore : Result AbsLine → (ℕ → List AbsLine) → List AbsLine
 andMore (done a at) more = a ∷ more at
@@ -49,8 +61,13 @@ absBehind bytes (refused e) = []
 
 abbrev pub infoBehind : ℕ → List ℕ → Result Vector → LineInfo
 infoBehind linedefined bytes (done v at) =
-    record { linedefined = linedefined; lineinfo = take (v .count) (drop (v .start) bytes); abslineinfo = absBehind bytes (loadInt bytes at) }
-infoBehind linedefined bytes (refused e) = record { linedefined = linedefined; lineinfo = []; abslineinfo = [] }
+    record {
+      linedefined = linedefined;
+      lineinfo = take (v .count) (drop (v .start) bytes);
+      abslineinfo = absBehind bytes (loadInt bytes at);
+    }
+infoBehind linedefined bytes (refused e) =
+    record { linedefined = linedefined; lineinfo = []; abslineinfo = [] }
 
 -- what a function knows of its lines
 unfoldable pub lineInfoAt : List ℕ → ℕ → ℕ → LineInfo
@@ -73,7 +90,11 @@ nextAbs (suc n) bytes at = nextBy (readAbs bytes at)
 
 -- where the line information of the function at these positions stands
 pub record Placed (bytes : List ℕ) (linedefined at : ℕ) (p : LinePlaces) : Type 0 where
-  pub info : infoBehind linedefined bytes (readInfo bytes at) ≡ record { linedefined = linedefined; lineinfo = take (p .count) (drop (p .start) bytes); abslineinfo = absFrom (p .left) bytes (p .abs) }
+  pub info : infoBehind linedefined bytes (readInfo bytes at) ≡ record {
+    linedefined = linedefined;
+    lineinfo = take (p .count) (drop (p .start) bytes);
+    abslineinfo = absFrom (p .left) bytes (p .abs);
+  }
   pub inside : p .start + p .count ≤ length bytes
 
 -- one line: `part` is the lineinfo
@@ -97,11 +118,16 @@ pub record InfoRead (bytes : List ℕ) (at : ℕ) : Type 0 where
 
 pub record LineLaws : Type 0 where
   -- of a function that was chosen
-  pub read : (c : Choice) (bytes : List ℕ) (f : Function) (at : ℕ) → chosenBy c bytes ≡ done f at → InfoRead bytes (f .linesAt)
-  -- the line of a word that has a byte is luaG_getfuncline's, where the absolute lines rise and the C's lua_assert holds
+  pub read : (c : Choice) (bytes : List ℕ) (f : Function) (at : ℕ)
+      → chosenBy c bytes ≡ done f at → InfoRead bytes (f .linesAt)
+  -- the line of a word that has a byte is luaG_getfuncline's, where the absolute lines rise
+  -- and the C's lua_assert holds
   pub getfuncline :
-      (bytes : List ℕ) (f : Function) (pc : ℕ) → pc < length (f .words) → pc < length (lineInfoAt bytes (f .firstAt) (f .linesAt) .lineinfo)
+      (bytes : List ℕ) (f : Function) (pc : ℕ)
+      → pc < length (f .words) → pc < length (lineInfoAt bytes (f .firstAt) (f .linesAt) .lineinfo)
       → Rises 0 (lineInfoAt bytes (f .firstAt) (f .linesAt) .abslineinfo)
-      → ((i : ℕ) → suc i ≡ pc / mostWithoutAbs → 0 < length (lineInfoAt bytes (f .firstAt) (f .linesAt) .abslineinfo)
-      → getD (lineInfoAt bytes (f .firstAt) (f .linesAt) .abslineinfo) 0 noAbs .pc ≤ pc → Estimated (lineInfoAt bytes (f .firstAt) (f .linesAt) .abslineinfo) pc i)
+      → ((i : ℕ) → suc i ≡ pc / mostWithoutAbs
+      → 0 < length (lineInfoAt bytes (f .firstAt) (f .linesAt) .abslineinfo)
+      → getD (lineInfoAt bytes (f .firstAt) (f .linesAt) .abslineinfo) 0 noAbs .pc ≤ pc
+      → Estimated (lineInfoAt bytes (f .firstAt) (f .linesAt) .abslineinfo) pc i)
       → getD (linesIn bytes f) pc 0 ≡ funcline (lineInfoAt bytes (f .firstAt) (f .linesAt)) pc

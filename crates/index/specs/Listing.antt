@@ -22,8 +22,9 @@ functionsOf bytes = only (leb (length bytes) mostBytes) (undump bytes 0)
 abbrev pub placesOf : List Function → List ℕ
 placesOf fs = valuesOf (λ f. f .firstAt) fs
 
--- "Functions hold functions": one stands in the last one before it whose bytes go on past its first byte. `seen` has the position past the last byte of
--- each function before it and its number, the last one first; where none goes on so far, it is `outer`
+-- "Functions hold functions": one stands in the last one before it whose bytes go on past its first byte.
+-- `seen` has the position past the last byte of each function before it and its number, the last one first;
+-- where none goes on so far, it is `outer`
 unfoldable pub standsIn : ℕ → List (ℕ × ℕ) → ℕ → ℕ
 standsIn outer [] at = outer
 standsIn outer (s ∷ seen) at = cond (ltb at (s .0)) (s .1) (standsIn outer seen at)
@@ -31,7 +32,8 @@ standsIn outer (s ∷ seen) at = cond (ltb at (s .0)) (s .1) (standsIn outer see
 -- the number of the function that each stands in, where the first has number i
 unfoldable pub parentsFrom : ℕ → List (ℕ × ℕ) → ℕ → List Function → List ℕ
 parentsFrom outer seen i [] = []
-parentsFrom outer seen i (f ∷ fs) = standsIn outer seen (f .firstAt) ∷ parentsFrom outer ((f .endAt, i) ∷ seen) (i + 1) fs
+parentsFrom outer seen i (f ∷ fs) =
+    standsIn outer seen (f .firstAt) ∷ parentsFrom outer ((f .endAt, i) ∷ seen) (i + 1) fs
 
 -- the main function stands in none, which 2^64 - 1 says
 abbrev pub noFunction : ℕ
@@ -47,12 +49,14 @@ listedOf (refused e) = record { number = numberOf e; place = placeOf e; function
 
 -- "6 covers each slice to be filled", and comes last
 abbrev pub roomForAll : ℕ → ℕ → List Function → ℕ → Result (List Function)
-roomForAll places parents fs at = cond (leb (length fs) places && leb (length fs) parents) (done fs at) (refused Short)
+roomForAll places parents fs at =
+    cond (leb (length fs) places && leb (length fs) parents) (done fs at) (refused Short)
 
 unfoldable pub listedIn : List ℕ → ℕ → ℕ → Result (List Function)
 listedIn bytes places parents = bind (functionsOf bytes) (roomForAll places parents)
 
--- a slice afterwards: a number for each function and what stood past them; of a refusal "nothing lent is altered"
+-- a slice afterwards: a number for each function and what stood past them; of a refusal
+-- "nothing lent is altered"
 unfoldable pub afterAll : (List Function → List ℕ) → Result (List Function) → List ℕ → List ℕ
 afterAll part (done fs at) out = part fs ++ drop (length (part fs)) out
 afterAll part (refused e) out = out

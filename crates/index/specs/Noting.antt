@@ -1,4 +1,6 @@
--- The second reading of all functions, for the contracts within this crate: what is stored of those that are read from a position on.
+-- Inner: no promise and no law between crates rests on what stands here.
+-- The second reading of all functions, for the contracts within this crate: what is stored of those that
+-- are read from a position on.
 -- Assumes nothing.
 use mathlib.Core.Path.{_≡_}
 use mathlib.Core.Bool.{cond, _&&_}
@@ -38,18 +40,21 @@ pub record Noted (i at parent : ℕ) (pl pa pl′ pa′ : List ℕ) : Type 0 whe
   pub parents-same : length pa′ ≡ length pa
   pub written : i < length pl → i < length pa → (pl′ ≡ set pl i at) × (pa′ ≡ set pa i parent)
 
--- those that were read, where the first has number i, one that stands in none of them stands in `outer`, and there is room for all
+-- those that were read, where the first has number i, one that stands in none of them stands in `outer`,
+-- and there is room for all
 abbrev pub Wrote : Result (List Function) → ℕ → ℕ → List ℕ → List ℕ → List ℕ → List ℕ → Type 0
 Wrote (done fs at) outer i pl pa pl′ pa′ =
     i + length fs ≤ length pl → i + length fs ≤ length pa
     → (pl′ ≡ put pl i (placesOf fs)) × (pa′ ≡ put pa i (parentsFrom outer [] i fs))
 Wrote (refused e) outer i pl pa pl′ pa′ = Unit
 
-abbrev pub WroteBy : Reader (List Function) → List ℕ → Cursor → ℕ → ℕ → List ℕ → List ℕ → List ℕ → List ℕ → Type 0
+abbrev pub WroteBy : Reader (List Function) → List ℕ → Cursor → ℕ → ℕ → List ℕ → List ℕ
+    → List ℕ → List ℕ → Type 0
 WroteBy r bytes (At at v) outer i pl pa pl′ pa′ = Wrote (r bytes at) outer i pl pa pl′ pa′
 WroteBy r bytes (Refused e) outer i pl pa pl′ pa′ = Unit
 
-pub record WroteAt (r : Reader (List Function)) (bytes : List ℕ) (c : Cursor) (outer i : ℕ) (pl pa pl′ pa′ : List ℕ) : Type 0 where
+pub record WroteAt (r : Reader (List Function)) (bytes : List ℕ) (c : Cursor) (outer i : ℕ)
+    (pl pa pl′ pa′ : List ℕ) : Type 0 where
   pub places-same : length pl′ ≡ length pl
   pub parents-same : length pa′ ≡ length pa
   pub written : WroteBy r bytes c outer i pl pa pl′ pa′

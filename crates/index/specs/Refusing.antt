@@ -1,5 +1,6 @@
--- Why a file is refused, in the order of its header's bytes: lundump.c's checkHeader says "not a binary chunk", "version mismatch", "format mismatch",
--- "corrupted chunk", "Instruction size mismatch" and so on, of which request C-11 keeps one number, 14.
+-- Why a file is refused, in the order of its header's bytes: lundump.c's checkHeader says "not a binary
+-- chunk", "version mismatch", "format mismatch", "corrupted chunk", "Instruction size mismatch" and so on,
+-- of which request C-11 keeps one number, 14.
 -- Assumes nothing.
 use mathlib.Core.Bool.{Bool, not, _&&_}
 use mathlib.Core.List.{List}
@@ -13,7 +14,13 @@ use Rattle.chunk.specs.declared.reading.Cursor.the-variants.{At, Refused}
 use Rattle.chunk.specs.Lundump.{checkHeader}
 use Rattle.chunk.specs.Cursors.{cursorOf, none}
 use Rattle.index.specs.declared.refusing.Why.{Why}
-use Rattle.index.specs.declared.refusing.Why.the-variants.{NotLua, Lua53, OtherVersion, OtherNumbers, Damaged}
+use Rattle.index.specs.declared.refusing.Why.the-variants.{
+  NotLua,
+  Lua53,
+  OtherVersion,
+  OtherNumbers,
+  Damaged,
+}
 
 -- LUA_SIGNATURE "\x1bLua"
 unfoldable pub signed : List ℕ → Bool

@@ -19,7 +19,8 @@ pub enum Choice {
     Place(usize),
 }
 
-// The function whose first byte stands there: none but its own bytes are read, and those of the functions within it.
+// The function whose first byte stands there: none but its own bytes are read, and those
+// of the functions within it.
 fn locate_at(chunk: &[u8], at: usize) -> Located
     ensures { λ r. ⌜ r ≡ locatedOf (functionAt at (now (chunk .entry))) ⌝ }
 {

@@ -1,4 +1,5 @@
-// The C interface: a function by its number, as in chunk's, or by the place that `lawendeb_chunk_index` gives.
+// The C interface: a function by its number, as in chunk's, or by the place that
+// `lawendeb_chunk_index` gives.
 ghost use mathlib.Core.Path.{_≡_};
 ghost use lib.ListN.{length};
 ghost use Rattle.chunk.specs.Chunk.{countsOf, after, wordsOf, wordsRoom};
@@ -19,8 +20,10 @@ use chunk::Counts;
 
 #[no_mangle]
 pub extern "C" fn lawendeb_chunk_lines(chunk: &[u8], k: usize, lines: &mut [u32]) -> Counts
-    ensures { λ r. ⌜ r ≡ countsOf (filledBy (Number k) (now (chunk .entry)) (wordsRoom (length (now (lines .entry))))) ⌝ }
-    ensures { λ _. ⌜ now (lines .exit) ≡ after (linesIn (now (chunk .entry))) (filledBy (Number k) (now (chunk .entry)) (wordsRoom (length (now (lines .entry))))) (now (lines .entry)) ⌝ }
+    ensures { λ r. ⌜
+        r ≡ countsOf (filledBy (Number k) (now (chunk .entry)) (wordsRoom (length (now (lines .entry))))) ⌝ }
+    ensures { λ _. ⌜ now (lines .exit) ≡ after (linesIn (now (chunk .entry))) (filledBy (Number k)
+        (now (chunk .entry)) (wordsRoom (length (now (lines .entry))))) (now (lines .entry)) ⌝ }
 {
     lines_by(chunk, Choice::Number(k), lines)
 }
@@ -45,25 +48,33 @@ pub extern "C" fn lawendeb_chunk_index(
     places: &mut [u64],
     parents: &mut [u64],
 ) -> Listed
-    ensures { λ r. ⌜ r ≡ listedOf (listedIn (now (chunk .entry)) (length (now (places .entry))) (length (now (parents .entry)))) ⌝ }
-    ensures { λ _. ⌜ now (places .exit) ≡ afterAll placesOf (listedIn (now (chunk .entry)) (length (now (places .entry))) (length (now (parents .entry)))) (now (places .entry)) ⌝ }
-    ensures { λ _. ⌜ now (parents .exit) ≡ afterAll parentsOf (listedIn (now (chunk .entry)) (length (now (places .entry))) (length (now (parents .entry)))) (now (parents .entry)) ⌝ }
+    ensures { λ r. ⌜ r ≡ listedOf (listedIn (now (chunk .entry)) (length (now (places .entry)))
+        (length (now (parents .entry)))) ⌝ }
+    ensures { λ _. ⌜ now (places .exit) ≡ afterAll placesOf (listedIn (now (chunk .entry))
+        (length (now (places .entry))) (length (now (parents .entry)))) (now (places .entry)) ⌝ }
+    ensures { λ _. ⌜ now (parents .exit) ≡ afterAll parentsOf (listedIn (now (chunk .entry))
+        (length (now (places .entry))) (length (now (parents .entry)))) (now (parents .entry)) ⌝ }
 {
     list_functions(chunk, places, parents)
 }
 
 #[no_mangle]
 pub extern "C" fn lawendeb_chunk_words_at(chunk: &[u8], at: usize, words: &mut [u32]) -> Counts
-    ensures { λ r. ⌜ r ≡ countsOf (filledBy (Place at) (now (chunk .entry)) (wordsRoom (length (now (words .entry))))) ⌝ }
-    ensures { λ _. ⌜ now (words .exit) ≡ after wordsOf (filledBy (Place at) (now (chunk .entry)) (wordsRoom (length (now (words .entry))))) (now (words .entry)) ⌝ }
+    ensures { λ r. ⌜
+        r ≡ countsOf (filledBy (Place at) (now (chunk .entry)) (wordsRoom (length (now (words .entry))))) ⌝ }
+    ensures { λ _. ⌜ now (words .exit)
+        ≡ after wordsOf (filledBy (Place at) (now (chunk .entry)) (wordsRoom (length (now (words .entry)))))
+        (now (words .entry)) ⌝ }
 {
     words_by(chunk, Choice::Place(at), words)
 }
 
 #[no_mangle]
 pub extern "C" fn lawendeb_chunk_lines_at(chunk: &[u8], at: usize, lines: &mut [u32]) -> Counts
-    ensures { λ r. ⌜ r ≡ countsOf (filledBy (Place at) (now (chunk .entry)) (wordsRoom (length (now (lines .entry))))) ⌝ }
-    ensures { λ _. ⌜ now (lines .exit) ≡ after (linesIn (now (chunk .entry))) (filledBy (Place at) (now (chunk .entry)) (wordsRoom (length (now (lines .entry))))) (now (lines .entry)) ⌝ }
+    ensures { λ r. ⌜
+        r ≡ countsOf (filledBy (Place at) (now (chunk .entry)) (wordsRoom (length (now (lines .entry))))) ⌝ }
+    ensures { λ _. ⌜ now (lines .exit) ≡ after (linesIn (now (chunk .entry))) (filledBy (Place at)
+        (now (chunk .entry)) (wordsRoom (length (now (lines .entry))))) (now (lines .entry)) ⌝ }
 {
     lines_by(chunk, Choice::Place(at), lines)
 }

@@ -1,4 +1,5 @@
-// Over chunk: where each function of a chunk stands and which one it stands in; a function's words, lines and head, by its number or by its place.
+// Over chunk: where each function of a chunk stands and which one it stands in; a function's words, lines and
+// head, by its number or by its place.
 mod choosing;
 pub mod exported;
 mod heads;

@@ -1,4 +1,5 @@
-// The line of each word, as luaG_getfuncline of ldebug.c gives it, one after another: so each byte and each absolute line is read once.
+// The line of each word, as luaG_getfuncline of ldebug.c gives it, one after another: so each byte and each
+// absolute line is read once.
 ghost use mathlib.Core.Path.{_≡_};
 ghost use mathlib.Core.List.{_++_};
 ghost use Prim.Native.Nat.{_+_, _≤_, _<_};
@@ -29,7 +30,8 @@ pub enum AbsRead {
     Ends,
 }
 
-// Where the bytes of lineinfo start and how many they are; where the absolute lines start and how many are left.
+// Where the bytes of lineinfo start and how many they are; where the absolute lines
+// start and how many are left.
 pub struct LinePlaces {
     pub start: usize,
     pub count: usize,
@@ -95,7 +97,8 @@ fn line_at(
     left: usize,
 ) -> LineTurn
     requires { ⌜ (start + count ≤ length (now chunk)) × (line ≤ 4294967295) ⌝ }
-    ensures { λ r. ⌜ Turns (now (chunk .entry)) (take count (drop start (now (chunk .entry)))) line i left at r ⌝ }
+    ensures { λ r. ⌜
+        Turns (now (chunk .entry)) (take count (drop start (now (chunk .entry)))) line i left at r ⌝ }
 {
     if count <= i {
         return LineTurn {
@@ -140,8 +143,11 @@ fn line_at(
 
 // The lines of n words.
 fn store_lines(chunk: &[u8], p: LinePlaces, defined: usize, n: usize, lines: &mut [u32])
-    requires { ⌜ (p .start + p .count ≤ length (now chunk)) × ((defined ≤ intMax) × ((n ≤ mostWords) × (n ≤ length (now lines)))) ⌝ }
-    ensures { λ _. ⌜ now (lines .exit) ≡ linesFrom n defined 0 (absFrom (p .left) (now (chunk .entry)) (p .abs)) (take (p .count) (drop (p .start) (now (chunk .entry)))) ++ drop n (now (lines .entry)) ⌝ }
+    requires { ⌜ (p .start + p .count ≤ length (now chunk))
+        × ((defined ≤ intMax) × ((n ≤ mostWords) × (n ≤ length (now lines)))) ⌝ }
+    ensures { λ _. ⌜ now (lines .exit)
+        ≡ linesFrom n defined 0 (absFrom (p .left) (now (chunk .entry)) (p .abs))
+        (take (p .count) (drop (p .start) (now (chunk .entry)))) ++ drop n (now (lines .entry)) ⌝ }
 {
     let start = p.start;
     let count = p.count;
@@ -201,17 +207,21 @@ fn places(chunk: &[u8], defined: usize, at: usize) -> LinePlaces
 // The lines of the n words of the function at these positions.
 fn fill_lines(chunk: &[u8], first_at: usize, lines_at: usize, n: usize, lines: &mut [u32])
     requires { ⌜ (n ≤ mostWords) × (n ≤ length (now lines)) ⌝ }
-    ensures { λ _. ⌜ now (lines .exit) ≡ linesOf (lineInfoAt (now (chunk .entry)) «first_at» «lines_at») n ++ drop n (now (lines .entry)) ⌝ }
+    ensures { λ _. ⌜ now (lines .exit)
+        ≡ linesOf (lineInfoAt (now (chunk .entry)) «first_at» «lines_at») n ++ drop n (now (lines .entry)) ⌝ }
 {
     let defined = value(int(chunk, string(chunk, Cursor::At(first_at, 0))));
     let p = places(chunk, defined, lines_at);
     store_lines(chunk, p, defined, n, lines);
 }
 
-// A line for each of its words, 0 where the chunk has none, as if there were room for all of its tags, payloads and names.
+// A line for each of its words, 0 where the chunk has none, as if there were room for all of its
+// tags, payloads and names.
 pub fn lines_by(chunk: &[u8], choice: Choice, lines: &mut [u32]) -> Counts
-    ensures { λ r. ⌜ r ≡ countsOf (filledBy choice (now (chunk .entry)) (wordsRoom (length (now (lines .entry))))) ⌝ }
-    ensures { λ _. ⌜ now (lines .exit) ≡ after (linesIn (now (chunk .entry))) (filledBy choice (now (chunk .entry)) (wordsRoom (length (now (lines .entry))))) (now (lines .entry)) ⌝ }
+    ensures { λ r. ⌜
+        r ≡ countsOf (filledBy choice (now (chunk .entry)) (wordsRoom (length (now (lines .entry))))) ⌝ }
+    ensures { λ _. ⌜ now (lines .exit) ≡ after (linesIn (now (chunk .entry))) (filledBy choice
+        (now (chunk .entry)) (wordsRoom (length (now (lines .entry))))) (now (lines .entry)) ⌝ }
 {
     let found = with_room(
         locate_by(chunk, choice),

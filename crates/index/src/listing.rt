@@ -1,5 +1,5 @@
-// All functions of a chunk. Its bytes are read once to count them, so that nothing is stored unless all of the chunk is accepted and each slice has room,
-// and once more to store where each stands.
+// All functions of a chunk. Its bytes are read once to count them, so that nothing is stored unless all of
+// the chunk is accepted and each slice has room, and once more to store where each stands.
 ghost use mathlib.Core.Path.{_≡_};
 ghost use Prim.Native.Nat.{_+_, _≤_};
 ghost use lib.ListN.{length};
@@ -110,7 +110,8 @@ pub fn count_functions(chunk: &[u8]) -> Listed
 
 // Function i stands there, in this one.
 fn note(i: usize, at: usize, parent: usize, places: &mut [u64], parents: &mut [u64])
-    ensures { λ _. ⌜ Noted i at parent (now (places .entry)) (now (parents .entry)) (now (places .exit)) (now (parents .exit)) ⌝ }
+    ensures { λ _. ⌜ Noted i at parent (now (places .entry)) (now (parents .entry)) (now (places .exit))
+        (now (parents .exit)) ⌝ }
 {
     if i < places.len() {
         if i < parents.len() {
@@ -142,7 +143,8 @@ fn past(i: usize, n: usize, room: usize) -> usize
     i
 }
 
-// loadFunction, with so many levels left below it: it has number i and stands in `parent`. How many functions it is with those within it.
+// loadFunction, with so many levels left below it: it has number i and stands in `parent`.
+// How many functions it is with those within it.
 fn list_function(
     chunk: &[u8],
     c: Cursor,
@@ -153,7 +155,8 @@ fn list_function(
     parents: &mut [u64],
 ) -> Cursor
     ensures { λ r. ⌜ r ≡ step length (loadFunction level) (now (chunk .entry)) c ⌝ }
-    ensures { λ _. ⌜ WroteAt (loadFunction level) (now (chunk .entry)) c parent i (now (places .entry)) (now (parents .entry)) (now (places .exit)) (now (parents .exit)) ⌝ }
+    ensures { λ _. ⌜ WroteAt (loadFunction level) (now (chunk .entry)) c parent i (now (places .entry))
+        (now (parents .entry)) (now (places .exit)) (now (parents .exit)) ⌝ }
 {
     let start = head(chunk, c);
     let words = code(chunk, start);
@@ -174,7 +177,8 @@ fn list_function(
     with_count(last, value(inner) + 1)
 }
 
-// loadProtos: the first function within has number `first`, and all stand in `parent`. How many functions they are with those within them.
+// loadProtos: the first function within has number `first`, and all stand in `parent`. How many functions
+// they are with those within them.
 fn list_protos(
     chunk: &[u8],
     c: Cursor,
@@ -185,7 +189,8 @@ fn list_protos(
     parents: &mut [u64],
 ) -> Cursor
     ensures { λ r. ⌜ r ≡ step length (loadProtos level) (now (chunk .entry)) c ⌝ }
-    ensures { λ _. ⌜ WroteAt (loadProtos level) (now (chunk .entry)) c parent first (now (places .entry)) (now (parents .entry)) (now (places .exit)) (now (parents .exit)) ⌝ }
+    ensures { λ _. ⌜ WroteAt (loadProtos level) (now (chunk .entry)) c parent first (now (places .entry))
+        (now (parents .entry)) (now (places .exit)) (now (parents .exit)) ⌝ }
 {
     let count = int(chunk, c);
     let Cursor::At(start, n) = count else {
@@ -222,9 +227,12 @@ fn list_protos(
 
 // Where each function of a chunk stands, and the number of the one that it stands in.
 pub fn list_functions(chunk: &[u8], places: &mut [u64], parents: &mut [u64]) -> Listed
-    ensures { λ r. ⌜ r ≡ listedOf (listedIn (now (chunk .entry)) (length (now (places .entry))) (length (now (parents .entry)))) ⌝ }
-    ensures { λ _. ⌜ now (places .exit) ≡ afterAll placesOf (listedIn (now (chunk .entry)) (length (now (places .entry))) (length (now (parents .entry)))) (now (places .entry)) ⌝ }
-    ensures { λ _. ⌜ now (parents .exit) ≡ afterAll parentsOf (listedIn (now (chunk .entry)) (length (now (places .entry))) (length (now (parents .entry)))) (now (parents .entry)) ⌝ }
+    ensures { λ r. ⌜ r ≡ listedOf (listedIn (now (chunk .entry)) (length (now (places .entry)))
+        (length (now (parents .entry)))) ⌝ }
+    ensures { λ _. ⌜ now (places .exit) ≡ afterAll placesOf (listedIn (now (chunk .entry))
+        (length (now (places .entry))) (length (now (parents .entry)))) (now (places .entry)) ⌝ }
+    ensures { λ _. ⌜ now (parents .exit) ≡ afterAll parentsOf (listedIn (now (chunk .entry))
+        (length (now (places .entry))) (length (now (parents .entry)))) (now (parents .entry)) ⌝ }
 {
     let t = with_rooms(take_tally(chunk), places.len(), parents.len());
     let Tally::All(_) = t else {

@@ -1,4 +1,5 @@
-// Why a file is no chunk that is read here, for a program that says it in words. Numbers 14 and 15 do not tell a Lua of another version from a picture.
+// Why a file is no chunk that is read here, for a program that says it in words. Numbers 14 and 15 do not
+// tell a Lua of another version from a picture.
 ghost use mathlib.Core.Path.{_≡_};
 ghost use Rattle.chunk.specs.Lundump.{checkHeader};
 ghost use Rattle.index.specs.Refusing.{signed, whyRefused, headerReason};

@@ -15,8 +15,11 @@ use common::limits::MOST_NAMES;
 
 // As if there were room for all of its tags, payloads and names: only the words are filled.
 pub fn words_by(chunk: &[u8], choice: Choice, words: &mut [u32]) -> Counts
-    ensures { λ r. ⌜ r ≡ countsOf (filledBy choice (now (chunk .entry)) (wordsRoom (length (now (words .entry))))) ⌝ }
-    ensures { λ _. ⌜ now (words .exit) ≡ after wordsOf (filledBy choice (now (chunk .entry)) (wordsRoom (length (now (words .entry))))) (now (words .entry)) ⌝ }
+    ensures { λ r. ⌜
+        r ≡ countsOf (filledBy choice (now (chunk .entry)) (wordsRoom (length (now (words .entry))))) ⌝ }
+    ensures { λ _. ⌜ now (words .exit)
+        ≡ after wordsOf (filledBy choice (now (chunk .entry)) (wordsRoom (length (now (words .entry)))))
+        (now (words .entry)) ⌝ }
 {
     let found = with_room(
         locate_by(chunk, choice),

@@ -1,5 +1,5 @@
-// The owner's command: a compiled script, and of each of its functions the most words that can pass without a service. What is told is
-// `owner::tell`; here are the arguments, the files and the memory.
+// The owner's command: a compiled script, and of each of its functions the most words that can pass without
+// a service. What is told is `owner::tell`; here are the arguments, the files and the memory.
 mod asking;
 mod reading;
 mod rooms;
@@ -30,26 +30,7 @@ fn tell_bytes(
 ) -> Sheet {
     let mut places = rooms::places();
     let mut keys = rooms::places();
-    let mut words = rooms::words();
-    let mut lines = rooms::words();
-    let mut marks = rooms::marks();
-    let mut lengths = rooms::words();
-    let mut path = rooms::words();
-    owner::tell(
-        bytes,
-        file,
-        o,
-        weights,
-        &mut places,
-        &mut keys,
-        &mut words,
-        &mut lines,
-        &mut marks,
-        &mut lengths,
-        &mut path,
-        page,
-        s,
-    )
+    owner::tell(bytes, file, o, weights, &mut places, &mut keys, page, s)
 }
 
 // Tells of an open script.

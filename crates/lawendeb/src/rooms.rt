@@ -1,8 +1,8 @@
-// The program's fixed tables, each from a function, so that its length is all that is known of it. All lie on the stack: 4 MiB for a file, 2
-// for two numbers of each of 131,072 functions, and half of one for a function's words.
+// The program's fixed tables, each from a function, so that its length is all that is known of it.
+// All lie on the stack: 4 MiB for a file, 2 for two numbers of each of 131,072 functions;
+// beside them half of one for a function's words, in crate `owner`.
 ghost use mathlib.Core.Path.{_≡_};
 ghost use lib.ListN.{length};
-use common::limits::MOST_WORDS;
 
 // Bytes of a file.
 pub(crate) const MOST_BYTES: usize = 4194304;
@@ -20,18 +20,6 @@ pub(crate) fn places() -> [u64; MOST_FUNCTIONS]
     ensures { λ r. ⌜ 131072 ≡ length r ⌝ }
 {
     [0; MOST_FUNCTIONS]
-}
-
-pub(crate) fn words() -> [u32; MOST_WORDS]
-    ensures { λ r. ⌜ 32768 ≡ length r ⌝ }
-{
-    [0; MOST_WORDS]
-}
-
-pub(crate) fn marks() -> [u8; MOST_WORDS]
-    ensures { λ r. ⌜ 32768 ≡ length r ⌝ }
-{
-    [0; MOST_WORDS]
 }
 
 // What each opcode weighs where nothing else is said.

@@ -1,8 +1,8 @@
 // How the program is used, and which one it is.
-use owner::put_name;
 use pages::Sheet;
 use pages::number;
 use pages::put;
+use wording::put_name;
 
 // What it does.
 fn put_purpose(page: &mut [u8], s: Sheet) -> Sheet {

@@ -1,5 +1,5 @@
 -- A function that the second pass fills from a chunk is lifted with the chunk's bytes as its string bytes:
--- of document 01's checks 1 to 6 only the last, which asks for room, can refuse it.
+-- of document 01's checks 1 to 6 (RULES 8) only the last, which asks for room, can refuse it.
 -- Assumes nothing.
 use mathlib.Core.Path.{_≡_}
 use mathlib.Core.List.{List}

@@ -18,8 +18,8 @@ use Rattle.meter.specs.Highest.{HighestAfter}
 use Rattle.meter.specs.Bound.{Bound, Worst}
 
 -- "For one function of at most 32,768 words, .. and control that starts at word 0 and takes any step of
--- document 01's table at each word:", by request C-24 any step of its version, "and demand 3 holds by
--- its steps". Request C-17: "demand 3 loses that ground and supposes weights that 18 accepts, and a meter
+-- document 01's table (RULES 2) at each word:", by request C-24 any step of its version, "and demand 3 holds
+-- by its steps". Request C-17: "demand 3 loses that ground and supposes weights that 18 accepts, and a meter
 -- compared with a run or with the book is lent the same weights at each feed"
 pub record Demand3 (ws : Script) (weights : List ℕ) : Type 0 where
   -- ".. result slices at least as long ..: it is refused exactly if it has no words, some course meets a
@@ -29,9 +29,9 @@ pub record Demand3 (ws : Script) (weights : List ℕ) : Type 0 where
       → ws .size ≤ marks → ws .size ≤ lengths → Demand ws weights (runOf ws weights marks lengths)
   -- "Accepted or not, take a meter just begun, whatever services [and highest] it holds: for every list of
   -- begins and feeds [and resets] on it over the same words, whatever word each feed names, refused feeds
-  -- included, a feed is accepted exactly if document 01's feeding book writes its word down, and after the
-  -- list the meter shows the [weight of the] words since the last service on the book's course, and the
-  -- services held at the start plus all those passed by the book, up to its ceiling." (A meter's services
+  -- included, a feed is accepted exactly if document 01's feeding book (RULES 4) writes its word down, and
+  -- after the list the meter shows the [weight of the] words since the last service on the book's course, and
+  -- the services held at the start plus all those passed by the book, up to its ceiling." (A meter's services
   -- are 32 bits.) Request C-19:
   -- "Demand 3's lists may hold resets, which its book passes over."
   pub meter : (m : Meter) → m .services < 4294967296 → (calls : List Call)

@@ -34,7 +34,7 @@ const WEIGHTS_REFUSED: u64 = common::numbers::WEIGHTS_REFUSED as u64;
 // A meter's count is at most so much for each word up to the last (request C-17).
 const HEAVIEST: usize = 255;
 
-// Document 01, "Meter": services stay at this.
+// Document 01, "Meter", RULES 4: services stay at this.
 const CEILING: u32 = 4294967295;
 
 // Four numbers in the order of document 01 and the highest of request C-19, laid out as C lays them out.

@@ -1,15 +1,9 @@
-// What an owner is told of a compiled script: of each function the most that can pass without a service, and the lines on which it passes.
-mod json;
-mod noting;
-mod order;
-mod refusing;
+// What an owner is told of a compiled script: of each function the most that can pass without a service, and
+// the lines on which it passes.
 mod rows;
-mod script;
-mod showing;
 mod telling;
 mod titles;
 
-pub use showing::put_name;
 pub use telling::Options;
 pub use telling::put_too_long;
 pub use telling::tell;

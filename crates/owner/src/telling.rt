@@ -1,27 +1,24 @@
 // All that is told of a compiled script.
-use crate::json;
-use crate::order::key;
-use crate::order::key_at;
-use crate::order::longest_in;
-use crate::order::number_in;
-use crate::order::set_key;
-use crate::order::sort;
-use crate::refusing::put_number;
-use crate::refusing::put_why;
 use crate::rows::put_rows;
-use crate::script::Function;
-use crate::script::checked;
-use crate::script::fill_lines;
-use crate::script::measured;
-use crate::script::source;
-use crate::showing::put_name;
-use crate::titles::NO_LIMIT;
 use crate::titles::put_title;
+use findings::Function;
+use findings::key_at;
+use findings::load;
+use findings::longest_in;
+use findings::order_all;
+use findings::place_in;
+use findings::source;
 use pages::Sheet;
+use pages::either;
+use pages::fill;
 use pages::first_words;
-use pages::number;
 use pages::put;
 use std::num::wrapping_add_u64;
+use wording::NO_LIMIT;
+use wording::json;
+use wording::put_name;
+use wording::put_number;
+use wording::put_why;
 
 pub struct Options {
     // NO_LIMIT without one.
@@ -35,6 +32,25 @@ pub struct Tally {
     pub sheet: Sheet,
     pub over: u64,
     pub refused: u64,
+}
+
+// Whether nothing is to say of a function by its limit.
+fn is_within(f: Function, limit: u64) -> bool {
+    if f.number != 0 {
+        return false;
+    }
+    if limit == NO_LIMIT {
+        return false;
+    }
+    f.longest <= limit
+}
+
+fn begun(sheet: Sheet) -> Tally {
+    Tally {
+        sheet,
+        over: 0,
+        refused: 0,
+    }
 }
 
 fn counted(sheet: Sheet, t: Tally, f: Function, limit: u64) -> Tally {
@@ -52,33 +68,7 @@ fn counted(sheet: Sheet, t: Tally, f: Function, limit: u64) -> Tally {
     }
 }
 
-// A function's lines of text: with a limit those of a function over it alone, with its run.
-fn put_told(
-    page: &mut [u8],
-    s: Sheet,
-    file: &[u8],
-    source: &[u8],
-    o: Options,
-    f: Function,
-    words: &[u32],
-    lines: &[u32],
-    lengths: &[u32],
-    path: &[u32],
-) -> Sheet {
-    if f.number != 0 {
-        return put_title(page, s, file, source, f, o.limit, o.is_weighted);
-    }
-    if o.limit == NO_LIMIT {
-        return put_title(page, s, file, source, f, o.limit, o.is_weighted);
-    }
-    if f.longest <= o.limit {
-        return s;
-    }
-    let a = put_title(page, s, file, source, f, o.limit, o.is_weighted);
-    put_rows(page, a, words, lines, lengths, path, f.count)
-}
-
-// Tells of function k, whose lines are stored.
+// Tells of a function. In text, with a limit those over it alone, with their runs.
 fn put_function(
     page: &mut [u8],
     s: Sheet,
@@ -94,24 +84,14 @@ fn put_function(
     if o.is_json {
         return json::put_function(page, s, f, words, lines, lengths, path);
     }
-    put_told(page, s, file, source, o, f, words, lines, lengths, path)
-}
-
-// Function k, all of it.
-fn load(
-    bytes: &[u8],
-    k: u64,
-    at: usize,
-    weights: &[u8],
-    words: &mut [u32],
-    lines: &mut [u32],
-    marks: &mut [u8],
-    lengths: &mut [u32],
-    path: &mut [u32],
-) -> Function {
-    fill_lines(bytes, at, lines);
-    let m = measured(bytes, k, at, weights, words, marks, lengths, path);
-    checked(m, words, marks)
+    if is_within(f, o.limit) {
+        return s;
+    }
+    let a = put_title(page, s, file, source, f, o.limit, o.is_weighted);
+    if o.limit == NO_LIMIT {
+        return a;
+    }
+    put_rows(page, a, words, lines, lengths, path, f.count)
 }
 
 // Tells of a function that is loaded.
@@ -144,11 +124,7 @@ fn tell_loaded(
     counted(sheet, t, f, o.limit)
 }
 
-fn place_in(places: &[u64], k: u64) -> usize {
-    key_at(places, k as usize) as usize
-}
-
-// Tells of function k of a source of this name.
+// Tells of the function of a key, of a source of this name.
 fn tell_one(
     bytes: &[u8],
     file: &[u8],
@@ -156,7 +132,7 @@ fn tell_one(
     o: Options,
     weights: &[u8],
     places: &[u64],
-    k: u64,
+    key: u64,
     words: &mut [u32],
     lines: &mut [u32],
     marks: &mut [u8],
@@ -167,8 +143,8 @@ fn tell_one(
 ) -> Tally {
     let f = load(
         bytes,
-        k,
-        place_in(places, k),
+        places,
+        key,
         weights,
         words,
         lines,
@@ -177,49 +153,6 @@ fn tell_one(
         path,
     );
     tell_loaded(page, t, file, name, o, f, words, lines, lengths, path)
-}
-
-// Puts a key for function k in the keys, the longest run in it.
-fn measure_one(
-    bytes: &[u8],
-    weights: &[u8],
-    at: usize,
-    k: usize,
-    keys: &mut [u64],
-    words: &mut [u32],
-    marks: &mut [u8],
-    lengths: &mut [u32],
-    path: &mut [u32],
-) {
-    let f = measured(bytes, k as u64, at, weights, words, marks, lengths, path);
-    set_key(keys, k, key(f.longest, k as u64));
-}
-
-// A key for each function.
-fn measure_all(
-    bytes: &[u8],
-    weights: &[u8],
-    places: &[u64],
-    n: usize,
-    keys: &mut [u64],
-    words: &mut [u32],
-    marks: &mut [u8],
-    lengths: &mut [u32],
-    path: &mut [u32],
-) {
-    for k in 0..n {
-        measure_one(
-            bytes,
-            weights,
-            place_in(places, k as u64),
-            k,
-            keys,
-            words,
-            marks,
-            lengths,
-            path,
-        );
-    }
 }
 
 // Tells of each function, by the order of the keys.
@@ -249,7 +182,7 @@ fn tell_all(
             o,
             weights,
             places,
-            number_in(key_at(keys, i)),
+            key_at(keys, i),
             words,
             lines,
             marks,
@@ -263,51 +196,42 @@ fn tell_all(
 }
 
 fn put_refused_part(page: &mut [u8], s: Sheet, refused: u64) -> Sheet {
-    if refused == 0 {
-        return s;
-    }
-    let a = put(page, s, b", ");
-    let b = number(page, a, refused);
-    put(page, b, b" refused")
+    fill(
+        page,
+        s,
+        either(refused == 0, b"\n", b", # refused\n"),
+        [refused, 0, 0, 0],
+    )
 }
 
 fn put_over_part(page: &mut [u8], s: Sheet, over: u64, limit: u64) -> Sheet {
-    if limit == NO_LIMIT {
-        return s;
-    }
-    if over == 0 {
-        return put(page, s, b", none over the limit");
-    }
-    let a = put(page, s, b", ");
-    let b = number(page, a, over);
-    put(page, b, b" over the limit")
+    let text = either(over == 0, b", none over the limit", b", # over the limit");
+    fill(
+        page,
+        s,
+        either(limit == NO_LIMIT, b"", text),
+        [over, 0, 0, 0],
+    )
 }
 
-fn put_functions(page: &mut [u8], s: Sheet, n: u64) -> Sheet {
-    let a = number(page, s, n);
-    if n == 1 {
-        return put(page, a, b" function");
-    }
-    put(page, a, b" functions")
-}
-
-// The most, and what it is of.
-fn put_most(page: &mut [u8], s: Sheet, most: u64, is_weighted: bool) -> Sheet {
-    if is_weighted {
-        let a = put(page, s, b"at most weight ");
-        let b = number(page, a, most);
-        return put(
-            page,
-            b,
-            b" of each function; in a script whose calls nest d deep, up to d times as much\n",
-        );
-    }
-    let a = put(page, s, b"at most ");
-    let b = number(page, a, most);
-    put(
+// The most, what it is of, and how many functions there are.
+fn put_most(page: &mut [u8], s: Sheet, most: u64, is_weighted: bool, n: u64) -> Sheet {
+    let a = fill(
+        page,
+        s,
+        either(is_weighted, b"at most weight #", b"at most # words"),
+        [most, 0, 0, 0],
+    );
+    let b = put(
+        page,
+        a,
+        b" of each function; in a script whose calls nest d deep, up to d times as much\n",
+    );
+    fill(
         page,
         b,
-        b" words of each function; in a script whose calls nest d deep, up to d times as much\n",
+        either(n == 1, b"# function", b"# functions"),
+        [n, 0, 0, 0],
     )
 }
 
@@ -317,11 +241,9 @@ fn put_sum(page: &mut [u8], t: Tally, o: Options, n: u64, most: u64) -> Sheet {
     if o.is_json {
         return json::put_sum(page, s, n, t.over, t.refused, most);
     }
-    let a = put_most(page, s, most, o.is_weighted);
-    let b = put_functions(page, a, n);
-    let c = put_over_part(page, b, t.over, o.limit);
-    let d = put_refused_part(page, c, t.refused);
-    put(page, d, b"\n")
+    let a = put_most(page, s, most, o.is_weighted, n);
+    let b = put_over_part(page, a, t.over, o.limit);
+    put_refused_part(page, b, t.refused)
 }
 
 // A file that is refused: the only line.
@@ -362,7 +284,8 @@ fn put_head(page: &mut [u8], s: Sheet, file: &[u8], source: &[u8], o: Options) -
     s
 }
 
-// Tells of the functions by the order of the keys, and in the end how many they are.
+// Tells of the functions by the order of the keys, and in the end how many they are. What a function
+// needs lies here, once for all.
 fn tell_sorted(
     bytes: &[u8],
     file: &[u8],
@@ -371,21 +294,16 @@ fn tell_sorted(
     places: &[u64],
     keys: &[u64],
     n: usize,
-    words: &mut [u32],
-    lines: &mut [u32],
-    marks: &mut [u8],
-    lengths: &mut [u32],
-    path: &mut [u32],
     page: &mut [u8],
     s: Sheet,
 ) -> Sheet {
+    let mut words = findings::words();
+    let mut lines = findings::words();
+    let mut marks = findings::marks();
+    let mut lengths = findings::words();
+    let mut path = findings::words();
     let name = source(bytes, place_in(places, 0));
-    let sheet = put_head(page, s, file, name, o);
-    let t = Tally {
-        sheet,
-        over: 0,
-        refused: 0,
-    };
+    let t = begun(put_head(page, s, file, name, o));
     let u = tell_all(
         bytes,
         file,
@@ -395,70 +313,19 @@ fn tell_sorted(
         places,
         keys,
         n,
-        words,
-        lines,
-        marks,
-        lengths,
-        path,
+        &mut words,
+        &mut lines,
+        &mut marks,
+        &mut lengths,
+        &mut path,
         page,
         t,
     );
     put_sum(page, u, o, n as u64, longest_in(key_at(keys, 0)))
 }
 
-// A key for each function, the greatest first.
-fn order_all(
-    bytes: &[u8],
-    weights: &[u8],
-    places: &[u64],
-    n: usize,
-    keys: &mut [u64],
-    words: &mut [u32],
-    marks: &mut [u8],
-    lengths: &mut [u32],
-    path: &mut [u32],
-) {
-    measure_all(bytes, weights, places, n, keys, words, marks, lengths, path);
-    sort(keys, n);
-}
-
-// Tells of n functions at their places.
-fn tell_listed(
-    bytes: &[u8],
-    file: &[u8],
-    o: Options,
-    weights: &[u8],
-    places: &[u64],
-    n: usize,
-    keys: &mut [u64],
-    words: &mut [u32],
-    lines: &mut [u32],
-    marks: &mut [u8],
-    lengths: &mut [u32],
-    path: &mut [u32],
-    page: &mut [u8],
-    s: Sheet,
-) -> Sheet {
-    order_all(bytes, weights, places, n, keys, words, marks, lengths, path);
-    tell_sorted(
-        bytes,
-        file,
-        o,
-        weights,
-        places,
-        keys,
-        n,
-        words,
-        lines,
-        marks,
-        lengths,
-        path,
-        page,
-        s,
-    )
-}
-
-// Tells of a file's functions, the longest run first; or why it is refused. The other slices are room.
+// Tells of a file's functions, the longest run first; or why it is refused. Places and keys are room for
+// a number of each function.
 pub fn tell(
     bytes: &[u8],
     file: &[u8],
@@ -466,11 +333,6 @@ pub fn tell(
     weights: &[u8],
     places: &mut [u64],
     keys: &mut [u64],
-    words: &mut [u32],
-    lines: &mut [u32],
-    marks: &mut [u8],
-    lengths: &mut [u32],
-    path: &mut [u32],
     page: &mut [u8],
     s: Sheet,
 ) -> Sheet {
@@ -478,20 +340,7 @@ pub fn tell(
     if listed.number != 0 {
         return put_refused(page, s, file, o, bytes, listed.number, listed.place);
     }
-    tell_listed(
-        bytes,
-        file,
-        o,
-        weights,
-        places,
-        listed.functions as usize,
-        keys,
-        words,
-        lines,
-        marks,
-        lengths,
-        path,
-        page,
-        s,
-    )
+    let n = listed.functions as usize;
+    order_all(bytes, weights, places, n, keys);
+    tell_sorted(bytes, file, o, weights, places, keys, n, page, s)
 }

@@ -1,27 +1,14 @@
 // The line that names a function.
-use crate::refusing::put_refusal;
-use crate::script::Function;
-use crate::showing::is_marked;
-use crate::showing::put_name;
-use crate::showing::unmarked;
+use findings::Function;
 use pages::Sheet;
-use pages::number;
+use pages::either;
+use pages::fill;
 use pages::put;
-
-// Without a limit none is above it.
-pub(crate) const NO_LIMIT: u64 = 18446744073709551615;
-
-fn put_range(page: &mut [u8], s: Sheet, f: Function, before: &[u8], between: &[u8]) -> Sheet {
-    let a = put(page, s, before);
-    let b = number(page, a, f.first_line);
-    let c = put(page, b, between);
-    number(page, c, f.last_line)
-}
-
-fn put_function(page: &mut [u8], s: Sheet, k: u64) -> Sheet {
-    let a = put(page, s, b": function ");
-    number(page, a, k)
-}
+use wording::NO_LIMIT;
+use wording::is_marked;
+use wording::put_name;
+use wording::put_refusal;
+use wording::unmarked;
 
 fn put_source(page: &mut [u8], s: Sheet, source: &[u8]) -> Sheet {
     if is_marked(source) {
@@ -30,54 +17,47 @@ fn put_source(page: &mut [u8], s: Sheet, source: &[u8]) -> Sheet {
     put(page, s, b"[string]")
 }
 
-// The function's source, its lines there and its number. Of a stripped file its own name; the main function has no lines of its own.
+// A function of a stripped file, by the file's name.
+fn put_stripped(page: &mut [u8], s: Sheet, file: &[u8], f: Function) -> Sheet {
+    let a = put_name(page, s, file);
+    let text = either(
+        f.last_line == 0,
+        b": function #",
+        b": function # (lines # to #)",
+    );
+    fill(page, a, text, [f.k, f.first_line, f.last_line, 0])
+}
+
+// The function's source, its lines there and its number. The main function has no lines of its own.
 fn put_names(page: &mut [u8], s: Sheet, file: &[u8], source: &[u8], f: Function) -> Sheet {
     if source.len() == 0 {
-        let a = put_name(page, s, file);
-        let b = put_function(page, a, f.k);
-        if f.last_line == 0 {
-            return b;
-        }
-        let c = put_range(page, b, f, b" (lines ", b" to ");
-        return put(page, c, b")");
+        return put_stripped(page, s, file, f);
     }
     let a = put_source(page, s, source);
     if f.last_line == 0 {
-        return put_function(page, a, f.k);
+        return fill(page, a, b": function #", [f.k, 0, 0, 0]);
     }
-    let b = put_range(page, a, f, b":", b"-");
-    put_function(page, b, f.k)
+    fill(
+        page,
+        a,
+        b":#-#: function #",
+        [f.first_line, f.last_line, f.k, 0],
+    )
 }
 
-// The longest run, in words or by weights.
-fn put_longest(page: &mut [u8], s: Sheet, longest: u64, is_weighted: bool) -> Sheet {
-    if is_weighted {
-        let a = put(page, s, b"weight ");
-        let b = number(page, a, longest);
-        return put(page, b, b" without a service");
-    }
-    let a = number(page, s, longest);
-    put(page, a, b" words without a service")
+// The longest run, in words or by weights, and the limit where there is one.
+fn put_longest(page: &mut [u8], s: Sheet, longest: u64, limit: u64, is_weighted: bool) -> Sheet {
+    let text = either(
+        is_weighted,
+        b": weight # without a service",
+        b": # words without a service",
+    );
+    let a = fill(page, s, text, [longest, 0, 0, 0]);
+    let behind = either(limit == NO_LIMIT, b"\n", b", limit #\n");
+    fill(page, a, behind, [limit, 0, 0, 0])
 }
 
-fn put_limit(page: &mut [u8], s: Sheet, limit: u64) -> Sheet {
-    if limit == NO_LIMIT {
-        return s;
-    }
-    let a = put(page, s, b", limit ");
-    number(page, a, limit)
-}
-
-// What the longest run is, or why the function is refused.
-fn put_found(page: &mut [u8], s: Sheet, f: Function, limit: u64, is_weighted: bool) -> Sheet {
-    if f.number != 0 {
-        let a = put(page, s, b"refused: ");
-        return put_refusal(page, a, f.number, f.place);
-    }
-    let a = put_longest(page, s, f.longest, is_weighted);
-    put_limit(page, a, limit)
-}
-
+// A function's name, and what the longest run is or why the function is refused.
 pub(crate) fn put_title(
     page: &mut [u8],
     s: Sheet,
@@ -88,7 +68,10 @@ pub(crate) fn put_title(
     is_weighted: bool,
 ) -> Sheet {
     let a = put_names(page, s, file, source, f);
-    let b = put(page, a, b": ");
-    let c = put_found(page, b, f, limit, is_weighted);
-    put(page, c, b"\n")
+    if f.number != 0 {
+        let b = put(page, a, b": refused: ");
+        let c = put_refusal(page, b, f.number, f.place);
+        return put(page, c, b"\n");
+    }
+    put_longest(page, a, f.longest, limit, is_weighted)
 }

@@ -21,6 +21,24 @@ pub fn byte_at(bytes: &[u8], i: usize) -> u8 {
     if i < bytes.len() { bytes[i] } else { 0 }
 }
 
+// How many bytes stand before the first `stop`.
+pub fn before(bytes: &[u8], stop: u8) -> usize {
+    for i in 0..bytes.len() {
+        if byte_at(bytes, i) == stop {
+            return i;
+        }
+    }
+    bytes.len()
+}
+
+// One of two.
+pub fn either<'a>(is_so: bool, a: &'a [u8], b: &'a [u8]) -> &'a [u8] {
+    if is_so {
+        return a;
+    }
+    b
+}
+
 // Whether two slices have the same bytes.
 pub fn is_same(a: &[u8], b: &[u8]) -> bool {
     if a.len() != b.len() {

@@ -3,8 +3,11 @@ ghost use mathlib.Core.Path.{_≡_};
 ghost use Prim.Native.Nat.{_+_, _≤_};
 ghost use lib.ListN.{length};
 ghost use Rattle.common.specs.Lists.{put as Lists·put};
+use crate::parts::before;
 use crate::parts::first;
+use crate::parts::rest;
 use libc::STDOUT_FILENO;
+use std::num::wrapping_add_usize;
 
 // How much of the page is filled, and whether a write has failed.
 pub struct Sheet {
@@ -46,7 +49,8 @@ pub fn finish(page: &[u8], s: Sheet) -> Sheet {
     Sheet { at: 0, is_lost }
 }
 
-// Text on a page that has no room left for it: what is there goes out first, and the text by itself where it is longer than the page.
+// Text on a page that has no room left for it: what is there goes out first, and the text by itself where
+// it is longer than the page.
 fn put_over(page: &mut [u8], s: Sheet, text: &[u8]) -> Sheet {
     let f = finish(page, s);
     if page.len() < text.len() {
@@ -84,24 +88,34 @@ pub fn number(page: &mut [u8], s: Sheet, n: u64) -> Sheet {
     put(page, s, &digits[..k])
 }
 
+// Text in which each # stands for the next of the numbers.
+pub fn fill(page: &mut [u8], s: Sheet, text: &[u8], numbers: [u64; 4]) -> Sheet {
+    let mut t = s;
+    let mut from = 0;
+    for i in 0..4 {
+        let part = rest(text, from);
+        let k = before(part, b'#');
+        t = put(page, t, first(part, k));
+        if part.len() <= k {
+            return t;
+        }
+        t = number(page, t, numbers[i]);
+        from = wrapping_add_usize(wrapping_add_usize(from, k), 1);
+    }
+    put(page, t, rest(text, from))
+}
+
 // A number at the right of a column of six, blanks to the left; wider where it has more digits.
-pub fn column(page: &mut [u8], s: Sheet, n: u64) -> Sheet {
+fn column(page: &mut [u8], s: Sheet, n: u64) -> Sheet {
     let mut digits = [0u8; 20];
     let k = io::decimal(n, &mut digits);
-    if k < 6 {
-        let padded = put(page, s, b"      ");
-        let at = padded.at;
-        if at < k {
-            return padded;
-        }
-        return put(
-            page,
-            Sheet {
-                at: at - k,
-                is_lost: padded.is_lost,
-            },
-            &digits[..k],
-        );
-    }
-    put(page, s, &digits[..k])
+    let blanks = if k < 6 { 6 - k } else { 0 };
+    let padded = put(page, s, first(b"      ", blanks));
+    put(page, padded, &digits[..k])
+}
+
+// A column and what stands behind it.
+pub fn cell(page: &mut [u8], s: Sheet, n: u64, after: &[u8]) -> Sheet {
+    let t = column(page, s, n);
+    put(page, t, after)
 }

@@ -1,5 +1,5 @@
--- Document 01, "Records": the record of a word. A refinement of the original: lift_instruction_54 of
--- lifter.rs, whose behaviour it is, with its corners. Which arm an opcode takes stands here, the arms
+-- Document 01, "Records", RULES 10: the record of a word. A refinement of the original: lift_instruction_54
+-- of lifter.rs, whose behaviour it is, with its corners. Which arm an opcode takes stands here, the arms
 -- themselves in crate families. The fallback comes from the opcode table's fourth column, which is the
 -- Rust's; of the columns that are Lua's a record takes nothing.
 -- Assumes nothing.

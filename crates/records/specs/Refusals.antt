@@ -1,5 +1,5 @@
--- Document 01, "Refused inputs": what lifting refuses, numbers 1 to 6 in their order. The Rust refuses
--- nothing: all of this is added.
+-- Document 01, "Refused inputs", RULES 8: what lifting refuses, numbers 1 to 6 in their order.
+-- The Rust refuses nothing: all of this is added.
 -- Assumes nothing.
 use Prim.Native.Nat.{ℕ}
 use mathlib.Core.Bool.{Bool, true, false, not}

@@ -1,4 +1,4 @@
-// What lifting refuses: numbers 1 to 6 of document 01's table, in its order.
+// What lifting refuses: numbers 1 to 6 of document 01's table (RULES 8), in its order.
 ghost use mathlib.Core.Path.{_≡_};
 ghost use mathlib.Core.Bool.{false};
 ghost use lib.ListN.{length};

@@ -1,6 +1,6 @@
--- Document 01's table of steps of Lua 5.4, by its own numbers and a word's bits: no table of ours, no name
--- and no macro stands between the document and these. `ByNumber` says that the steps of specs/Successors.antt
--- are these, for every list of words.
+-- Document 01's table of steps (RULES 2) of Lua 5.4, by its own numbers and a word's bits:
+-- no table of ours, no name and no macro stands between the document and these. `ByNumber` says that the
+-- steps of specs/Successors.antt are these, for every list of words.
 -- Assumes nothing.
 use Prim.Native.Nat.{ℕ, _+_, _-_, _/_, _%_, _<_}
 use mathlib.Core.Path.{_≡_}

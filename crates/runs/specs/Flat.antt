@@ -14,7 +14,7 @@ flatSuccessors Stop = record { kind = 1; first = 0; second = 0 }
 flatSuccessors (One q) = record { kind = 2; first = q; second = 0 }
 flatSuccessors (Two q r) = record { kind = 3; first = q; second = r }
 
--- document 01's number and place, L and its first word
+-- document 01's number and place (RULES 8), L and its first word
 abbrev pub flatRun : Run → FlatRun
 flatRun (Accepted l f) = record { number = 0; place = 0; longest = l; first = f }
 flatRun (Refused k p) = record { number = k; place = p; longest = 0; first = 0 }

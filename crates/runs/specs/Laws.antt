@@ -127,7 +127,7 @@ pub record Laws : Type 0 where
   pub range-kept-of :
       (version : Version) (ws low high marks lengths : List ℕ)
       → RangeKept (scriptOf version ws) low high marks lengths
-  -- document 01's table of steps, by its own numbers
+  -- document 01's table of steps (RULES 2), by its own numbers
   pub by-numbers54 : bad54.ByNumber
   -- request C-24: the bad words and the next words of 5.3, by its own numbers
   pub by-numbers53 : bad53.ByNumber

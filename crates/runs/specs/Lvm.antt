@@ -1,7 +1,8 @@
 -- lvm.c of Lua 5.4.8: where luaV_execute goes on after a word, in the C's own shape: pc after the fetch, then
 -- as each case of the switch moves it. What a case tests of values may come out either way, so both arms are
 -- given; errors and a coroutine's yield inside a word are left out (docs/DIFFERENCES.md has the yields).
--- `Agreement` says that for a word that is not bad these are the next words of document 01's table of steps.
+-- `Agreement` says that for a word that is not bad these are the next words of document 01's
+-- table of steps (RULES 2).
 -- Assumes nothing.
 use Prim.Native.Nat.{ℕ, _+_}
 use mathlib.Core.Bool.{cond}
@@ -196,6 +197,6 @@ waysAt ws p = waysOf ws (bodyAt ws p) (pos (p + 1)) (getD ws p 0)
 abbrev pub goesOn : List ℕ → ℕ → List ℤ
 goesOn ws p = targetsOf (waysAt ws p)
 
--- for a word that is not bad these are the next words of document 01's table of steps
+-- for a word that is not bad these are the next words of document 01's table of steps (RULES 2)
 abbrev pub Agreement : Type 0
 Agreement = Agree jmp bodyAt waysAt successorsOf

@@ -1,4 +1,4 @@
--- Document 01, "Steps": the successors of word p of the words ws of Lua 5.4.
+-- Document 01, "Steps", RULES 2: the successors of word p of the words ws of Lua 5.4.
 -- Assumes nothing.
 use Prim.Native.Nat.{ℕ, _+_, _-_}
 use mathlib.Core.Bool.{Bool, true, cond, _&&_}

@@ -50,7 +50,7 @@ pub(crate) fn entry_in(table: &[u8; 512], words: &[u32], p: usize) -> u32
     entry_of(successors_by(companion, class, all, p), p)
 }
 
-// The entries of all words: their steps are those of document 01's table.
+// The entries of all words: their steps are those of document 01's table (RULES 2).
 pub(crate) fn settle_edges(table: &[u8; 512], words: &[u32], lengths: &mut [u32])
     requires { ⌜ (now table ≡ opcodeTable) × (length (now words) ≤ mostWords)
         × (length (now lengths) ≡ length (now words)) ⌝ }

@@ -1,10 +1,10 @@
 // The questions. A line has what each is lent, in the order of its parameters.
 use crate::print;
 use fields::version::Version;
-use sweep::edges;
 use runs::longest_run;
 use runs::longest_runs;
 use runs::successors::successors;
+use sweep::edges;
 use vectors::bytes_of;
 use vectors::number_of;
 use vectors::words_of;

@@ -1,4 +1,4 @@
--- A number as text in columns: document 01, "Bench program": "a decimal number, right-justified
+-- A number as text in columns: document 01, "Bench program", RULES 11: "a decimal number, right-justified
 -- in 10 columns, blanks to its left, no needless leading 0", and "in columns of 6".
 -- Text is a list of bytes, in ASCII.
 -- Assumes nothing.

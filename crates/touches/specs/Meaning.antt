@@ -124,7 +124,7 @@ pub record Exact (v : Version) (ws : List ℕ) (p : ℕ) : Type 0 where
   pub writes : (c : Cell) → NamedWritten (touchesFor v ws p) c ↔ WrittenOnAll v ws p c
   pub «edge-writes» : (c : Cell) (z : ℤ)
       → (NamedOnEdge (touchesFor v ws p) c × (z ≡ pos (touchesFor v ws p .edge))) ↔ WrittenOnlyTo v ws p c z
-  -- "listed with that step": one of the word's, by document 01's table, or C-24's
+  -- "listed with that step": one of the word's, by document 01's table (RULES 2), or C-24's
   pub edge : 0 < touchesFor v ws p .«edge_writes» .count → isStep v ws p (touchesFor v ws p .edge) ≡ true
 
 -- register q is in a range up to the top, when that is t

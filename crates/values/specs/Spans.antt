@@ -1,4 +1,4 @@
--- Document 01, "Refused inputs": spans that end past the bytes which they are of. Numbers 4 and 5
+-- Document 01, "Refused inputs", RULES 8: spans that end past the bytes which they are of. Numbers 4 and 5
 -- ask it of strings and names.
 -- Assumes nothing.
 use Prim.Native.Nat.{ℕ, _+_, _/_, _%_, _^_}

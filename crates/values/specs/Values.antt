@@ -1,4 +1,4 @@
--- Document 01, "Value types": constants and upvalue names, read off the lent tables.
+-- Document 01, "Value types", RULES 10: constants and upvalue names, read off the lent tables.
 -- A refinement of the original: get_const_val and get_upval_name of lifter.rs, over tags and
 -- payloads in place of a Prototype.
 -- Assumes nothing.

@@ -2,6 +2,7 @@
 ghost use Prim.Native.Nat.{_≤_};
 use crate::names::NONE;
 use crate::names::opcode_named;
+use pages::before;
 use pages::byte_at;
 use pages::first;
 use pages::rest;
@@ -11,16 +12,6 @@ pub enum Entry {
     Nothing,
     Weight(u8, u8),
     Bad,
-}
-
-// How many bytes stand before the first `stop`.
-fn before(bytes: &[u8], stop: u8) -> usize {
-    for i in 0..bytes.len() {
-        if byte_at(bytes, i) == stop {
-            return i;
-        }
-    }
-    bytes.len()
 }
 
 // A digit's value; of any other byte 1,000, which is more than any weight.
@@ -110,8 +101,8 @@ fn take(line: &[u8], weights: &mut [u8]) -> bool {
     }
 }
 
-// Stores the weights that the lines of a file give. The number of the first line that can't be read, from 1; 0 where all can. There are no
-// more lines than bytes.
+// Stores the weights that the lines of a file give. The number of the first line that can't be read, from 1;
+// 0 where all can. There are no more lines than bytes.
 pub fn read_weights(bytes: &[u8], weights: &mut [u8]) -> usize {
     let mut at = 0;
     for line in 0..bytes.len() {

@@ -1,0 +1,2 @@
+-- Which words of a run make a row.
+pub mod Rows

@@ -1,0 +1,43 @@
+-- The definitions compute on bytes written by hand. Assumes nothing.
+use mathlib.Core.Path.{refl}
+use Rattle.chunk.specs.Reading.{repeat, littleEnd}
+use Rattle.chunk.specs.Lundump.{loadBlock, loadByte, unsignedFrom, loadUnsigned, loadNumber, loadInteger, stringOf, loadStringN, loadString, loadVector, loadItems, wordsFrom, loadCode, constantOf, loadConstant, loadUpvalues, loadAbsLine, loadLocVar, loadLines, namesFrom, loadNames, loadHead, functionWith, several, noneOf, loadProtos, checkBytes, checkHeader, undump}
+use Rattle.chunk.specs.Chunk.{pick, chosen}
+use Rattle.index.specs.Choices.{functionAt}
+use Rattle.index.specs.Heads.{readHead, headOf}
+use Rattle.index.specs.Refusing.{signed, whyRefused}
+use Rattle.index.specs.Examples.{ExampleHeads, ExampleReasons}
+
+pub example-heads : ExampleHeads
+unfolding repeat littleEnd loadBlock loadByte unsignedFrom loadUnsigned loadNumber loadInteger stringOf loadStringN loadString loadVector loadItems wordsFrom loadCode constantOf loadConstant loadUpvalues loadAbsLine loadLocVar loadLines namesFrom loadNames loadHead functionWith several noneOf loadProtos checkBytes checkHeader undump pick chosen functionAt readHead headOf
+example-heads =
+    record {
+      linedefined = refl;
+      lastlinedefined = refl;
+      numparams = refl;
+      is-vararg = refl;
+      maxstacksize = refl;
+      no-source = refl;
+      main-source = refl;
+      main-is-vararg = refl;
+      by-place = refl;
+    }
+
+pub example-reasons : ExampleReasons
+unfolding loadByte checkBytes checkHeader signed whyRefused
+example-reasons =
+    record {
+      text = refl;
+      nothing = refl;
+      jit = refl;
+      version53 = refl;
+      version51 = refl;
+      version52 = refl;
+      version55 = refl;
+      format = refl;
+      newline = refl;
+      numbers32 = refl;
+      ends = refl;
+      ends-early = refl;
+      whole = λ byte. refl;
+    }

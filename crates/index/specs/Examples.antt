@@ -1,0 +1,85 @@
+-- Which number of a head is which, and why a file is refused, on bytes written by hand after lundump.c's
+-- loadFunction and checkHeader.
+-- Assumes nothing.
+use mathlib.Core.Path.{_≡_}
+use mathlib.Core.List.{List, [], _∷_, _++_}
+use Prim.Native.Nat.{ℕ}
+use Rattle.chunk.specs.Examples.{header}
+use Rattle.index.specs.declared.choosing.Choice.{Choice}
+use Rattle.index.specs.declared.choosing.Choice.the-variants.{Number, Place}
+use Rattle.index.specs.declared.heads.FlatHead.{FlatHead}
+use Rattle.index.specs.declared.refusing.Why.the-variants.{
+  NotLua,
+  Lua53,
+  OtherVersion,
+  OtherNumbers,
+  Damaged,
+}
+use Rattle.index.specs.Heads.{headOf, headTold}
+use Rattle.index.specs.Refusing.{whyRefused}
+
+-- Two functions, of which the second, from byte 48 on, stands in the first. loadFunction reads of each the
+-- source ("@a", which starts at byte 33, and none), linedefined, lastlinedefined, numparams, is_vararg and
+-- maxstacksize; then one word, no constant, no upvalue, the functions within it and no debug information.
+-- A number that is no byte has its last seven bits in a byte above 127: 300 is 2, 172
+abbrev pub twoHeads : List ℕ
+twoHeads =
+    header ++ (0
+    ∷ 131 ∷ 64 ∷ 97 ∷ 128 ∷ 128 ∷ 0 ∷ 1 ∷ 2
+    ∷ 129 ∷ 71 ∷ 0 ∷ 1 ∷ 0 ∷ 128 ∷ 128 ∷ 129
+    ∷ 128 ∷ 133 ∷ 2 ∷ 172 ∷ 3 ∷ 0 ∷ 9
+    ∷ 129 ∷ 71 ∷ 0 ∷ 1 ∷ 0 ∷ 128 ∷ 128 ∷ 128
+    ∷ 128 ∷ 128 ∷ 128 ∷ 128
+    ∷ 128 ∷ 128 ∷ 128 ∷ 128 ∷ [])
+
+abbrev toldOf : Choice → FlatHead
+toldOf c = headTold (headOf c twoHeads)
+
+-- the five numbers of a head are five different ones here, so that no two can be exchanged, in
+-- code and definition alike
+pub record ExampleHeads : Type 0 where
+  pub linedefined : toldOf (Number 1) .linedefined ≡ 5
+  pub lastlinedefined : toldOf (Number 1) .lastlinedefined ≡ 300
+  pub numparams : toldOf (Number 1) .numparams ≡ 3
+  pub is-vararg : toldOf (Number 1) .«is_vararg» ≡ 0
+  pub maxstacksize : toldOf (Number 1) .maxstacksize ≡ 9
+  -- "no source in dump? .. reuse parent's source"
+  pub no-source : toldOf (Number 1) .source ≡ 18446744073709551615
+  -- two bytes from byte 33 on
+  pub main-source : toldOf (Number 0) .source ≡ 8589934625
+  -- "main function is always declared vararg"
+  pub main-is-vararg : toldOf (Number 0) .«is_vararg» ≡ 1
+  pub by-place : toldOf (Place 48) ≡ toldOf (Number 1)
+
+-- the header of Lua 5.3.6: int, size_t and Instruction have 4, 8 and 4 bytes
+abbrev header53 : List ℕ
+header53 =
+    27 ∷ 76 ∷ 117 ∷ 97 ∷ 83 ∷ 0 ∷ 25 ∷ 147 ∷ 13 ∷ 10 ∷ 26 ∷ 10 ∷ 4 ∷ 8 ∷ 4 ∷ 8 ∷ 8
+    ∷ 120 ∷ 86 ∷ 0 ∷ 0 ∷ 0 ∷ 0 ∷ 0 ∷ 0
+    ∷ 0 ∷ 0 ∷ 0 ∷ 0 ∷ 0 ∷ 40 ∷ 119 ∷ 64 ∷ []
+
+-- that of a Lua 5.4 built with LUA_32BITS: 0x5678 and 370.5 in 4 bytes each
+abbrev header32 : List ℕ
+header32 = 27 ∷ 76 ∷ 117 ∷ 97 ∷ 84 ∷ 0 ∷ 25 ∷ 147 ∷ 13 ∷ 10 ∷ 26 ∷ 10 ∷ 4 ∷ 4 ∷ 4 ∷ 120 ∷ 86 ∷ 0 ∷ 0
+    ∷ 0 ∷ 64 ∷ 185 ∷ 67 ∷ []
+
+pub record ExampleReasons : Type 0 where
+  -- "return", and nothing at all
+  pub text : whyRefused (114 ∷ 101 ∷ 116 ∷ 117 ∷ 114 ∷ 110 ∷ []) ≡ NotLua
+  pub nothing : whyRefused [] ≡ NotLua
+  -- "\x1bLJ" of LuaJIT
+  pub jit : whyRefused (27 ∷ 76 ∷ 74 ∷ 2 ∷ 0 ∷ []) ≡ NotLua
+  pub version53 : whyRefused header53 ≡ Lua53
+  -- 0x51, 0x52, 0x55: Lua 5.1, 5.2, 5.5
+  pub version51 : whyRefused (27 ∷ 76 ∷ 117 ∷ 97 ∷ 81 ∷ 0 ∷ []) ≡ OtherVersion
+  pub version52 : whyRefused (27 ∷ 76 ∷ 117 ∷ 97 ∷ 82 ∷ 0 ∷ []) ≡ OtherVersion
+  pub version55 : whyRefused (27 ∷ 76 ∷ 117 ∷ 97 ∷ 85 ∷ 0 ∷ []) ≡ OtherVersion
+  -- LUAC_FORMAT is 0
+  pub format : whyRefused (27 ∷ 76 ∷ 117 ∷ 97 ∷ 84 ∷ 1 ∷ []) ≡ OtherNumbers
+  -- a newline that a transfer as text has made two bytes of: "corrupted chunk"
+  pub newline : whyRefused (27 ∷ 76 ∷ 117 ∷ 97 ∷ 84 ∷ 0 ∷ 25 ∷ 147 ∷ 13 ∷ 13 ∷ 10 ∷ []) ≡ OtherNumbers
+  pub numbers32 : whyRefused header32 ≡ OtherNumbers
+  -- the signature alone, a header that ends early, and one that is whole, whatever follows
+  pub ends : whyRefused (27 ∷ 76 ∷ 117 ∷ 97 ∷ []) ≡ Damaged
+  pub ends-early : whyRefused (27 ∷ 76 ∷ 117 ∷ 97 ∷ 84 ∷ 0 ∷ 25 ∷ 147 ∷ []) ≡ Damaged
+  pub whole : (byte : ℕ) → whyRefused (header ++ (byte ∷ [])) ≡ Damaged
