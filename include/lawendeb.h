@@ -24,7 +24,7 @@
    but what a call is lent: no heap, no static data, and as measured less than 1 kB of stack, but
    less than 2 kB for what a word touches, for a question about services and for a rehearsal, less
    than 16 kB for a pass over a chunk and 19 kB for a call of libindex.a, which go down with its
-   functions, 32 levels at most, and less than 400 kB for registers set before use, whose two tables
+   functions, 32 levels at most, and less than 300 kB for registers set before use, whose two tables
    of fixed size lie there: no call for a small stack (docs/BENCHMARKS.md). So every call is
    reentrant, and calls on different memory may run at once, in threads or interrupts. A begin, a
    feed, a reset and what a word touches take a bounded time, whatever the number of words; a run
