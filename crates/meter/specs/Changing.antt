@@ -5,8 +5,9 @@
 -- for any sound script of at most 32,768 words, any meter just begun and any list of calls;
 -- a table that 18 refuses is answered 18, and changes nothing.
 -- A feed that counts on from the larger of the count and what the last word weighs by its own table is
--- the same with weights that stay, where a count is never below what the last word weighs:
--- this statement alone refuses it.
+-- the same with weights that stay, where a count is never below what the last word weighs. So `FollowsModel`
+-- can't tell it apart, and this can: two words, of which the first weighs more by the second feed's table.
+-- It was not tried.
 -- Assumes nothing.
 use mathlib.Core.Path.{_≡_}
 use mathlib.Core.Bool.{Bool, cond, _||_}
