@@ -68,15 +68,6 @@ pub record Notes (from : ℕ) (l l′ : List ℕ) : Type 0 where
 abbrev pub fewestIn : Graph → ℕ → Nearest
 fewestIn g w = cond (ltb w (g .size) && eqb (markOf g w) 1) (Nearest.Fewest (distanceOf g w)) Nearest.Nowhere
 
--- what is listed of word p by marks m and noted distances
-abbrev pub listedBy : ℕ → List ℕ → List ℕ → ℕ → ℕ
-listedBy d m l p = listedOf d (getD m p 0) (noted l p)
-
--- the list after entries es: as it was, where a reachable word is bad
-abbrev pub listIn : ℕ → List ℕ → List ℕ → List ℕ
-listIn d es list = cond (ltb (lowestBy (length es) (stepsOf es)) (length es)) list
-    (over (listedAt (graphIn es) d) (length es) list)
-
 -- the list's answer by that of the run
 abbrev pub answerBy : Run → Answer
 answerBy r = answer (numberOf r) (placeOf r)
