@@ -1,4 +1,5 @@
 use mathlib.Core.Path.{_≡_, refl, ap, _∙_}
+use mathlib.Core.List.{List}
 use Prim.Native.Nat.{ℕ, _-_, _/_, _%_, _<_}
 use native.Mathlib.Omega.{arith}
 use lib.ListN.{length, getD}
@@ -17,10 +18,21 @@ Inv-loop d lengths₀ list₀ n i₀ lengths list i =
 abbrev μ-loop : tie.MeasureT-loop
 μ-loop d lengths₀ list₀ n i₀ lengths list i = length lengths₀ - i
 
+-- what the function is lent
+module _ (s : tie.Start Inv-loop μ-loop) where
+  abbrev l : List ℕ
+  l = s .args .lengths .now
+
+  abbrev listed : ℕ → ℕ
+  listed p = listedBy (s .args .d) (distanceIn l p)
+
 -- a turn's word
 module _ (c : tie.In-loop Inv-loop μ-loop) where
   abbrev loop : tie.At-loop Inv-loop μ-loop
   loop = c .before
+
+  abbrev start : tie.Start Inv-loop μ-loop
+  start = loop .before .before .before
 
   in-lengths : loop .loop .i < length (loop .loop .lengths)
   in-lengths = omega (arith, c .loop-test .taken, loop .loop .inv .0 .same)
@@ -28,13 +40,36 @@ module _ (c : tie.In-loop Inv-loop μ-loop) where
   in-list : loop .loop .i < length (loop .loop .list)
   in-list = let v = loop .loop .inv .1 .1 in omega (arith, c .loop-test .taken, v .same, v .long)
 
+loop-again : tie.Need-loop-again Inv-loop μ-loop
+loop-again c =
+    let t = c .before .before in
+    let s = start t in
+    let v = loop t .loop .inv in
+    let e = v .1 .0 (loop t .loop .i) (omega arith) in
+    (
+      writing-more (lengthIn (l s)) (length (l s)) (l s) (v .0) (t .loop-test .taken) (ap (λ (x : ℕ). x % «LENGTHS») e),
+      (
+        ahead-more (l s) (loop t .loop .lengths) (loop t .loop .i) (getD (loop t .loop .lengths) (loop t .loop .i) 0 % «LENGTHS») (v .1 .0),
+        writing-more (listed s) (length (l s)) _ (v .1 .1) (t .loop-test .taken) (c .listed .ensures ∙ ap (λ (x : ℕ). listedBy (s .args .d) (x / «LENGTHS»)) e),
+      ),
+    )
+
+returns : tie.Need-returns Inv-loop μ-loop
+returns c =
+    let s = c .before .before .before .before in
+    let v = c .before .loop .inv in
+    (
+      whole (lengthIn (l s)) (l s) (writing-done (lengthIn (l s)) (length (l s)) (l s) (v .0) (c .loop-test .left)),
+      writing-done (listed s) (length (l s)) _ (v .1 .1) (c .loop-test .left),
+    )
+
 pub write-list-spec : {M : Type 1} → statement M
 write-list-spec =
     tie.close
     (tie.spec
     Inv-loop
     μ-loop
-    (λ c. let s = c .before .before in (writing-none _ _ _ (omega arith), ((λ p h. refl), writing-none _ _ _ (s .pre))))
+    (λ c. (writing-none _ _ _ (omega arith), ((λ p h. refl), writing-none _ _ _ (c .before .before .pre))))
     (λ c. omega (arith, in-lengths c))
     (λ c. in-lengths (c .before))
     (λ c κs. search needs)
@@ -43,14 +78,7 @@ write-list-spec =
     (λ c. in-lengths (c .before .before))
     (λ c. omega (arith, c .before .before .loop-test .taken))
     (λ c. omega (arith, c .before .before .loop-test .taken))
-    (λ c.
-    let t = c .before .before in
-    let v = loop t .loop .inv in
-    let e = v .1 .0 (loop t .loop .i) (omega arith) in
-    (
-      writing-more _ _ _ (v .0) (t .loop-test .taken) (ap (λ (x : ℕ). x % «LENGTHS») e),
-      (ahead-more _ _ _ _ (v .1 .0), writing-more _ _ _ (v .1 .1) (t .loop-test .taken) (c .listed .ensures ∙ ap (λ (x : ℕ). listedBy _ (x / «LENGTHS»)) e)),
-    ))
+    loop-again
     (λ c. c .before .loop .inv .0 .same)
     (λ c. c .before .loop .inv .1 .1 .same)
-    (λ c. let v = c .before .loop .inv in (whole _ _ (writing-done _ _ _ (v .0) (c .loop-test .left)), writing-done _ _ _ (v .1 .1) (c .loop-test .left))))
+    returns)
