@@ -18,7 +18,7 @@ use Rattle.common.proofs.Lowest.{lowest-laws}
 use Rattle.graph.specs.Graph.{Graph, In, Lawful}
 use Rattle.graph.specs.Marks.{markOf}
 use Rattle.graph.specs.Longest.{best, lengthOf}
-use Rattle.graph.specs.Distance.{endsBy, leastOf, nearer, distanceOf}
+use Rattle.graph.specs.Distance.{endsBy, leastOf, distanceOf}
 use Rattle.graph.proofs.Laws.{laws}
 use Rattle.graph.proofs.Ceiling.{ceiling}
 use Rattle.graph.proofs.Distance.{distances}

@@ -6,7 +6,8 @@
 // searched |          Queue(15)          | K |          Target(15)         |
 // paired   |          Distance(16)         |           Length(16)          |
 //
-// Each is 32,768 at most. An unreachable word has 0, and so no distance: no reachable word goes on to it.
+// Each is 32,768 at most. An unreachable word has 0, and so no distance: no reachable word goes on to it, and
+// none but a reachable one is listed.
 ghost use mathlib.Core.Path.{_≡_};
 ghost use mathlib.Core.Bool.{cond};
 ghost use Prim.Native.Nat.{_/_, _%_, min, max};
@@ -29,8 +30,7 @@ pub(crate) const LENGTHS: u32 = 65536;
 const ONE_WORD: u32 = 65537;
 
 // What an edge from p to q goes on to, where q has this pair: nothing if it serves, so that neither number
-// counts a word after p. The pair is read in any case, so that the compiler puts no jump here, of which a
-// processor would guess every other one wrong in scattered code.
+// counts a word after p.
 fn beyond(p: usize, q: usize, pair: u32) -> u32
     ensures { λ r. ⌜ r ≡ cond (servesOf p q) 0 pair ⌝ }
 {

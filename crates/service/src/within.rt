@@ -29,10 +29,11 @@ use fields::version::Version;
 use runs::inner::search_words;
 use sweep::inner::clear_lengths;
 
-// So many words are no fewer than any distance that a pair can hold.
+// No pair holds a larger distance.
 const FARTHEST: u32 = 65535;
 
-// d in 32 bits, as no distance is above FARTHEST: the compiler then lists more words at a time.
+// d in 32 bits: where it is larger than any distance, FARTHEST lists the same words. The compiler then takes
+// more of them at a time.
 fn shorten(d: usize) -> u32
     ensures { λ r. ⌜ r ≡ min d 65535 ⌝ }
 {
@@ -73,8 +74,8 @@ fn write_list(d: u32, lengths: &mut [u32], list: &mut [u8])
     }
 }
 
-// The list, the lengths and the answer, by the entries and the marks that the search leaves. Which word begins
-// the longest run is not asked.
+// The list, the lengths and the answer, by the entries and the marks that the search leaves. How long the
+// longest run is, and where it begins, is not asked.
 fn list_searched(d: usize, marks: &[u8], lengths: &mut [u32], list: &mut [u8]) -> Answer
     requires { ⌜ FillAsks (now marks) (now lengths) × (length (now lengths) ≤ length (now list)) ⌝ }
     ensures { λ r. ⌜ r ≡ answerIn (entries (now (lengths .entry))) ⌝ }

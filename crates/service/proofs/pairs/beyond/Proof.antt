@@ -1,4 +1,4 @@
-use mathlib.Core.Path.{_≡_, sym, _∙_}
+use mathlib.Core.Path.{sym, _∙_}
 use borrow.Author.Needs.{needs}
 use Rattle.service.proofs.pairs.beyond.Statement.{statement}
 use Rattle.service.proofs.pairs.beyond.Tie as tie

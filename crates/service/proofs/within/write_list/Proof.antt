@@ -1,4 +1,4 @@
-use mathlib.Core.Path.{_≡_, refl, ap, _∙_}
+use mathlib.Core.Path.{refl, ap, _∙_}
 use mathlib.Core.List.{List}
 use Prim.Native.Nat.{ℕ, _-_, _/_, _%_, _<_}
 use native.Mathlib.Omega.{arith}
@@ -45,8 +45,7 @@ loop-again c =
     let t = c .before .before in
     let s = start t in
     let v = loop t .loop .inv in
-    let e = v .1 .0 (loop t .loop .i) (omega arith) in
-    (
+    let e = v .1 .0 (loop t .loop .i) (omega arith) in (
       writing-more (lengthIn (l s)) (length (l s)) (l s) (v .0) (t .loop-test .taken) (ap (λ (x : ℕ). x % «LENGTHS») e),
       (
         ahead-more (l s) (loop t .loop .lengths) (loop t .loop .i) (getD (loop t .loop .lengths) (loop t .loop .i) 0 % «LENGTHS») (v .1 .0),
@@ -57,8 +56,7 @@ loop-again c =
 returns : tie.Need-returns Inv-loop μ-loop
 returns c =
     let s = c .before .before .before .before in
-    let v = c .before .loop .inv in
-    (
+    let v = c .before .loop .inv in (
       whole (lengthIn (l s)) (l s) (writing-done (lengthIn (l s)) (length (l s)) (l s) (v .0) (c .loop-test .left)),
       writing-done (listed s) (length (l s)) _ (v .1 .1) (c .loop-test .left),
     )
