@@ -1,6 +1,6 @@
 -- Words kept beside their lengths, and the passes by two tables over them, over any weights. No word is read here. Assumes nothing.
 use mathlib.Core.Path.{_≡_, refl, sym, ap, subst, _∙_}
-use mathlib.Core.Logic.{⊎-elim}
+use mathlib.Core.Logic.{inl, ⊎-elim}
 use mathlib.Core.Bool.{Bool, true, false, cond}
 use mathlib.Core.List.{List, []}
 use Prim.Native.Nat.{ℕ, zero, suc, _+_, _-_, _*_, _/_, _%_, _≤_, _<_, max}
@@ -23,12 +23,12 @@ use Rattle.graph.proofs.Ceiling.{ceiling}
 use Rattle.sweep.specs.declared.edges.Successors.{Successors}
 use Rattle.sweep.specs.declared.edges.Successors.the-variants.{One, Two}
 use Rattle.sweep.specs.Steps.{ordered, listOf, isInvalid, servesOf}
-use Rattle.sweep.specs.Entries.{«ENTRIES», entryAt, entries, stepsOf, graphIn, invalidBy}
+use Rattle.sweep.specs.Entries.{«TARGETS», «ENTRIES», «KIND_NONE», «KIND_NEXT», «KIND_TARGET», «RETURNS», entryAt, entries, stepsOf, graphIn, invalidBy}
 use Rattle.sweep.specs.SearchInvariants.{Marked}
 use Rattle.sweep.specs.PassInvariants.{heaviest, mostWeight, FillAsks, Lengths, stepsIn, invalidFrom, at}
 use Rattle.sweep.specs.TwiceInvariants.{«SHARE», lowAt, keptEntry, keptIn, lengthBy, KeptAs, KeepAsks, KeepsWord, KeptWords, KeepsAll, RaiseAsks, Raises, Restored, Twice}
-use Rattle.sweep.proofs.Entries.{entries-length, entry-is}
-use Rattle.sweep.proofs.Measures.{next-unserved, best-in, lowest-none-here, lowest-by}
+use Rattle.sweep.proofs.Entries.{ordered-among, entries-length, entry-is, entry-next, entry-target, entry-stop, entry-invalid, entry-both, entry-none}
+use Rattle.sweep.proofs.Measures.{next-unserved, best-in, both-valid, lowest-none-here, lowest-by}
 
 -- what an edge adds, by the lengths f
 abbrev pub beyondBy : (ℕ → ℕ) → ℕ → ℕ → ℕ
@@ -62,8 +62,8 @@ module _ (f : ℕ → ℕ) (x mark p : ℕ) where
   pub by-none : (s : Successors) → mark ≡ 0 → 0 ≡ lengthBy f x mark s p
   by-none s e = simp (eq-eqb mark 0 e)
 
-  pub by-some : (mark ≡ 0 → ⊥) → {s t : Successors} → s ≡ t → {v : ℕ} → v ≡ x + bestBy f p t → v ≡ lengthBy f x mark s p
-  by-some n {s} {t} e {v} q = subst (λ (y : Successors). v ≡ lengthBy f x mark y p) (sym e) (simp (ne-eqb mark 0 n) q)
+  pub by-some : (mark ≡ 0 → ⊥) → (s : Successors) {qs : List ℕ} → listOf s ≡ qs → {v : ℕ} → v ≡ x + best (graphIn []) p f qs → v ≡ lengthBy f x mark s p
+  by-some n s {qs} e {v} q = simp (ne-eqb mark 0 n) (q ∙ ap (λ (y : List ℕ). x + best (graphIn []) p f y) (sym e))
 
 -- what an edge adds of kept elements, the one that the edge starts from cleared
 module _ (l : List ℕ) (p : ℕ) where
@@ -92,6 +92,135 @@ module _ (l : List ℕ) (p : ℕ) where
       go true e = omega arith
       go false e = k q (leb-false q p e)
 
+-- the target of an entry that has one is among its steps
+steps-in : (l : List ℕ) (p e : ℕ) → ((q : ℕ) → In q (listOf (entryAt e p)) → q < length l) → «KIND_TARGET» ≤ e / «TARGETS» → e % «TARGETS» < length l
+steps-in l p e k h =
+    ⊎-elim
+    (λ d. k (e % «TARGETS») (subst (λ (s : Successors). In (e % «TARGETS») (listOf s)) (sym (entry-target e p d)) (inl refl)))
+    (λ d. k (e % «TARGETS») (subst (λ (s : Successors). In (e % «TARGETS») (listOf s)) (sym (entry-both e p (λ z. omega arith) (λ z. omega arith) d)) (ordered-among (p + 1) (e % «TARGETS») .other)))
+    (same-or-not (e / «TARGETS») «KIND_TARGET»)
+
+-- the arms of the first pass, at word p
+module _ (m l : List ℕ) (p a x i : ℕ) (k : KeepAsks m l p a) where
+  abbrev entry : ℕ
+  entry = getD l p 0 % «ENTRIES»
+
+  pub above-under : a / «SHARE» ≤ mostWeight
+  above-under = omega (arith, k .next, k .low (p + 1) (omega arith))
+
+  pub keeps-none : getD m p 0 ≡ 0 → KeepsWord x m l p i 0 0 i
+  keeps-none z =
+      record {
+        length-is = by-none (lowAt l) x (getD m p 0) p (stepsIn l p) z;
+        invalid-is = lowest-none-here m l p i z;
+        none = λ _. refl;
+        some = λ n. absurd (n z);
+        steps = λ n. absurd (n z);
+      }
+
+  module _ (n : getD m p 0 ≡ 0 → ⊥) where
+    keeps-by : {s : Successors} → stepsIn l p ≡ s → (e b : ℕ) {i′ : ℕ} → e / «SHARE» ≡ x + bestBy (lowAt l) p s → i′ ≡ cond (isInvalid s) p i → (b ≡ 0 → ⊥)
+        → listOf (entryAt (keptEntry b e) p) ≡ listOf s → KeepsWord x m l p i e b i′
+    keeps-by {s} d e b q j o r =
+        record {
+          length-is = by-some (lowAt l) x (getD m p 0) p n (stepsIn l p) (ap listOf d) q;
+          invalid-is = lowest-by m l p n d i j;
+          none = λ z. absurd (n z);
+          some = λ _. o;
+          steps = λ _. r ∙ ap listOf (sym d);
+        }
+
+    pub keeps-next : entry / «TARGETS» ≡ «KIND_NEXT» → KeepsWord x m l p i (a + x * «SHARE») 64 i
+    keeps-next d =
+        keeps-by (entry-next entry p d) (a + x * «SHARE») 64 (omega (arith, best-next (lowAt l) p, k .next)) refl (λ z. omega arith)
+        (ap listOf (entry-next (keptEntry 64 (a + x * «SHARE»)) p (omega arith)))
+
+    pub keeps-stop : entry / «TARGETS» ≡ «KIND_NONE» → entry % «TARGETS» ≡ «RETURNS» → KeepsWord x m l p i (x * «SHARE») 1 i
+    keeps-stop d r = keeps-by (entry-stop entry p d r) (x * «SHARE») 1 (omega arith) refl (λ z. omega arith) (sym (entry-none (keptEntry 1 (x * «SHARE»)) p (omega arith)))
+
+    pub keeps-invalid : entry / «TARGETS» ≡ «KIND_NONE» → (entry % «TARGETS» ≡ «RETURNS» → ⊥) → KeepsWord x m l p i (x * «SHARE») 1 p
+    keeps-invalid d r = keeps-by (entry-invalid entry p d r) (x * «SHARE») 1 (omega arith) refl (λ z. omega arith) (sym (entry-none (keptEntry 1 (x * «SHARE»)) p (omega arith)))
+
+    -- with a target, of which y is added
+    module _ (h : «KIND_TARGET» ≤ entry / «TARGETS») (y : ℕ) (e : y / «SHARE» ≡ beyondBy (lowAt l) p (entry % «TARGETS»)) where
+      abbrev element : ℕ → ℕ
+      element v = v / «SHARE» * «SHARE» + (x * «SHARE» + entry % «SHARE»)
+
+      as-was : (v : ℕ) {s : Successors} → stepsIn l p ≡ s → listOf (entryAt (keptEntry (entry / «SHARE») (element v)) p) ≡ listOf s
+      as-was v d = let z : keptEntry (entry / «SHARE») (element v) ≡ entry = omega arith in ap (λ (u : ℕ). listOf (entryAt u p)) z ∙ ap listOf d
+
+      pub keeps-target : entry / «TARGETS» ≡ «KIND_TARGET» → KeepsWord x m l p i (y / «SHARE» * «SHARE» + (x * «SHARE» + entry % «SHARE»)) (entry / «SHARE») i
+      keeps-target d =
+          keeps-by (entry-target entry p d) (element y) (entry / «SHARE») (omega (arith, best-one (lowAt l) p (entry % «TARGETS») (y / «SHARE») e)) refl (λ z. omega arith)
+          (as-was y (entry-target entry p d))
+
+      two : (entry / «TARGETS» ≡ «KIND_TARGET» → ⊥) → stepsIn l p ≡ ordered (p + 1) (entry % «TARGETS»)
+      two o = entry-both entry p (λ z. omega arith) (λ z. omega arith) o
+
+      pub keeps-both : (entry / «TARGETS» ≡ «KIND_TARGET» → ⊥) → {v : ℕ} → v ≡ max a y → KeepsWord x m l p i (v / «SHARE» * «SHARE» + (x * «SHARE» + entry % «SHARE»)) (entry / «SHARE») i
+      keeps-both o {v} q =
+          keeps-by (two o) (element v) (entry / «SHARE»)
+          (omega (arith, best-two (lowAt l) p (entry % «TARGETS») (y / «SHARE») e, k .next)) (both-valid _ _ p i) (λ z. omega arith)
+          (as-was v (two o))
+
+  -- the target of an entry that has one is a word
+  pub target-in : «KIND_TARGET» ≤ entry / «TARGETS» → entry % «TARGETS» < length l
+  target-in h = steps-in l p entry (k .steps) h
+
+-- only the word's own weight counts
+pub keeps-at : {x y : ℕ} (m l : List ℕ) (p i e b i′ : ℕ) → x ≡ y → KeepsWord x m l p i e b i′ → KeepsWord y m l p i e b i′
+keeps-at m l p i e b i′ z d = subst (λ (u : ℕ). KeepsWord u m l p i e b i′) z d
+
+-- the arms of the second pass, at word p
+module _ (m l : List ℕ) (p a x : ℕ) (k : RaiseAsks m l p a) where
+  abbrev byte : ℕ
+  byte = getD m p 0
+
+  abbrev told : ℕ
+  told = keptEntry byte (getD l p 0)
+
+  abbrev target : ℕ
+  target = byte % 64 * «SHARE» + getD l p 0 % «SHARE»
+
+  target-is : told % «TARGETS» ≡ target
+  target-is = omega arith
+
+  abbrev Rises : ℕ → Type 0
+  Rises v = v ≡ lengthBy (at l) x byte (keptIn m l p) p
+
+  pub raised-under : a ≤ mostWeight
+  raised-under = omega (arith, k .next, k .low (p + 1) (omega arith))
+
+  pub rises-none : byte ≡ 0 → Rises 0
+  rises-none z = by-none (at l) x byte p (keptIn m l p) z
+
+  module _ (n : byte ≡ 0 → ⊥) where
+    pub rises-stop : byte < 64 → Rises x
+    rises-stop h = by-some (at l) x byte p n (keptIn m l p) (sym (entry-none told p (omega arith))) (omega arith)
+
+    pub rises-next : 64 ≤ byte → byte < 128 → Rises (a + x)
+    rises-next h o = by-some (at l) x byte p n (keptIn m l p) (ap listOf (entry-next told p (omega arith))) (omega (arith, best-next (at l) p, k .next))
+
+  module _ (h : 128 ≤ byte) {y : ℕ} (e : y ≡ beyondBy (at l) p target) where
+    there : byte ≡ 0 → ⊥
+    there z = omega arith
+
+    by-target : y ≡ beyondBy (at l) p (told % «TARGETS»)
+    by-target = e ∙ ap (beyondBy (at l) p) (sym target-is)
+
+    pub rises-target : byte < 192 → Rises (y + x)
+    rises-target o =
+        by-some (at l) x byte p there (keptIn m l p) (ap listOf (entry-target told p (omega arith)))
+        (omega (arith, best-one (at l) p (told % «TARGETS») y by-target))
+
+    pub rises-both : 192 ≤ byte → {v : ℕ} → v ≡ max a y → Rises (v + x)
+    rises-both o {v} q =
+        by-some (at l) x byte p there (keptIn m l p) (ap listOf (entry-both told p (λ z. omega arith) (λ z. omega arith) (λ z. omega arith)))
+        (omega (arith, best-two (at l) p (told % «TARGETS») y by-target, k .next))
+
+  pub raised-target-in : 128 ≤ byte → target < length l
+  raised-target-in h = omega (arith, target-is, steps-in l p told (k .steps (λ z. omega arith)) (omega arith))
+
 -- a word's length, where f are those of the words above it
 module _ (es : List ℕ) (law : Lawful (graphIn es)) (w : ℕ → ℕ) (f : ℕ → ℕ) (p : ℕ) (h : p < length es) (k : (q : ℕ) → p < q → q < length es → f q ≡ lengthOf (graphIn es) w q) where
   abbrev g : Graph
@@ -102,7 +231,7 @@ module _ (es : List ℕ) (law : Lawful (graphIn es)) (w : ℕ → ℕ) (f : ℕ 
 
   pub found-some : {mark : ℕ} (s : Successors) → (mark ≡ 0 → ⊥) → markOf g p ≡ 1 → listOf s ≡ g .successors p → lengthBy f (w p) mark s p ≡ lengthOf g w p
   found-some {mark} s n d e =
-      sym (by-some f (w p) mark p n {s} refl refl)
+      sym (by-some f (w p) mark p n s refl refl)
       ∙ ap (λ (y : ℕ). w p + y) (best-in [] es p f (listOf s) ∙ ap (best g p f) e)
       ∙ sym (laws .passing g law w .marked f p h d k)
 
@@ -172,9 +301,11 @@ module _ (w : ℕ → ℕ) (light : (q : ℕ) → w q ≤ heaviest) (es m l : Li
     steps-here : stepsIn l p ≡ stepsOf es p
     steps-here = ap (λ (x : ℕ). entryAt x p) (k .below p (omega arith))
 
+    agree : (q : ℕ) → p < q → q < length es → lowAt l q ≡ lengthOf (graphIn es) w q
+    agree q x i = k .from q (omega arith) i
+
     length-here : e / «SHARE» ≡ lengthOf (graphIn es) w p
     length-here =
-        let agree = λ q x i. k .from q (omega arith) i in
         d .length-is
         ∙ ⊎-elim
         (λ z. found-none es (k .law) w (lowAt l) p inside agree (stepsIn l p) z (unmarked z))
@@ -324,8 +455,8 @@ most-share f zero = refl
 most-share f (suc n) = omega (arith, most-share f n)
 
 -- the marks again
-pub marks-again : {es m m′ l : List ℕ} → KeptWords es m l → Restored m m′ → Marked (graphIn es) m′
-marks-again {es} {m} {m′} {l} k r p h =
+pub marks-again : {es l : List ℕ} (m m′ : List ℕ) → KeptWords es m l → Restored m m′ → Marked (graphIn es) m′
+marks-again {es} {l} m m′ k r p h =
     let w = k .kept p h in
     r p (omega (arith, h, k .m-same))
     ∙ ⊎-elim
@@ -333,22 +464,51 @@ marks-again {es} {m} {m′} {l} k r p h =
     (λ n. back-some n ∙ sym (w .some n))
     (same-or-not (getD m p 0) 0)
   where
-    back-none : getD m p 0 ≡ 0 → cond (eqb (getD m p 0) 0) 0 1 ≡ 0
+    back-none : getD m p 0 ≡ 0 → _≡_ {A = ℕ} (cond (eqb (getD m p 0) 0) 0 1) 0
     back-none z = simp (eq-eqb (getD m p 0) 0 z)
-    back-some : (getD m p 0 ≡ 0 → ⊥) → cond (eqb (getD m p 0) 0) 0 1 ≡ 1
+    back-some : (getD m p 0 ≡ 0 → ⊥) → _≡_ {A = ℕ} (cond (eqb (getD m p 0) 0) 0 1) 1
     back-some n = simp (ne-eqb (getD m p 0) 0 n)
 
+-- a loop that restores marks: those below i are marks again, the others as they were
+pub record Restoring (m₀ m : List ℕ) (i : ℕ) : Type 0 where
+  pub upto : i ≤ length m₀
+  pub same : length m ≡ length m₀
+  pub done : (p : ℕ) → p < i → getD m p 0 ≡ cond (eqb (getD m₀ p 0) 0) 0 1
+  pub rest : (p : ℕ) → i ≤ p → getD m p 0 ≡ getD m₀ p 0
+
+module _ (m₀ : List ℕ) where
+  pub restoring-none : Restoring m₀ m₀ 0
+  restoring-none = record { upto = omega arith; same = refl; done = λ p h. absurd (omega arith); rest = λ p h. refl }
+
+  pub restoring-more : {m : List ℕ} {i b : ℕ} → Restoring m₀ m i → i < length m₀ → b ≡ cond (eqb (getD m i 0) 0) 0 1 → Restoring m₀ (set m i b) (i + 1)
+  restoring-more {m} {i} {b} r h e =
+      record {
+        upto = omega arith;
+        same = simp length-set (r .same);
+        done = λ p d. ⊎-elim
+            (λ z. z .1 ∙ e ∙ ap (λ (x : ℕ). cond (eqb x 0) 0 1) (r .rest i (omega arith)) ∙ ap (λ (x : ℕ). cond (eqb (getD m₀ x 0) 0) 0 1) (sym (z .0)))
+            (λ z. z .1 ∙ r .done p (below-past d (z .0)))
+            (at-set m i b p (omega (arith, h, r .same)));
+        rest = λ p d. getD-set-other m i p b 0 (λ z. omega arith) ∙ r .rest p (omega arith);
+      }
+    where
+      below-past : {p : ℕ} → p < i + 1 → (p ≡ i → ⊥) → p < i
+      below-past d n = omega arith
+
+  pub restoring-done : {m : List ℕ} {i : ℕ} → Restoring m₀ m i → length m₀ ≤ i → Restored m₀ m
+  restoring-done r h p d = r .done p (omega arith)
+
 -- both passes
-pub twice : {low high : ℕ → ℕ} {l m₁ l₁ m′ l′ : List ℕ} {i v a : ℕ} → KeepsAll low l m₁ l₁ i → Raises high m₁ l₁ l′ → Restored m₁ m′
-    → v ≡ most (at l₁) (length (entries l)) / «SHARE» → a ≡ lowestFrom (λ p. eqb (lowAt l₁ p) v) 0 (length (entries l)) → Twice low high l i v a m′ l′
-twice {low} {high} {l} {m₁} {l₁} {m′} {l′} {i} {v} {a} k r s e d =
+pub twice : {low high : ℕ → ℕ} (l m₁ l₁ m′ l′ : List ℕ) (n : ℕ) {i v a : ℕ} → length (entries l) ≡ n → KeepsAll low l m₁ l₁ i → Raises high m₁ l₁ l′ → Restored m₁ m′
+    → v ≡ most (at l₁) n / «SHARE» → a ≡ lowestFrom (λ p. eqb (lowAt l₁ p) v) 0 n → Twice low high l i v a m′ l′
+twice {low} {high} l m₁ l₁ m′ l′ n {i} {v} {a} s k r b e d =
     let g = graphIn (entries l) in
     let passing = laws .passing g (k .kept .law) low in
-    let found = e ∙ most-share (at l₁) (length (entries l)) ∙ passing .longest-found (lowAt l₁) (k .lows) in
+    let found = e ∙ most-share (at l₁) n ∙ ap (most (lowAt l₁)) (sym s) ∙ passing .longest-found (lowAt l₁) (k .lows) in
     record {
-      marked = marks-again (k .kept) s;
+      marked = marks-again m₁ m′ (k .kept) b;
       lengths = r (entries l) (k .kept);
       lowest-invalid = k .lowest-invalid;
       longest-is = found;
-      first-is = d ∙ ap (λ (x : ℕ). lowestFrom (λ p. eqb (lowAt l₁ p) x) 0 (length (entries l))) found ∙ passing .first-found (lowAt l₁) (k .lows);
+      first-is = d ∙ ap (λ (x : ℕ). lowestFrom (λ p. eqb (lowAt l₁ p) v) 0 x) (sym s) ∙ ap (λ (x : ℕ). lowestFrom (λ p. eqb (lowAt l₁ p) x) 0 (length (entries l))) found ∙ passing .first-found (lowAt l₁) (k .lows);
     }
