@@ -358,10 +358,12 @@ module _ (w : ℕ → ℕ) (light : (q : ℕ) → w q ≤ heaviest) (es m l : Li
         kept-by : (q : ℕ) {b₁ b₂ e₁ e₂ : ℕ} → b₁ ≡ b₂ → e₁ ≡ e₂ → KeptAs (graphIn es) q b₂ e₂ → KeptAs (graphIn es) q b₁ e₁
         kept-by q {b₁} {b₂} {e₁} {e₂} s t u =
             subst (λ (x : ℕ). KeptAs (graphIn es) q x e₁) (sym s) (subst (λ (x : ℕ). KeptAs (graphIn es) q b₂ x) (sym t) u)
+
         kept-same : (q : ℕ) → q ≡ p → KeptAs (graphIn es) q (getD (set m p b) q 0) (getD (set l p e) q 0)
         kept-same q z =
             subst (λ (x : ℕ). KeptAs (graphIn es) x (getD (set m p b) x 0) (getD (set l p e) x 0)) (sym z)
             (kept-by p (getD-set-same m p b 0 (omega (arith, inside, k .m-same))) (getD-set-same l p e 0 (omega (arith, inside, k .l-same))) kept-here)
+
         kept-other : (q : ℕ) → (q ≡ p → ⊥) → KeptAs (graphIn es) q (getD m q 0) (getD l q 0) → KeptAs (graphIn es) q (getD (set m p b) q 0) (getD (set l p e) q 0)
         kept-other q n u = kept-by q (getD-set-other m p q b 0 n) (getD-set-other l p q e 0 n) u
 
@@ -437,6 +439,7 @@ module _ (w : ℕ → ℕ) (light : (q : ℕ) → w q ≤ heaviest) (es m l : Li
     where
       agree : (q : ℕ) → p < q → q < length es → at l q ≡ lengthOf (graphIn es) w q
       agree q x i = k .from q (omega arith) i
+
       found : v ≡ lengthOf (graphIn es) w p
       found =
           e
@@ -466,6 +469,7 @@ marks-again {es} {l} m m′ k r p h =
   where
     back-none : getD m p 0 ≡ 0 → _≡_ {A = ℕ} (cond (eqb (getD m p 0) 0) 0 1) 0
     back-none z = simp (eq-eqb (getD m p 0) 0 z)
+
     back-some : (getD m p 0 ≡ 0 → ⊥) → _≡_ {A = ℕ} (cond (eqb (getD m p 0) 0) 0 1) 1
     back-some n = simp (ne-eqb (getD m p 0) 0 n)
 
