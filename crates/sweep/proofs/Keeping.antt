@@ -25,7 +25,7 @@ use Rattle.sweep.specs.declared.edges.Successors.the-variants.{One, Two}
 use Rattle.sweep.specs.Steps.{ordered, listOf, isInvalid, servesOf}
 use Rattle.sweep.specs.Entries.{«TARGETS», «ENTRIES», «KIND_NONE», «KIND_NEXT», «KIND_TARGET», «RETURNS», entryAt, entries, stepsOf, graphIn, invalidBy}
 use Rattle.sweep.specs.SearchInvariants.{Marked}
-use Rattle.sweep.specs.PassInvariants.{heaviest, mostWeight, FillAsks, Lengths, stepsIn, invalidFrom, at}
+use Rattle.sweep.specs.PassInvariants.{heaviest, mostWeight, FillAsks, Lengths, stepsIn, at}
 use Rattle.sweep.specs.TwiceInvariants.{«SHARE», lowAt, keptEntry, keptIn, lengthBy, KeptAs, KeepAsks, KeepsWord, KeptWords, KeepsAll, RaiseAsks, Raises, Restored, Twice}
 use Rattle.sweep.proofs.Entries.{ordered-among, entries-length, entry-is, entry-next, entry-target, entry-stop, entry-invalid, entry-both, entry-none}
 use Rattle.sweep.proofs.Measures.{next-unserved, best-in, both-valid, lowest-none-here, lowest-by}

@@ -6,19 +6,18 @@
 use mathlib.Core.Path.{_≡_}
 use mathlib.Core.Bool.{cond}
 use mathlib.Core.List.{List, []}
-use Prim.Native.Nat.{ℕ, _+_, _-_, _*_, _/_, _%_, _≤_, _<_}
+use Prim.Native.Nat.{ℕ, _+_, _*_, _/_, _%_, _≤_, _<_}
 use lib.Dec.{eqb}
 use lib.ListN.{length, getD}
 use Rattle.common.specs.Limits.{mostWords}
-use Rattle.common.specs.Lowest.{lowestFrom}
 use Rattle.graph.specs.Graph.{Graph, In, Lawful}
 use Rattle.graph.specs.Marks.{markOf}
 use Rattle.graph.specs.Longest.{best, lengthOf, longest, first}
 use Rattle.sweep.specs.declared.edges.Successors.{Successors}
 use Rattle.sweep.specs.Steps.{listOf}
-use Rattle.sweep.specs.Entries.{«ENTRIES», entryAt, entries, stepsOf, graphIn, invalidBy, lowestBy}
+use Rattle.sweep.specs.Entries.{entryAt, entries, stepsOf, graphIn, lowestBy}
 use Rattle.sweep.specs.SearchInvariants.{Marked}
-use Rattle.sweep.specs.PassInvariants.{mostWeight, at, Lengths, stepsIn, invalidFrom}
+use Rattle.sweep.specs.PassInvariants.{mostWeight, Lengths, stepsIn, invalidFrom}
 
 -- a kept element is a length times this, and the low bits of a target
 abbrev pub «SHARE» : ℕ
