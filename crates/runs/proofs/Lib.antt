@@ -20,6 +20,7 @@ pub mod NextWords
 pub mod Outcome
 pub mod Searched
 pub mod Slices
+pub mod Together
 pub mod Ways
 pub mod Weights
 pub mod Words
