@@ -42,7 +42,7 @@ pub struct Function {
 
 // The name of the source, as the head at a place gives it; empty where there is none.
 pub fn source(bytes: &[u8], at: usize) -> &[u8] {
-    let head = index::head_by(bytes, Choice::Place(at));
+    let head = index::head_from(bytes, at);
     if head.source == NO_SOURCE {
         return first(bytes, 0);
     }
@@ -122,7 +122,7 @@ fn measured(
     lengths: &mut [u32],
     path: &mut [u32],
 ) -> Function {
-    let head = index::head_by(bytes, Choice::Place(at));
+    let head = index::head_from(bytes, at);
     let counts = index::words_by(bytes, Choice::Place(at), words);
     let n = counts.words as usize;
     let run = witness::longest_path(first_words(words, n), weights, marks, lengths, path);
@@ -174,7 +174,7 @@ pub fn load(
 // The function of a key that is not refused, without its words: what a line of its own tells.
 pub fn brief(bytes: &[u8], places: &[u64], key: u64) -> Function {
     let at = place_in(places, number_in(key));
-    with_head(key, index::head_by(bytes, Choice::Place(at)), 0)
+    with_head(key, index::head_from(bytes, at), 0)
 }
 
 pub fn place_in(places: &[u64], k: u64) -> usize {

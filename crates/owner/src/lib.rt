@@ -3,5 +3,6 @@
 mod telling;
 
 pub use telling::Options;
+pub use telling::put_refused;
 pub use telling::put_too_long;
 pub use telling::tell;

@@ -230,8 +230,8 @@ fn put_sum(page: &mut [u8], t: Tally, o: Options, n: u64, most: u64) -> Sheet {
     reports::put_sum(page, s, o.limit, o.is_weighted, n, t.over, t.refused, most)
 }
 
-// A file that is refused: the only line.
-fn put_refused(
+// A file that is refused: the only line. Whether its bytes end early counts where the number is 15.
+pub fn put_refused(
     page: &mut [u8],
     s: Sheet,
     file: &[u8],
@@ -239,11 +239,12 @@ fn put_refused(
     bytes: &[u8],
     refusal: u64,
     place: u64,
+    is_cut: bool,
 ) -> Sheet {
     if o.is_json {
-        return json::put_refused_file(page, s, file, bytes, refusal, place);
+        return json::put_refused_file(page, s, file, bytes, refusal, place, is_cut);
     }
-    reports::put_refused(page, s, file, bytes, refusal, place)
+    reports::put_refused(page, s, file, bytes, refusal, place, is_cut)
 }
 
 // A file that is longer than the room for it.
@@ -301,23 +302,19 @@ fn tell_sorted(
     put_sum(page, u, o, n as u64, longest_in(key_at(keys, 0)))
 }
 
-// Tells of a file's functions, the longest run first; or why it is refused. Places and keys are room for
-// a number of each function.
+// Tells of a file's n functions, the longest run first. The places are those that `index::list_functions`
+// gives, the keys the numbers of those that they stand in.
 pub fn tell(
     bytes: &[u8],
     file: &[u8],
     o: Options,
     weights: &[u8],
-    places: &mut [u64],
+    places: &[u64],
     keys: &mut [u64],
+    n: usize,
     page: &mut [u8],
     s: Sheet,
 ) -> Sheet {
-    let listed = index::list_functions(bytes, places, keys);
-    if listed.number != 0 {
-        return put_refused(page, s, file, o, bytes, listed.number, listed.place);
-    }
-    let n = listed.functions as usize;
     order_all(bytes, weights, places, n, keys);
     tell_sorted(bytes, file, o, weights, places, keys, n, page, s)
 }

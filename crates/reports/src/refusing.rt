@@ -18,9 +18,10 @@ pub fn put_refused(
     bytes: &[u8],
     refusal: u64,
     place: u64,
+    is_cut: bool,
 ) -> Sheet {
     let a = put_which(page, s, file);
-    let b = put_why(page, a, bytes, refusal);
+    let b = put_why(page, a, bytes, refusal, is_cut);
     let c = put_number(page, b, refusal, place);
     put(page, c, b"\n")
 }

@@ -203,10 +203,11 @@ pub fn put_refused_file(
     bytes: &[u8],
     refusal: u64,
     place: u64,
+    is_cut: bool,
 ) -> Sheet {
     let b = put_file(page, s, file);
     let c = put_refused(page, b, refusal, place);
-    let d = put_why(page, c, bytes, refusal);
+    let d = put_why(page, c, bytes, refusal, is_cut);
     put(page, d, b"\"}\n")
 }
 
