@@ -19,7 +19,7 @@ returns c =
     let text : List ℕ = take k (d .decimal .last .1 .0) in
     record {
       text = text;
-      decimal = record { count = k; fewest = d .decimal .ensures .1; is = d .decimal .ensures .2 };
+      decimal = record { count = k; fewest = d .decimal .ensures .1 .0; is = d .decimal .ensures .1 .1 };
       puts =
           subst (λ (m : ℕ). Puts (s .args .page .now) (s .args .s) (replicate (6 - m) 32 ++ (text ++ s .args .after .now)) (p2 .put2 .last .0) (p2 .put2 .result))
           (d .decimal .ensures .0 .1)
