@@ -41,7 +41,7 @@ pub enum Share {
 }
 
 // In text, with a limit those over it alone, with their runs.
-fn share(o: Options, key: u64) -> Share {
+fn how_much(o: Options, key: u64) -> Share {
     if o.is_json {
         return Share::Whole;
     }
@@ -140,7 +140,38 @@ fn tell_title(page: &mut [u8], t: Tally, file: &[u8], source: &[u8], o: Options,
     counted(sheet, t, f, o.limit)
 }
 
-// Tells of the function of a key, of a source of this name.
+// Tells of the function of a key, of a source of this name, by its words.
+fn tell_whole(
+    bytes: &[u8],
+    file: &[u8],
+    name: &[u8],
+    o: Options,
+    weights: &[u8],
+    places: &[u64],
+    key: u64,
+    words: &mut [u32],
+    lines: &mut [u32],
+    marks: &mut [u8],
+    lengths: &mut [u32],
+    path: &mut [u32],
+    page: &mut [u8],
+    t: Tally,
+) -> Tally {
+    let f = load(
+        bytes,
+        places,
+        key,
+        weights,
+        words,
+        lines,
+        marks,
+        lengths,
+        path,
+    );
+    tell_loaded(page, t, file, name, o, f, words, lines, lengths, path)
+}
+
+// Tells of the function of a key as much as is asked.
 fn tell_one(
     bytes: &[u8],
     file: &[u8],
@@ -157,7 +188,7 @@ fn tell_one(
     page: &mut [u8],
     t: Tally,
 ) -> Tally {
-    let much = share(o, key);
+    let much = how_much(o, key);
     match much {
         Share::Nothing => {
             return t;
@@ -165,20 +196,25 @@ fn tell_one(
         Share::Title => {
             return tell_title(page, t, file, name, o, brief(bytes, places, key));
         }
-        Share::Whole => {}
+        Share::Whole => {
+            return tell_whole(
+                bytes,
+                file,
+                name,
+                o,
+                weights,
+                places,
+                key,
+                words,
+                lines,
+                marks,
+                lengths,
+                path,
+                page,
+                t,
+            );
+        }
     }
-    let f = load(
-        bytes,
-        places,
-        key,
-        weights,
-        words,
-        lines,
-        marks,
-        lengths,
-        path,
-    );
-    tell_loaded(page, t, file, name, o, f, words, lines, lengths, path)
 }
 
 // Tells of each function, by the order of the keys.
