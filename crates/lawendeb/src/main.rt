@@ -19,18 +19,66 @@ use usage::put_unclear;
 use usage::put_usage;
 use usage::put_version;
 
-// Tells of a script's bytes.
-fn tell_bytes(
+// What came of a script: all is told, or it is refused, by number and place.
+pub enum Outcome {
+    Told(Sheet),
+    Refused(u64, u64),
+}
+
+// Tells of a script's bytes, unless they are refused.
+fn tell_listed(
     bytes: &[u8],
     file: &[u8],
     o: Options,
     weights: &[u8],
     page: &mut [u8],
     s: Sheet,
-) -> Sheet {
+) -> Outcome {
     let mut places = rooms::places();
     let mut keys = rooms::places();
-    owner::tell(bytes, file, o, weights, &mut places, &mut keys, page, s)
+    let listed = index::list_functions(bytes, &mut places, &mut keys);
+    if listed.number != 0 {
+        return Outcome::Refused(listed.number, listed.place);
+    }
+    let n = listed.functions as usize;
+    let t = owner::tell(bytes, file, o, weights, &places, &mut keys, n, page, s);
+    Outcome::Told(t)
+}
+
+// Tells why a script of n bytes in the room for them is refused.
+fn tell_refused(
+    room: &mut [u8],
+    n: usize,
+    file: &[u8],
+    o: Options,
+    number: u64,
+    place: u64,
+    page: &mut [u8],
+    s: Sheet,
+) -> Sheet {
+    let is_cut = index::ends_early(room, n);
+    owner::put_refused(page, s, file, o, first(room, n), number, place, is_cut)
+}
+
+// Tells of a script of n bytes in the room for them.
+fn tell_bytes(
+    room: &mut [u8],
+    n: usize,
+    file: &[u8],
+    o: Options,
+    weights: &[u8],
+    page: &mut [u8],
+    s: Sheet,
+) -> Sheet {
+    let r = tell_listed(first(room, n), file, o, weights, page, s);
+    match r {
+        Outcome::Told(t) => {
+            return t;
+        }
+        Outcome::Refused(number, place) => {
+            return tell_refused(room, n, file, o, number, place, page, s);
+        }
+    }
 }
 
 // Tells of an open script.
@@ -39,7 +87,7 @@ fn tell_open(fd: i32, file: &[u8], o: Options, weights: &[u8], page: &mut [u8], 
     let r = read_file(fd, &mut bytes);
     match r {
         Reading::Whole(n) => {
-            return tell_bytes(first(&bytes, n), file, o, weights, page, s);
+            return tell_bytes(&mut bytes, n, file, o, weights, page, s);
         }
         Reading::Longer => {
             return owner::put_too_long(page, s, file, o);
