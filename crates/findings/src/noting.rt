@@ -9,7 +9,7 @@ use fields::opcodes::OP_TESTSET;
 use fields::opcodes::OP_TFORCALL;
 use fields::word::opcode;
 use pages::word_at;
-use runs::successors::successors;
+use steps::successors::successors;
 use std::num::wrapping_add_usize;
 use sweep::edges::Successors;
 use sweep::edges::serves;
