@@ -18,7 +18,7 @@ use crate::ranges::set_by;
 use crate::ranges::smaller;
 use crate::waiting::PAGE;
 use crate::waiting::next_waiting;
-use runs::successors::successors;
+use steps::successors::successors;
 use sweep::edges::Successors;
 use touches::Touches;
 use touches::word::touches_in;

@@ -19,7 +19,7 @@ use Rattle.graph.specs.Meaning.{Meaning}
 use Rattle.graph.proofs.Laws as graph
 use Rattle.graph.proofs.Meaning.{meaning}
 use Rattle.sweep.specs.Steps.{unless, one, ordered, two, servesOf}
-use Rattle.runs.specs.Successors.{opcodeAt, isBetween, companionPresent, successorsOf}
+use Rattle.steps.specs.Successors.{opcodeAt, isBetween, companionPresent, successorsOf}
 use Rattle.fields.specs.declared.version.Version.{Version}
 use Rattle.runs.specs.Script.{Script, scriptOf, lua54, graphOf, weightOf, Sound}
 use Rattle.runs.specs.Weights.{lowestZero, refusesWeights, Weighs}

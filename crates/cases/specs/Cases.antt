@@ -16,8 +16,8 @@ use Rattle.sweep.specs.declared.edges.Successors.the-variants.{Invalid, Stop, O
 use Rattle.runs.specs.declared.longest.Run.the-variants.{Accepted, Refused}
 use Rattle.runs.specs.Script.{lua54, scriptOf}
 use Rattle.sweep.specs.Steps.{servesOf}
-use Rattle.runs.specs.Successors.{successorsOf}
-use Rattle.runs.specs.Successors53.{successorsOf as successorsOf53}
+use Rattle.steps.specs.Successors.{successorsOf}
+use Rattle.steps.specs.Successors53.{successorsOf as successorsOf53}
 use Rattle.runs.specs.Run.{runOf}
 use Rattle.runs.specs.Weights.{weightCount, heaviestWeight}
 use Rattle.runs.specs.Counted.{ones}

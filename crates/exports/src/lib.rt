@@ -3,7 +3,7 @@
 ghost use mathlib.Core.Path.{_≡_};
 ghost use lib.ListN.{length};
 ghost use Rattle.runs.specs.Script.{lua54};
-ghost use Rattle.runs.specs.Successors.{successorsOf};
+ghost use Rattle.steps.specs.Successors.{successorsOf};
 ghost use Rattle.runs.specs.Run.{runOf, marksAfter, lengthsAfter};
 ghost use Rattle.runs.specs.Flat.{flatSuccessors, flatRun};
 use fields::version::Version;
@@ -21,7 +21,7 @@ pub mod parts;
 pub extern "C" fn lawendeb_successors(words: &[u32], p: usize) -> FlatSuccessors
     ensures { λ r. ⌜ r ≡ flatSuccessors (successorsOf (now (words .entry)) p) ⌝ }
 {
-    flat_successors(runs::successors::successors(words, p))
+    flat_successors(steps::successors::successors(words, p))
 }
 
 #[no_mangle]

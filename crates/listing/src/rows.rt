@@ -38,7 +38,7 @@ fn line(words: &[u32], lengths: &[u32], p: usize) -> [u8; 31]
     requires { ⌜ (p < length (now words)) × (p < length (now lengths)) ⌝ }
     ensures { λ r. ⌜ r ≡ lineAt (now (words .entry)) (now (lengths .entry)) p ⌝ }
 {
-    let s = runs::successors::successors(words, p);
+    let s = steps::successors::successors(words, p);
     sheet::row(
         p,
         fields::word::opcode(words[p]),

@@ -13,10 +13,6 @@ use Rattle.fields.specs.declared.version.Version.{Version}
 use Rattle.fields.specs.declared.version.Version.the-variants.{Lua54, Lua53}
 use Rattle.sweep.specs.Steps.{servesOf, unitWeight}
 use Rattle.runs.specs.Script.{Script, scriptOf, graphOf, weightOf, Sound}
-use Rattle.runs.specs.Lvm as lvm54
-use Rattle.runs.specs.Lvm53 as lvm53
-use Rattle.runs.specs.Bad53 as bad53
-use Rattle.runs.specs.Bad54 as bad54
 use Rattle.runs.specs.Run.{runOf, numberOf, longestOf}
 use Rattle.runs.specs.Weights.{weightCount, heaviestWeight, refusesWeights}
 use Rattle.runs.specs.Counted.{ones, EarlierRun}
@@ -56,9 +52,6 @@ pub record Laws : Type 0 where
   pub slot53 :
       (ws weights : List ℕ) (p : ℕ)
       → weightOf (scriptOf Lua53 ws) weights p ≡ getD weights (getD ws p 0 % 64) 0
-  -- the steps of each version are its lvm.c's
-  pub agreement : lvm54.Agreement
-  pub agreement53 : lvm53.Agreement
   -- From here on "argued over any step relation in which a step that does not serve goes forward":
   -- for any sound script, whose graph is lawful.
   pub lawful : (ws : Script) → Sound ws → Lawful (graphOf ws)
@@ -127,9 +120,5 @@ pub record Laws : Type 0 where
   pub range-kept-of :
       (version : Version) (ws low high marks lengths : List ℕ)
       → RangeKept (scriptOf version ws) low high marks lengths
-  -- document 01's table of steps (RULES 2), by its own numbers
-  pub by-numbers54 : bad54.ByNumber
-  -- request C-24: the bad words and the next words of 5.3, by its own numbers
-  pub by-numbers53 : bad53.ByNumber
   -- for crates that go by settled entries
   pub entry-laws : EntryLaws

@@ -3,7 +3,7 @@
 use mathlib.Core.Path.{refl}
 use Rattle.fields.specs.Table53.{classOf, companionOf}
 use Rattle.sweep.specs.Steps.{unless, one, ordered, two}
-use Rattle.runs.specs.Successors53.{opcodeAt, companionPresent, successorsOf}
+use Rattle.steps.specs.Successors53.{opcodeAt, companionPresent, successorsOf}
 use Rattle.touches.specs.Versions.{accessesOf}
 use Rattle.touches.specs.Canonical.{join, insert, add, addAll, put, putAll}
 use Rattle.touches.specs.Lists.{gather, rangesOf, indicesOf, firstTop}

@@ -1,4 +1,4 @@
--- The ways on of specs/Executions.antt and specs/Executions53.antt are those of runs' Lvm.antt and Lvm53.antt; they lead to
+-- The ways on of specs/Executions.antt and specs/Executions53.antt are those of steps' Lvm.antt and Lvm53.antt; they lead to
 -- a word's steps, and over them an edge. All that is used of Lvm.antt and Lvm53.antt is here.
 -- Assumes nothing.
 use Prim.Native.Nat.{ℕ, zero, suc, _+_, _-_, _≤_, _<_}
@@ -18,16 +18,16 @@ use Rattle.fields.proofs.Laws.{laws}
 use Rattle.graph.specs.Graph.{In}
 use Rattle.graph.proofs.Laws as graph
 use Rattle.sweep.specs.Steps.{isInvalid, listOf}
-use Rattle.runs.specs.Ways.{fetch, jumped, targetOf, targetsOf, integers}
-use Rattle.runs.specs.Lvm as lvm
-use Rattle.runs.proofs.Laws as runs
+use Rattle.steps.specs.Ways.{fetch, jumped, targetOf, targetsOf, integers}
+use Rattle.steps.specs.Lvm as lvm
+use Rattle.steps.proofs.Laws as steps
 use Rattle.fields.specs.declared.version.Version.{Version}
 use Rattle.fields.specs.declared.version.Version.the-variants.{Lua54, Lua53}
 use Rattle.touches.specs.Words.{opcodeBy, «GET_OPCODE-of», taken}
 use Rattle.touches.specs.Executions.{Go, vmbreak, «pc++», «pc++-if-k», dojump, donextjump, «pc-=Bx», «pc+=Bx+1», l_tforcall, l_tforloop, leave, «pc++-if-C», «pc++-if-not-C», «pc+=sBx», dojump-sBx, compared-0, compared-1, sBx, next, Way, way}
 use Rattle.fields.specs.declared.word53.RawInstruction53.{RawInstruction53}
 use Rattle.fields.specs.Lopcodes53 as lopcodes53
-use Rattle.runs.specs.Lvm53 as lvm53
+use Rattle.steps.specs.Lvm53 as lvm53
 use Rattle.runs.specs.Script.{stepsOf}
 use Rattle.touches.specs.Versions.{goesOn, isStep, waysOf}
 use Rattle.touches.specs.Touched.{waysAt, nexts, Any, LeadsTo}
@@ -166,8 +166,8 @@ same-ways v ws p =
 ways-are :
     (v : Version) (ws : List ℕ) (p : ℕ) → isInvalid (stepsOf v ws p) ≡ false → (z : ℤ) →
     In z (nexts v (waysAt v ws p) (pos (p + 1)) (getD ws p 0)) ↔ In z (integers (listOf (stepsOf v ws p)))
-ways-are Lua54 ws p valid z = rw (same-ways Lua54 ws p) (runs.laws .agreement .same ws p valid z)
-ways-are Lua53 ws p valid z = rw (same-ways Lua53 ws p) (runs.laws .agreement53 .same ws p valid z)
+ways-are Lua54 ws p valid z = rw (same-ways Lua54 ws p) (steps.laws .agreement .same ws p valid z)
+ways-are Lua53 ws p valid z = rw (same-ways Lua53 ws p) (steps.laws .agreement53 .same ws p valid z)
 
 -- A way of a word that is not bad leads to a successor
 

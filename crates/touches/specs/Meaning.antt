@@ -117,7 +117,7 @@ NamedOnEdge t (constant q) = ⊥
 NamedOnEdge t (upvalue q) = ⊥
 NamedOnEdge t (upToTop first) = ⊥
 
--- A word that is not bad: its lists are exactly what lvm.c touches, where lvm.c's ways on are those of runs
+-- A word that is not bad: its lists are exactly what lvm.c touches, where lvm.c's ways on are those of steps
 pub record Exact (v : Version) (ws : List ℕ) (p : ℕ) : Type 0 where
   pub ways : nexts v (waysAt v ws p) (pos (p + 1)) (getD ws p 0) ≡ goesOn v ws p
   pub reads : (c : Cell) → NamedRead (touchesFor v ws p) c ↔ Reads v ws p c

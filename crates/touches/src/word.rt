@@ -190,7 +190,7 @@ fn touches_at(rows: &[u64; 128], words: &[u32], p: usize) -> Touches
 pub fn touches_in(rows: &[u64; 128], words: &[u32], p: usize) -> Touches
     ensures { λ r. ⌜ r ≡ touchesWith (now (rows .entry)) (now (words .entry)) p ⌝ }
 {
-    if is_bad(runs::successors::successors(words, p)) {
+    if is_bad(steps::successors::successors(words, p)) {
         return nothing();
     }
     touches_at(rows, words, p)
@@ -222,7 +222,7 @@ fn touches_at_53(rows: &[u64; 64], words: &[u32], p: usize) -> Touches
 fn touches_in_53(rows: &[u64; 64], words: &[u32], p: usize) -> Touches
     ensures { λ r. ⌜ r ≡ touchesLent Lua53 (now (rows .entry)) (now (words .entry)) p ⌝ }
 {
-    if is_bad(runs::successors53::successors(words, p)) {
+    if is_bad(steps::successors53::successors(words, p)) {
         return nothing();
     }
     touches_at_53(rows, words, p)

@@ -7,7 +7,7 @@ ghost use Rattle.sweep.specs.Steps.{listOf, servesOf, Below};
 ghost use Rattle.runs.specs.Script.{scriptOf, lua54};
 ghost use Rattle.witness.specs.Following.{onwards};
 ghost use Rattle.witness.specs.Walking.{at, Walks, Walked};
-use runs::successors::successors;
+use steps::successors::successors;
 use sweep::edges::Successors;
 use sweep::edges::serves;
 
@@ -92,7 +92,7 @@ pub(crate) fn write_path_53(words: &[u32], lengths: &[u32], first: usize, path: 
     while count < n {
         path[count] = p as u32;
         count += 1;
-        let onward = go_on(runs::successors53::successors(words, p), lengths, p);
+        let onward = go_on(steps::successors53::successors(words, p), lengths, p);
         let Onward::To(q) = onward else {
             return count;
         };

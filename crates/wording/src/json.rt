@@ -12,7 +12,7 @@ use pages::either;
 use pages::fill;
 use pages::put;
 use pages::word_at;
-use runs::successors::successors;
+use steps::successors::successors;
 use sweep::edges::Successors;
 
 fn put_escape(page: &mut [u8], s: Sheet, b: u8) -> Sheet {
