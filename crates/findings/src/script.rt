@@ -7,8 +7,8 @@ use crate::order::parent_in;
 use crate::order::set_key;
 use crate::order::sort;
 use crate::rooms;
-use index::Choice;
-use index::FlatHead;
+use lines::Choice;
+use lines::FlatHead;
 use pages::first;
 use pages::first_words;
 use pages::rest;
@@ -40,7 +40,7 @@ pub struct Function {
 
 // The name of the source, as the head at a place gives it; empty where there is none.
 pub fn source(bytes: &[u8], at: usize) -> &[u8] {
-    let head = index::head_by(bytes, Choice::Place(at));
+    let head = lines::head_by(bytes, Choice::Place(at));
     if head.source == NO_SOURCE {
         return first(bytes, 0);
     }
@@ -115,8 +115,8 @@ fn measured(
     lengths: &mut [u32],
     path: &mut [u32],
 ) -> Function {
-    let head = index::head_by(bytes, Choice::Place(at));
-    let counts = index::words_by(bytes, Choice::Place(at), words);
+    let head = lines::head_by(bytes, Choice::Place(at));
+    let counts = lines::words_by(bytes, Choice::Place(at), words);
     let n = counts.words as usize;
     let run = witness::longest_path(first_words(words, n), weights, marks, lengths, path);
     with_run(key, head, n, run)
@@ -124,7 +124,7 @@ fn measured(
 
 // The lines of its words, 0 where the file has none.
 fn fill_lines(bytes: &[u8], at: usize, lines: &mut [u32]) {
-    index::lines_by(bytes, Choice::Place(at), lines);
+    lines::lines_by(bytes, Choice::Place(at), lines);
 }
 
 // The same function, refused where some way reads a register that nothing has set. The marks are used.

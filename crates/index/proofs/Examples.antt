@@ -3,8 +3,8 @@ use mathlib.Core.Path.{refl}
 use Rattle.chunk.specs.Reading.{repeat, littleEnd}
 use Rattle.chunk.specs.Lundump.{loadBlock, loadByte, unsignedFrom, loadUnsigned, loadNumber, loadInteger, stringOf, loadStringN, loadString, loadVector, loadItems, wordsFrom, loadCode, constantOf, loadConstant, loadUpvalues, loadAbsLine, loadLocVar, loadLines, namesFrom, loadNames, loadHead, functionWith, several, noneOf, loadProtos, checkBytes, checkHeader, undump}
 use Rattle.chunk.specs.Chunk.{pick, chosen}
-use Rattle.index.specs.Choices.{functionAt}
-use Rattle.index.specs.Heads.{readHead, headOf}
+use Rattle.lines.specs.Choices.{functionAt}
+use Rattle.lines.specs.Heads.{readHead, headOf}
 use Rattle.index.specs.Refusing.{signed, whyRefused}
 use Rattle.index.specs.Examples.{ExampleHeads, ExampleReasons}
 

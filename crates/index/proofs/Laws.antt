@@ -19,9 +19,9 @@ use Rattle.chunk.specs.Lundump.{Function, loadByte, loadFunction, checkHeader, 
 use Rattle.chunk.specs.Chunk.{pick, chosen, valuesOf, countsOf, Rooms, fits, roomFor, filled, after}
 use Rattle.chunk.specs.Stands.{Stands, OneRead, Between, ReadBetween}
 use Rattle.chunk.proofs.Laws as chunk
-use Rattle.index.specs.declared.choosing.Choice.the-variants.{Number, Place}
-use Rattle.index.specs.Choices.{functionAt, chosenBy, filledBy}
-use Rattle.index.specs.Heads.{readHead, headOf}
+use Rattle.lines.specs.declared.choosing.Choice.the-variants.{Number, Place}
+use Rattle.lines.specs.Choices.{functionAt, chosenBy, filledBy}
+use Rattle.lines.specs.Heads.{readHead, headOf}
 use Rattle.index.specs.Listing.{functionsOf, placesOf, standsIn, parentsFrom, parentsOf, noFunction}
 use Rattle.index.specs.Laws.{AtItsPlace, Inner, Listing, Laws}
 use Rattle.index.proofs.Levels.{levels-grow}

@@ -20,7 +20,7 @@ use Rattle.chunk.specs.Stands.{Between, ReadBetween}
 use Rattle.chunk.proofs.Laws.{laws}
 use Rattle.index.specs.Listing.{placesOf, parentsFrom}
 use Rattle.index.specs.Noting.{Noted, Wrote, WroteBy, WroteAt}
-use Rattle.index.proofs.Cursors.{refused-is, done-is}
+use Rattle.lines.proofs.Cursors.{refused-is, done-is}
 use Rattle.index.proofs.Thens.{own, then1, then2, then3, then4, then5, then6, then7}
 use Rattle.index.proofs.Parents.{places-both, places-count, parents-count, ends, fewer, parents-both, parents-function}
 

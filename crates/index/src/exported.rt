@@ -3,19 +3,19 @@
 ghost use mathlib.Core.Path.{_≡_};
 ghost use lib.ListN.{length};
 ghost use Rattle.chunk.specs.Chunk.{countsOf, after, wordsOf, wordsRoom};
-ghost use Rattle.index.specs.declared.choosing.Choice.the-variants.{Number, Place};
-ghost use Rattle.index.specs.Choices.{filledBy};
-ghost use Rattle.index.specs.Lines.{linesIn};
-ghost use Rattle.index.specs.Heads.{headTold, headOf};
+ghost use Rattle.lines.specs.declared.choosing.Choice.the-variants.{Number, Place};
+ghost use Rattle.lines.specs.Choices.{filledBy};
+ghost use Rattle.lines.specs.Lines.{linesIn};
+ghost use Rattle.lines.specs.Heads.{headTold, headOf};
 ghost use Rattle.index.specs.Listing.{functionsOf, listedOf, listedIn, placesOf, parentsOf, afterAll};
-use crate::choosing::Choice;
-use crate::heads::FlatHead;
-use crate::heads::head_by;
-use crate::lines::lines_by;
+use lines::Choice;
+use lines::FlatHead;
+use lines::head_by;
+use lines::lines_by;
 use crate::listing::Listed;
 use crate::listing::count_functions;
 use crate::listing::list_functions;
-use crate::words::words_by;
+use lines::words_by;
 use chunk::Counts;
 
 #[no_mangle]

@@ -1,6 +1,6 @@
 // What the cases print.
 use chunk::Counts;
-use index::FlatHead;
+use lines::FlatHead;
 use index::Listed;
 use index::Why;
 pub use print_cases::end;
