@@ -19,6 +19,7 @@ pub mod Masks
 pub mod NextWords
 pub mod Outcome
 pub mod Searched
+pub mod Shapes
 pub mod Slices
 pub mod Ways
 pub mod Weights
