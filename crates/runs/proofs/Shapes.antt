@@ -29,7 +29,7 @@ module _ {Go : Type 0} (number : Go → ℕ) (from : ℕ → Go) (back : (go : G
   by-test [] (y ∷ ys) t = absurd t
   by-test (x ∷ xs) [] t = absurd t
   by-test (x ∷ xs) (y ∷ ys) t =
-      let first : x ≡ y = sym (back x) ∙ (ap from (eqb→eq (number x) (number y) (left-of _ (same xs ys) t)) ∙ back y) in
+      let first : x ≡ y = sym (back x) ∙ (ap from (eqb→eq (number x) (number y) (left-of (eqb (number x) (number y)) (same xs ys) t)) ∙ back y) in
       ap₂ (λ (z : Go) (zs : List Go). z ∷ zs) first (by-test xs ys (right-of (eqb (number x) (number y)) (same xs ys) t))
 
   -- the first of some shapes that has a case's ways on
