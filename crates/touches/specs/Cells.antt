@@ -1,18 +1,42 @@
--- What can be touched, and what the accesses of lvm.c (runs/specs/Executions.antt) name in a word, by lopcodes.h's
--- macros: plainly, and at a stack top. Those that 5.3.6 alone has stand last.
+-- What can be touched, and what an access of lvm.c (runs/specs/Executions.antt) names in a word, by lopcodes.h's
+-- macros: plainly, and at a stack top. What 5.3.6 alone has stands last.
 -- Assumes nothing.
 use Prim.Native.Nat.{ℕ, _+_, _-_, _≤_, _<_}
 use mathlib.Core.Path.{_≡_}
 use mathlib.Core.Logic.{_⊎_}
 use mathlib.Core.Bool.{cond}
-use mathlib.Core.List.{List, [], _∷_, _++_}
 use lib.Dec.{eqb}
-use lib.IntN.{ℤ, pos, _+ℤ_, _-ℤ_}
-use Rattle.fields.specs.Opcodes as op
-use Rattle.fields.specs.Lopcodes.{«GETARG_sJ», «TESTARG_k»}
-use Rattle.fields.specs.declared.version.Version.{Version}
+use Rattle.runs.specs.Executions.{
+  Access,
+  «ra»,
+  «ra+1»,
+  «ra+2»,
+  «ra+3»,
+  «ra+4»,
+  vRB,
+  vRC,
+  RKC,
+  KB,
+  KC,
+  «k+Bx»,
+  «k+Ax»,
+  «RA-pi»,
+  «upvals[A]»,
+  «upvals[B]»,
+  nils,
+  pieces,
+  arguments,
+  results,
+  iterated,
+  returned,
+  elements,
+  RKB-isk,
+  RKC-isk,
+  concatenated,
+  called,
+  varargs,
+}
 use Rattle.touches.specs.declared.arguments.Arguments.{Arguments}
-use Rattle.touches.specs.Words.{taken}
 use Rattle.touches.specs.Isk.{«ISK», «INDEXK»}
 
 -- What can be touched.
