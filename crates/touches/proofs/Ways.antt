@@ -44,6 +44,9 @@ opcode-fits Lua53 w = rw (opcode-is Lua53 w) (omega arith)
 
 -- A word to which one of a case's ways leads is one to which the case leads
 
+abbrev pub goOf : {Go : Type 0} → Arm Go → Go
+goOf (arm go runs) = go
+
 targets-append : {Body : Type 0} (xs ys : List (lvm.Way Body)) (z : ℤ) → In z (targetsOf (xs ++ ys)) ↔ (In z (targetsOf xs) ⊎ In z (targetsOf ys))
 targets-append [] ys z = (λ m. inr m, ⊎-elim (λ m. absurd m) (λ m. m))
 targets-append (x ∷ xs) ys z =
@@ -53,18 +56,21 @@ targets-append (x ∷ xs) ys z =
       ⊎-elim (⊎-elim (λ m. inl m) (λ m. inr (rest .1 (inl m)))) (λ m. inr (rest .1 (inr m))),
     )
 
-module _ {Go Body : Type 0} (onward : Go → List (lvm.Way Body)) (z : ℤ) where
-  abbrev Leads : Arm Go → Type 0
-  Leads (arm go runs) = In z (targetsOf (onward go))
-
-  led : (arms : List (Arm Go)) → Any Leads arms ↔ In z (targetsOf (leading onward (gosOf arms)))
+module _ {Go Body : Type 0} (onward : Go → List (lvm.Way Body)) (z : ℤ) (Leads : Arm Go → Type 0) (there : (w : Arm Go) → Leads w ↔ In z (targetsOf (onward (goOf w)))) where
+  led : (ways : List (Arm Go)) → Any Leads ways ↔ In z (targetsOf (leading onward (gosOf ways)))
   led [] = (λ m. m, λ m. m)
-  led (arm go runs ∷ arms) =
-      let parts = targets-append (onward go) (leading onward (gosOf arms)) z in
+  led (arm go runs ∷ ways) =
+      let parts = targets-append (onward go) (leading onward (gosOf ways)) z in
       (
-        ⊎-elim (λ m. parts .1 (inl m)) (λ m. parts .1 (inr (led arms .0 m))),
-        λ m. ⊎-elim (λ l. inl l) (λ r. inr (led arms .1 r)) (parts .0 m),
+        ⊎-elim (λ m. parts .1 (inl (there (arm go runs) .0 m))) (λ m. parts .1 (inr (led ways .0 m))),
+        λ m. ⊎-elim (λ l. inl (there (arm go runs) .1 l)) (λ r. inr (led ways .1 r)) (parts .0 m),
       )
+
+there54 : (ws : List ℕ) (p : ℕ) (z : ℤ) (w : Way Lua54) → LeadsTo Lua54 ws p z w ↔ In z (targetsOf (lvm54.onward ws (pos (p + 1)) (getD ws p 0) (goOf w)))
+there54 ws p z (arm go runs) = (λ m. m, λ m. m)
+
+there53 : (ws : List ℕ) (p : ℕ) (z : ℤ) (w : Way Lua53) → LeadsTo Lua53 ws p z w ↔ In z (targetsOf (lvm53.onward ws (pos (p + 1)) (getD ws p 0) (goOf w)))
+there53 ws p z (arm go runs) = (λ m. m, λ m. m)
 
 -- the ways of either version are the word's steps
 pub ways-are :
@@ -72,11 +78,11 @@ pub ways-are :
     Any (LeadsTo v ws p z) (waysAt v ws p) ↔ In z (integers (listOf (stepsOf v ws p)))
 unfolding waysOf lvm54.waysAt lvm54.bodyAt lvm53.waysAt lvm53.bodyAt
 ways-are Lua54 ws p valid z =
-    let ways = led (lvm54.onward ws (pos (p + 1)) (getD ws p 0)) z (lvm54.bodyAt ws p) in
+    let ways = led (lvm54.onward ws (pos (p + 1)) (getD ws p 0)) z (LeadsTo Lua54 ws p z) (there54 ws p z) (waysAt Lua54 ws p) in
     let steps = runs.laws .agreement .same ws p valid z in
     (λ m. steps .0 (ways .0 m), λ m. ways .1 (steps .1 m))
 ways-are Lua53 ws p valid z =
-    let ways = led (lvm53.onward ws (pos (p + 1)) (getD ws p 0)) z (lvm53.bodyAt ws p) in
+    let ways = led (lvm53.onward ws (pos (p + 1)) (getD ws p 0)) z (LeadsTo Lua53 ws p z) (there53 ws p z) (waysAt Lua53 ws p) in
     let steps = runs.laws .agreement53 .same ws p valid z in
     (λ m. steps .0 (ways .0 m), λ m. ways .1 (steps .1 m))
 
@@ -137,9 +143,6 @@ away : (m a b : ℕ) → pos m +ℤ (pos a -ℤ pos b) ≡ pos (m + a) -ℤ pos 
 away m a b = sym (+ℤ-assoc (pos m) (pos a) (negℤ (pos b)))
 
 -- The edge of a case, and the way on that leads over it
-
-abbrev pub goOf : {Go : Type 0} → Arm Go → Go
-goOf (arm go runs) = go
 
 -- the edge over which a way leads, of those that a case can have
 abbrev edgeBy : (v : Version) → Go v → Edge
