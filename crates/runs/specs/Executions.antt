@@ -1,5 +1,5 @@
--- What an execution of a word reads and stores, as lvm.c names it, and the ways on of a case of its switch: what
--- specs/Lvm.antt and specs/Lvm53.antt share. What the names stand for in a word is `names` in
+-- What an execution of a word reads and stores, as lvm.c names it, and the ways on of a case of its switch:
+-- what specs/Lvm.antt and specs/Lvm53.antt share. What the names stand for in a word says
 -- touches/specs/Cells.antt.
 -- Assumes nothing.
 use mathlib.Core.List.{List, [], _∷_, _++_}
@@ -61,11 +61,14 @@ pub data Execution : Type 0 where
 pub data Arm (Go : Type 0) : Type 0 where
   arm : Go → List Execution → Arm Go
 
--- A case's ways on alone, and all that they lead to.
+-- The ways on alone, of a case too, and all that they lead to.
+abbrev pub goOf : {Go : Type 0} → Arm Go → Go
+goOf (arm go runs) = go
+
 abbrev pub gosOf : {Go : Type 0} → List (Arm Go) → List Go
 gosOf [] = []
-gosOf (arm go runs ∷ arms) = go ∷ gosOf arms
+gosOf (way ∷ ways) = goOf way ∷ gosOf ways
 
 abbrev pub leading : {Go X : Type 0} → (Go → List X) → List Go → List X
-leading lead [] = []
-leading lead (go ∷ gos) = lead go ++ leading lead gos
+leading onward [] = []
+leading onward (go ∷ gos) = onward go ++ leading onward gos

@@ -1,11 +1,11 @@
--- lvm.c of Lua 5.4.8, in the C's own shape and order: for each case of luaV_execute's switch the ways on, pc
--- after the fetch being moved as the case moves it, and on each way the executions that take it, with what they
--- read and what they store. What a case tests of values may come out either way, so both arms are given; a
--- coroutine's yield inside a word is left out (docs/DIFFERENCES.md has the yields), and so is an execution that
--- ends in an error, which goes on nowhere.
+-- lvm.c of Lua 5.4.8, in the C's own shape and order: for each case of luaV_execute's switch the ways on,
+-- as it moves pc after the fetch, and on each way the executions that take it, with what they read and what
+-- they store. What a case tests of values may come out either way, so both arms are given; a coroutine's
+-- yield inside a word is left out (docs/DIFFERENCES.md has the yields), and so is an execution that ends in
+-- an error, which goes on nowhere.
 -- `Agreement` says that for a word that is not bad the ways on lead to the next words of document 01's
--- table of steps (RULES 2). That C-14's lists are what the executions read and write in some execution is
--- `Meaning` in touches/specs/Meaning.antt.
+-- table of steps (RULES 2). That C-14's lists are what is read and stored in some execution says
+-- touches/specs/Meaning.antt.
 -- Assumes nothing.
 use Prim.Native.Nat.{ℕ, _+_}
 use mathlib.Core.Bool.{cond}
@@ -249,7 +249,8 @@ switch =
     ∷ [])
     ∷ [])
     ∷ vmcase op.«OP_TFORPREP» (arm «goto-l_tforcall» (run («ra+3» ∷ []) [] ∷ []) ∷ [])
-    ∷ vmcase op.«OP_TFORCALL» (arm «goto-l_tforloop» (run («ra» ∷ «ra+1» ∷ «ra+2» ∷ []) (iterated ∷ []) ∷ []) ∷ [])
+    ∷ vmcase op.«OP_TFORCALL»
+    (arm «goto-l_tforloop» (run («ra» ∷ «ra+1» ∷ «ra+2» ∷ []) (iterated ∷ []) ∷ []) ∷ [])
     -- if (!ttisnil(s2v(ra + 4))) { setobjs2s(L, ra + 2, ra + 4); pc -= GETARG_Bx(i); }
     ∷ vmcase op.«OP_TFORLOOP»
     (arm «pc-=Bx» (run («ra+4» ∷ []) («ra+2» ∷ []) ∷ [])

@@ -1,15 +1,15 @@
 -- lvm.c of Lua 5.3.6, in the C's own shape and order: for each case of luaV_execute's switch the ways on,
--- ci->u.l.savedpc, here pc, after the fetch being moved as the case moves it, and on each way the executions
--- that take it, with what they read and what they store. What a case tests of values may come out either way, so
--- both arms are given; a coroutine's yield inside a word is left out, and so is an execution that ends in an
--- error, which goes on nowhere.
--- `arguments`, `results`, `returned` and `elements` are what they are in 5.4.8: of CALL and SETLIST the header
--- of 5.3.6 notes "if (B == 0) then B = top", and lvm.c leaves L->top where it is, and takes L->top - ra - 1.
--- L->top is a pointer where 5.4.8 has L->top.p. "CALL, TAILCALL, TFORCALL and CONCAT go by their formulas in
--- lopcodes.h".
+-- as it moves ci->u.l.savedpc, here pc, after the fetch, and on each way the executions that take it, with
+-- what they read and what they store. What a case tests of values may come out either way, so both arms are
+-- given; a coroutine's yield inside a word is left out, and so is an execution that ends in an error, which
+-- goes on nowhere.
+-- `arguments`, `results`, `returned` and `elements` are what they are in 5.4.8: of CALL and SETLIST the
+-- header of 5.3.6 notes "if (B == 0) then B = top", and lvm.c leaves L->top where it is, and takes
+-- L->top - ra - 1. L->top is a pointer where 5.4.8 has L->top.p. "CALL, TAILCALL, TFORCALL and CONCAT go by
+-- their formulas in lopcodes.h".
 -- `Agreement` says that for a word that is not bad the ways on lead to the successors of
--- specs/Successors53.antt. That C-14's lists are what the executions read and write in some execution is
--- `Meaning` in touches/specs/Meaning.antt.
+-- specs/Successors53.antt. That C-14's lists are what is read and stored in some execution says
+-- touches/specs/Meaning.antt.
 -- Assumes nothing.
 use Prim.Native.Nat.{ℕ, _+_}
 use mathlib.Core.Bool.{cond}
@@ -83,8 +83,8 @@ pub data Go : Type 0 where
   «pc+=sBx» : Go
   -- i = *(ci->u.l.savedpc++); goto l_tforloop;
   «goto-l_tforloop» : Go
-  -- return, or goto newframe over the caller; or for a tail call of a Lua function, whose frame takes this one's
-  -- place, goto newframe over that: no word of this function follows
+  -- return, or goto newframe over the caller; or goto newframe after a tail call of a Lua function, whose
+  -- frame takes this one's place: no word of this function follows
   leave : Go
 
 -- a case: its ways on, and the executions that take each
@@ -163,7 +163,8 @@ switch =
     ∷ vmcase op.«OP_LT» comparison
     ∷ vmcase op.«OP_LE» comparison
     -- if (GETARG_C(i) ? l_isfalse(ra) : !l_isfalse(ra)) ci->u.l.savedpc++; else donextjump(ci);
-    ∷ vmcase op.«OP_TEST» (arm «pc++» (run («ra» ∷ []) [] ∷ []) ∷ arm donextjump (run («ra» ∷ []) [] ∷ []) ∷ [])
+    ∷ vmcase op.«OP_TEST»
+    (arm «pc++» (run («ra» ∷ []) [] ∷ []) ∷ arm donextjump (run («ra» ∷ []) [] ∷ []) ∷ [])
     -- if (..) ci->u.l.savedpc++; else { setobjs2s(L, ra, rb); donextjump(ci); }
     ∷ vmcase op.«OP_TESTSET»
     (arm «pc++» (run (vRB ∷ []) [] ∷ []) ∷ arm donextjump (run (vRB ∷ []) («ra» ∷ []) ∷ []) ∷ [])
@@ -188,7 +189,8 @@ switch =
     ∷ [])
     ∷ [])
     -- i = *(ci->u.l.savedpc++); goto l_tforloop
-    ∷ vmcase op.«OP_TFORCALL» (arm «goto-l_tforloop» (run («ra» ∷ «ra+1» ∷ «ra+2» ∷ []) (called ∷ []) ∷ []) ∷ [])
+    ∷ vmcase op.«OP_TFORCALL»
+    (arm «goto-l_tforloop» (run («ra» ∷ «ra+1» ∷ «ra+2» ∷ []) (called ∷ []) ∷ []) ∷ [])
     -- if (!ttisnil(ra + 1)) { setobjs2s(L, ra, ra + 1); ci->u.l.savedpc += GETARG_sBx(i); }
     ∷ vmcase op.«OP_TFORLOOP»
     (arm «pc+=sBx» (run («ra+1» ∷ []) («ra» ∷ []) ∷ []) ∷ arm vmbreak (run («ra+1» ∷ []) [] ∷ []) ∷ [])

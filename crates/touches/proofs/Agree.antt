@@ -14,7 +14,7 @@ use Rattle.fields.proofs.Laws.{laws}
 use Rattle.touches.specs.Operands.{Operand, «R[A]», «R[A+1]», «R[A+2]», «R[A+3]», «R[A+1…A+B-1]», «R[A+1…A+B]», locationOf}
 use Rattle.touches.specs.Cases.{Edge, noEdge, «p+1», «p+2», «p+1-Bx», «p+1+sBx», Accesses}
 use Rattle.touches.specs.Table.{numberOf, operandFrom, edgeNumber, opcodesOf}
-use Rattle.runs.specs.Executions.{Access, Arm}
+use Rattle.runs.specs.Executions.{Access, Arm, goOf}
 use Rattle.touches.specs.Cells.{Cell, register, upToTop, names}
 use Rattle.fields.specs.declared.version.Version.{Version}
 use Rattle.fields.specs.declared.version.Version.the-variants.{Lua54, Lua53}
@@ -23,7 +23,7 @@ use Rattle.touches.specs.Touched.{wayReads, wayStores, Any, All}
 use Rattle.touches.proofs.Rows.{operand-back}
 use Rattle.touches.proofs.Choices.{every, some, left-of, right-of, one-of, every-any, every-all, some-any, some-all}
 use Rattle.touches.proofs.Cells.{At, kind, index, one-register, past-first, meant, named}
-use Rattle.touches.proofs.Ways.{goOf, leads}
+use Rattle.touches.proofs.Ways.{leads}
 use Rattle.touches.proofs.Sorts.{bars, barred, one-kind, topsLast}
 
 -- Operands in lists

@@ -18,7 +18,7 @@ use Rattle.graph.proofs.Laws as graph
 use Rattle.sweep.specs.Steps.{isInvalid, listOf}
 use Rattle.runs.specs.Ways as lvm
 use Rattle.runs.specs.Ways.{targetsOf, integers}
-use Rattle.runs.specs.Executions.{Arm, arm, gosOf, leading}
+use Rattle.runs.specs.Executions.{Arm, goOf, gosOf, leading}
 use Rattle.runs.specs.Lvm as lvm54
 use Rattle.runs.specs.Lvm53 as lvm53
 use Rattle.runs.specs.Script.{stepsOf}
@@ -44,33 +44,22 @@ opcode-fits Lua53 w = rw (opcode-is Lua53 w) (omega arith)
 
 -- A word to which one of a case's ways leads is one to which the case leads
 
-abbrev pub goOf : {Go : Type 0} → Arm Go → Go
-goOf (arm go runs) = go
-
 targets-append : {Body : Type 0} (xs ys : List (lvm.Way Body)) (z : ℤ) → In z (targetsOf (xs ++ ys)) ↔ (In z (targetsOf xs) ⊎ In z (targetsOf ys))
 targets-append [] ys z = (λ m. inr m, ⊎-elim (λ m. absurd m) (λ m. m))
 targets-append (x ∷ xs) ys z =
-    let rest = targets-append xs ys z in
-    (
+    let rest = targets-append xs ys z in (
       ⊎-elim (λ m. inl (inl m)) (λ m. ⊎-elim (λ l. inl (inr l)) (λ r. inr r) (rest .0 m)),
       ⊎-elim (⊎-elim (λ m. inl m) (λ m. inr (rest .1 (inl m)))) (λ m. inr (rest .1 (inr m))),
     )
 
-module _ {Go Body : Type 0} (onward : Go → List (lvm.Way Body)) (z : ℤ) (Leads : Arm Go → Type 0) (there : (w : Arm Go) → Leads w ↔ In z (targetsOf (onward (goOf w)))) where
-  led : (ways : List (Arm Go)) → Any Leads ways ↔ In z (targetsOf (leading onward (gosOf ways)))
+module _ {Go Body : Type 0} (onward : Go → List (lvm.Way Body)) (z : ℤ) where
+  led : (ways : List (Arm Go)) → Any (λ (w : Arm Go). In z (targetsOf (onward (goOf w)))) ways ↔ In z (targetsOf (leading onward (gosOf ways)))
   led [] = (λ m. m, λ m. m)
-  led (arm go runs ∷ ways) =
-      let parts = targets-append (onward go) (leading onward (gosOf ways)) z in
-      (
-        ⊎-elim (λ m. parts .1 (inl (there (arm go runs) .0 m))) (λ m. parts .1 (inr (led ways .0 m))),
-        λ m. ⊎-elim (λ l. inl (there (arm go runs) .1 l)) (λ r. inr (led ways .1 r)) (parts .0 m),
+  led (w ∷ ways) =
+      let parts = targets-append (onward (goOf w)) (leading onward (gosOf ways)) z in (
+        ⊎-elim (λ m. parts .1 (inl m)) (λ m. parts .1 (inr (led ways .0 m))),
+        λ m. ⊎-elim (λ l. inl l) (λ r. inr (led ways .1 r)) (parts .0 m),
       )
-
-there54 : (ws : List ℕ) (p : ℕ) (z : ℤ) (w : Way Lua54) → LeadsTo Lua54 ws p z w ↔ In z (targetsOf (lvm54.onward ws (pos (p + 1)) (getD ws p 0) (goOf w)))
-there54 ws p z (arm go runs) = (λ m. m, λ m. m)
-
-there53 : (ws : List ℕ) (p : ℕ) (z : ℤ) (w : Way Lua53) → LeadsTo Lua53 ws p z w ↔ In z (targetsOf (lvm53.onward ws (pos (p + 1)) (getD ws p 0) (goOf w)))
-there53 ws p z (arm go runs) = (λ m. m, λ m. m)
 
 -- the ways of either version are the word's steps
 pub ways-are :
@@ -78,11 +67,11 @@ pub ways-are :
     Any (LeadsTo v ws p z) (waysAt v ws p) ↔ In z (integers (listOf (stepsOf v ws p)))
 unfolding waysOf lvm54.waysAt lvm54.bodyAt lvm53.waysAt lvm53.bodyAt
 ways-are Lua54 ws p valid z =
-    let ways = led (lvm54.onward ws (pos (p + 1)) (getD ws p 0)) z (LeadsTo Lua54 ws p z) (there54 ws p z) (waysAt Lua54 ws p) in
+    let ways = led (lvm54.onward ws (pos (p + 1)) (getD ws p 0)) z (waysAt Lua54 ws p) in
     let steps = runs.laws .agreement .same ws p valid z in
     (λ m. steps .0 (ways .0 m), λ m. ways .1 (steps .1 m))
 ways-are Lua53 ws p valid z =
-    let ways = led (lvm53.onward ws (pos (p + 1)) (getD ws p 0)) z (LeadsTo Lua53 ws p z) (there53 ws p z) (waysAt Lua53 ws p) in
+    let ways = led (lvm53.onward ws (pos (p + 1)) (getD ws p 0)) z (waysAt Lua53 ws p) in
     let steps = runs.laws .agreement53 .same ws p valid z in
     (λ m. steps .0 (ways .0 m), λ m. ways .1 (steps .1 m))
 

@@ -1,5 +1,5 @@
--- What can be touched, and what an access of lvm.c (runs/specs/Executions.antt) names in a word, by lopcodes.h's
--- macros: plainly, and at a stack top. What 5.3.6 alone has stands last.
+-- What can be touched, and what an access of lvm.c (runs/specs/Executions.antt) names in a word, by
+-- lopcodes.h's macros: plainly, and at a stack top. What 5.3.6 alone has stands last.
 -- Assumes nothing.
 use Prim.Native.Nat.{ℕ, _+_, _-_, _≤_, _<_}
 use mathlib.Core.Path.{_≡_}

@@ -9,7 +9,7 @@ use lib.ListN.{getD}
 use Rattle.graph.specs.Graph.{In}
 use Rattle.fields.specs.declared.version.Version.{Version}
 use Rattle.touches.specs.Words.{«GET_OPCODE-of», taken}
-use Rattle.runs.specs.Executions.{Access, Execution, run, Arm, arm}
+use Rattle.runs.specs.Executions.{Access, Execution, run, Arm, arm, goOf}
 use Rattle.touches.specs.Cells.{Cell, names, namesAt, Meets}
 use Rattle.touches.specs.Versions.{Way, waysOf, next}
 
@@ -59,7 +59,7 @@ WrittenOnAll v ws p c =
 
 -- the way leads to word z
 abbrev pub LeadsTo : (v : Version) → List ℕ → ℕ → ℤ → Way v → Type 0
-LeadsTo v ws p z (arm go runs) = In z (next v ws (pos (p + 1)) (getD ws p 0) go)
+LeadsTo v ws p z w = In z (next v ws (pos (p + 1)) (getD ws p 0) (goOf w))
 
 -- "A write that happens on one step only .. is listed with that step": written on a way that leads to
 -- word z, and not on every way
