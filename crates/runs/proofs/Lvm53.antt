@@ -1,5 +1,5 @@
 -- lvm.c's next words of 5.3.6 are those of specs/Successors53.antt, for a word that is not bad: each case of the switch has the ways on of a
--- shape, whose step class is the opcode's, by a computed test, and then a shape at a time.
+-- shape, whose step class is the opcode's, by computed tests, and then a shape at a time.
 -- Assumes nothing.
 use Prim.Native.Nat.{ℕ, _+_, _<_}
 use mathlib.Core.Path.{_≡_, refl, ap, sym, subst, _∙_}
@@ -47,76 +47,58 @@ data Shape : Type 0 where
 abbrev shapes : List Shape
 shapes = still ∷ skip ∷ loadbool ∷ setlist ∷ jumps ∷ compare ∷ test ∷ tailcall ∷ leaves ∷ loop ∷ prepare ∷ callLoop ∷ []
 
+-- its ways on, the step class that they amount to, and the companion that they lean on: the word that they run themselves
+abbrev partsOf : Shape → List Go × StepClass × Companion
+partsOf nowhere = ([], invalid, alone)
+partsOf still = (vmbreak ∷ [], following, alone)
+partsOf skip = («pc++» ∷ [], skipping, alone)
+partsOf loadbool = («pc++-if-C» ∷ [], skippingIfC, alone)
+partsOf setlist = («pc++-if-not-C» ∷ [], skippingUnlessC, alone)
+partsOf jumps = (jump ∷ [], jumping, alone)
+partsOf compare = (compared-0 ∷ compared-1 ∷ [], comparing, jumpAfter)
+partsOf test = («pc++» ∷ donextjump ∷ [], branching, jumpAfter)
+partsOf tailcall = (vmbreak ∷ leave ∷ [], following, alone)
+partsOf leaves = (leave ∷ [], returning, alone)
+partsOf loop = («pc+=sBx» ∷ vmbreak ∷ [], looping, alone)
+partsOf prepare = («pc+=sBx» ∷ [], jumping, alone)
+partsOf callLoop = («goto-l_tforloop» ∷ [], following, loopAfter)
+
 abbrev gosBy : Shape → List Go
-gosBy nowhere = []
-gosBy still = vmbreak ∷ []
-gosBy skip = «pc++» ∷ []
-gosBy loadbool = «pc++-if-C» ∷ []
-gosBy setlist = «pc++-if-not-C» ∷ []
-gosBy jumps = jump ∷ []
-gosBy compare = compared-0 ∷ compared-1 ∷ []
-gosBy test = «pc++» ∷ donextjump ∷ []
-gosBy tailcall = vmbreak ∷ leave ∷ []
-gosBy leaves = leave ∷ []
-gosBy loop = «pc+=sBx» ∷ vmbreak ∷ []
-gosBy prepare = «pc+=sBx» ∷ []
-gosBy callLoop = «goto-l_tforloop» ∷ []
+gosBy s = partsOf s .0
 
-abbrev goNumber : Go → ℕ
-goNumber vmbreak = 0
-goNumber «pc++» = 1
-goNumber «pc++-if-C» = 2
-goNumber «pc++-if-not-C» = 3
-goNumber jump = 4
-goNumber donextjump = 5
-goNumber compared-0 = 6
-goNumber compared-1 = 7
-goNumber «pc+=sBx» = 8
-goNumber «goto-l_tforloop» = 9
-goNumber leave = 10
+abbrev classBy : Shape → StepClass
+classBy s = partsOf s .1
 
+abbrev wantedBy : Shape → Companion
+wantedBy s = partsOf s .2
+
+-- the ways on by number
 abbrev goFrom : ℕ → Go
 goFrom number =
     getD (vmbreak ∷ «pc++» ∷ «pc++-if-C» ∷ «pc++-if-not-C» ∷ jump ∷ donextjump ∷ compared-0 ∷ compared-1 ∷ «pc+=sBx» ∷ «goto-l_tforloop» ∷ []) number leave
 
-go-back : (go : Go) → goFrom (goNumber go) ≡ go
-go-back vmbreak = refl
-go-back «pc++» = refl
-go-back «pc++-if-C» = refl
-go-back «pc++-if-not-C» = refl
-go-back jump = refl
-go-back donextjump = refl
-go-back compared-0 = refl
-go-back compared-1 = refl
-go-back «pc+=sBx» = refl
-go-back «goto-l_tforloop» = refl
-go-back leave = refl
+abbrev goNumbered : (go : Go) → (k : ℕ) × (goFrom k ≡ go)
+goNumbered vmbreak = (0, refl)
+goNumbered «pc++» = (1, refl)
+goNumbered «pc++-if-C» = (2, refl)
+goNumbered «pc++-if-not-C» = (3, refl)
+goNumbered jump = (4, refl)
+goNumbered donextjump = (5, refl)
+goNumbered compared-0 = (6, refl)
+goNumbered compared-1 = (7, refl)
+goNumbered «pc+=sBx» = (8, refl)
+goNumbered «goto-l_tforloop» = (9, refl)
+goNumbered leave = (10, refl)
 
 -- the shape of an opcode's case
 abbrev shapeAt : ℕ → Shape
-shapeAt o = shapeOf goNumber goFrom go-back gosBy nowhere shapes (bodyOf o)
+shapeAt o = shapeOf goFrom goNumbered gosBy nowhere shapes (bodyOf o)
 
-shaped : T (all (shapedAt goNumber goFrom go-back gosBy nowhere shapes bodyOf) 64)
+shaped : T (all (shapedAt goFrom goNumbered gosBy nowhere shapes bodyOf) 64)
 shaped = tt
 
 gos-by : (o : ℕ) → o < 64 → gosOf (bodyOf o) ≡ gosBy (shapeAt o)
-gos-by o h = shaped-below goNumber goFrom go-back gosBy nowhere shapes bodyOf 64 shaped o h
-
--- the step class that a shape amounts to
-abbrev classBy : Shape → StepClass
-classBy nowhere = invalid
-classBy still = following
-classBy skip = skipping
-classBy loadbool = skippingIfC
-classBy setlist = skippingUnlessC
-classBy jumps = jumping
-classBy compare = comparing
-classBy test = branching
-classBy tailcall = following
-classBy leaves = returning
-classBy loop = looping
-classBy prepare = jumping
-classBy callLoop = following
+gos-by o h = shaped-below goFrom goNumbered gosBy nowhere shapes bodyOf 64 shaped o h
 
 alike-below : T (all (sameAt classNumber classFrom class-back classOf (λ o. classBy (shapeAt o))) 64)
 unfolding classOf
@@ -213,23 +195,7 @@ same ws p e =
 
 -- Words that are run without a dispatch of their own.
 
--- the companion that a shape leans on: the word that it runs itself
-abbrev wantedBy : Shape → Companion
-wantedBy compare = jumpAfter
-wantedBy test = jumpAfter
-wantedBy callLoop = loopAfter
-wantedBy nowhere = alone
-wantedBy still = alone
-wantedBy skip = alone
-wantedBy loadbool = alone
-wantedBy setlist = alone
-wantedBy jumps = alone
-wantedBy tailcall = alone
-wantedBy leaves = alone
-wantedBy loop = alone
-wantedBy prepare = alone
-
--- it is the companion that the table wants
+-- the companion that a case leans on is the one that the table wants
 wants-below : T (all (leansAt companionNumber companionFrom companion-back (λ o. wantedBy (shapeAt o)) companionOf) 64)
 unfolding companionOf
 wants-below = tt

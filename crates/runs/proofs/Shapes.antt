@@ -17,7 +17,10 @@ right-of : (a b : Bool) → T (cond a b false) → T b
 right-of true b t = t
 right-of false b t = absurd t
 
-module _ {Go : Type 0} (number : Go → ℕ) (from : ℕ → Go) (back : (go : Go) → from (number go) ≡ go) where
+module _ {Go : Type 0} (from : ℕ → Go) (numbered : (go : Go) → (k : ℕ) × (from k ≡ go)) where
+  abbrev number : Go → ℕ
+  number go = numbered go .0
+
   abbrev same : List Go → List Go → Bool
   same [] [] = true
   same [] (y ∷ ys) = false
@@ -29,8 +32,8 @@ module _ {Go : Type 0} (number : Go → ℕ) (from : ℕ → Go) (back : (go : G
   by-test [] (y ∷ ys) t = absurd t
   by-test (x ∷ xs) [] t = absurd t
   by-test (x ∷ xs) (y ∷ ys) t =
-      let first : x ≡ y = sym (back x) ∙ (ap from (eqb→eq (number x) (number y) (left-of (eqb (number x) (number y)) (same xs ys) t)) ∙ back y) in
-      ap₂ (λ (z : Go) (zs : List Go). z ∷ zs) first (by-test xs ys (right-of (eqb (number x) (number y)) (same xs ys) t))
+      let n : number x ≡ number y = eqb→eq (number x) (number y) (left-of (eqb (number x) (number y)) (same xs ys) t) in
+      ap₂ (λ (z : Go) (zs : List Go). z ∷ zs) (sym (numbered x .1) ∙ (ap from n ∙ numbered y .1)) (by-test xs ys (right-of (eqb (number x) (number y)) (same xs ys) t))
 
   -- the first of some shapes that has a case's ways on
   module _ {Shape : Type 0} (gosBy : Shape → List Go) (none : Shape) (shapes : List Shape) where

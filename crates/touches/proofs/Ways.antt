@@ -133,40 +133,6 @@ away m a b = sym (+ℤ-assoc (pos m) (pos a) (negℤ (pos b)))
 
 -- The edge of a case, and the way on that leads over it
 
--- the edge over which a way leads, of those that a case can have
-abbrev edgeBy : (v : Version) → Go v → Edge
-edgeBy Lua54 lvm54.vmbreak = «p+1»
-edgeBy Lua54 lvm54.«pc++» = «p+2»
-edgeBy Lua54 lvm54.«pc++-if-k» = noEdge
-edgeBy Lua54 lvm54.jump = noEdge
-edgeBy Lua54 lvm54.donextjump = «p+1»
-edgeBy Lua54 lvm54.«pc-=Bx» = «p+1-Bx»
-edgeBy Lua54 lvm54.«pc+=Bx+1» = noEdge
-edgeBy Lua54 lvm54.«goto-l_tforcall» = noEdge
-edgeBy Lua54 lvm54.«goto-l_tforloop» = noEdge
-edgeBy Lua54 lvm54.leave = noEdge
-edgeBy Lua53 lvm53.vmbreak = «p+1»
-edgeBy Lua53 lvm53.«pc++» = «p+2»
-edgeBy Lua53 lvm53.«pc++-if-C» = noEdge
-edgeBy Lua53 lvm53.«pc++-if-not-C» = noEdge
-edgeBy Lua53 lvm53.jump = noEdge
-edgeBy Lua53 lvm53.donextjump = «p+1»
-edgeBy Lua53 lvm53.compared-0 = noEdge
-edgeBy Lua53 lvm53.compared-1 = noEdge
-edgeBy Lua53 lvm53.«pc+=sBx» = «p+1+sBx»
-edgeBy Lua53 lvm53.«goto-l_tforloop» = noEdge
-edgeBy Lua53 lvm53.leave = noEdge
-
-abbrev isEdge : Edge → Bool
-isEdge noEdge = false
-isEdge «p+1» = true
-isEdge «p+2» = true
-isEdge «p+1-Bx» = true
-isEdge «p+1+sBx» = true
-
-abbrev pub leads : (v : Version) → Edge → Go v → Bool
-leads v edge go = cond (isEdge edge) (eqb (edgeNumber (edgeBy v go)) (edgeNumber edge)) false
-
 -- where lvm.c leaves pc then
 abbrev pub landing : Version → Edge → ℕ → ℕ → ℤ
 landing v noEdge p w = pos 0
@@ -175,39 +141,51 @@ landing v «p+2» p w = pos (p + 1) +ℤ pos 1
 landing v «p+1-Bx» p w = pos (p + 1) -ℤ pos (taken v w .bx)
 landing v «p+1+sBx» p w = pos (p + 1) +ℤ (pos (taken v w .bx) -ℤ pos 131071)
 
-over :
-    (v : Version) (ws : List ℕ) (p w : ℕ) (go : Go v) → T (isEdge (edgeBy v go)) →
-    next v ws (pos (p + 1)) w go ≡ landing v (edgeBy v go) p w ∷ []
-over Lua54 ws p w lvm54.vmbreak t = refl
-over Lua54 ws p w lvm54.«pc++» t = refl
-over Lua54 ws p w lvm54.«pc++-if-k» t = absurd t
-over Lua54 ws p w lvm54.jump t = absurd t
-over Lua54 ws p w lvm54.donextjump t = refl
-over Lua54 ws p w lvm54.«pc-=Bx» t = refl
-over Lua54 ws p w lvm54.«pc+=Bx+1» t = absurd t
-over Lua54 ws p w lvm54.«goto-l_tforcall» t = absurd t
-over Lua54 ws p w lvm54.«goto-l_tforloop» t = absurd t
-over Lua54 ws p w lvm54.leave t = absurd t
-over Lua53 ws p w lvm53.vmbreak t = refl
-over Lua53 ws p w lvm53.«pc++» t = refl
-over Lua53 ws p w lvm53.«pc++-if-C» t = absurd t
-over Lua53 ws p w lvm53.«pc++-if-not-C» t = absurd t
-over Lua53 ws p w lvm53.jump t = absurd t
-over Lua53 ws p w lvm53.donextjump t = refl
-over Lua53 ws p w lvm53.compared-0 t = absurd t
-over Lua53 ws p w lvm53.compared-1 t = absurd t
-over Lua53 ws p w lvm53.«pc+=sBx» t = refl
-over Lua53 ws p w lvm53.«goto-l_tforloop» t = absurd t
-over Lua53 ws p w lvm53.leave t = absurd t
+abbrev isEdge : Edge → Bool
+isEdge noEdge = false
+isEdge «p+1» = true
+isEdge «p+2» = true
+isEdge «p+1-Bx» = true
+isEdge «p+1+sBx» = true
+
+-- the edge over which a way leads, of those that a case can have
+abbrev crossing :
+    (v : Version) (go : Go v) →
+    (edge : Edge) × ((ws : List ℕ) (p w : ℕ) → T (isEdge edge) → next v ws (pos (p + 1)) w go ≡ landing v edge p w ∷ [])
+crossing Lua54 lvm54.vmbreak = («p+1», λ ws p w t. refl)
+crossing Lua54 lvm54.«pc++» = («p+2», λ ws p w t. refl)
+crossing Lua54 lvm54.«pc++-if-k» = (noEdge, λ ws p w t. absurd t)
+crossing Lua54 lvm54.jump = (noEdge, λ ws p w t. absurd t)
+crossing Lua54 lvm54.donextjump = («p+1», λ ws p w t. refl)
+crossing Lua54 lvm54.«pc-=Bx» = («p+1-Bx», λ ws p w t. refl)
+crossing Lua54 lvm54.«pc+=Bx+1» = (noEdge, λ ws p w t. absurd t)
+crossing Lua54 lvm54.«goto-l_tforcall» = (noEdge, λ ws p w t. absurd t)
+crossing Lua54 lvm54.«goto-l_tforloop» = (noEdge, λ ws p w t. absurd t)
+crossing Lua54 lvm54.leave = (noEdge, λ ws p w t. absurd t)
+crossing Lua53 lvm53.vmbreak = («p+1», λ ws p w t. refl)
+crossing Lua53 lvm53.«pc++» = («p+2», λ ws p w t. refl)
+crossing Lua53 lvm53.«pc++-if-C» = (noEdge, λ ws p w t. absurd t)
+crossing Lua53 lvm53.«pc++-if-not-C» = (noEdge, λ ws p w t. absurd t)
+crossing Lua53 lvm53.jump = (noEdge, λ ws p w t. absurd t)
+crossing Lua53 lvm53.donextjump = («p+1», λ ws p w t. refl)
+crossing Lua53 lvm53.compared-0 = (noEdge, λ ws p w t. absurd t)
+crossing Lua53 lvm53.compared-1 = (noEdge, λ ws p w t. absurd t)
+crossing Lua53 lvm53.«pc+=sBx» = («p+1+sBx», λ ws p w t. refl)
+crossing Lua53 lvm53.«goto-l_tforloop» = (noEdge, λ ws p w t. absurd t)
+crossing Lua53 lvm53.leave = (noEdge, λ ws p w t. absurd t)
+
+abbrev pub leads : (v : Version) → Edge → Go v → Bool
+leads v edge go = cond (isEdge edge) (eqb (edgeNumber (crossing v go .0)) (edgeNumber edge)) false
 
 pub next-landing :
     (v : Version) (ws : List ℕ) (p w : ℕ) (edge : Edge) (go : Go v) → T (leads v edge go) →
     next v ws (pos (p + 1)) w go ≡ landing v edge p w ∷ []
 next-landing v ws p w edge go t =
-    let n : edgeNumber (edgeBy v go) ≡ edgeNumber edge = eqb→eq (edgeNumber (edgeBy v go)) (edgeNumber edge) (right-of (isEdge edge) _ t) in
-    let e : edgeBy v go ≡ edge = sym (edge-back (edgeBy v go)) ∙ (ap edgeFrom n ∙ edge-back edge) in
+    let own : Edge = crossing v go .0 in
+    let n : edgeNumber own ≡ edgeNumber edge = eqb→eq (edgeNumber own) (edgeNumber edge) (right-of (isEdge edge) _ t) in
+    let e : own ≡ edge = sym (edge-back own) ∙ (ap edgeFrom n ∙ edge-back edge) in
     subst (λ (x : Edge). next v ws (pos (p + 1)) w go ≡ landing v x p w ∷ []) e
-    (over v ws p w go (subst (λ (x : Edge). T (isEdge x)) (sym e) (left-of (isEdge edge) _ t)))
+    (crossing v go .1 ws p w (subst (λ (x : Edge). T (isEdge x)) (sym e) (left-of (isEdge edge) _ t)))
 
 pub landing-is :
     (v : Version) (ws : List ℕ) (p : ℕ) → isInvalid (stepsOf v ws p) ≡ false → (edge : Edge) →
