@@ -7,6 +7,7 @@ pub mod Laws
 pub mod Lvm
 pub mod Lvm53
 pub mod NextWords
+pub mod Shapes
 pub mod Ways
 pub mod Words
 pub mod Words53

@@ -2,6 +2,7 @@
 pub mod Columns
 pub mod Columns53
 pub mod Ways
+pub mod Executions
 pub mod Successors
 pub mod Lvm
 pub mod Successors53
