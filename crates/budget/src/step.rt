@@ -17,9 +17,10 @@ ghost use Rattle.budget.specs.Four.{
   settleFour,
   feedFourOf,
 };
+use common::c::FlatAnswer;
+use common::widths::wide;
 use fields::version::Version;
 use meter::Fed;
-use meter::FeedAnswer;
 use meter::Meter;
 use meter::begin_step;
 use meter::feed_script;
@@ -53,7 +54,7 @@ pub struct Meters {
 // Four meters after a call, and the call's answer.
 pub struct FedFour {
     pub meters: Meters,
-    pub answer: FeedAnswer,
+    pub answer: FlatAnswer,
 }
 
 // Field by field: where a whole meter is returned from an arm, the four are copied
@@ -117,14 +118,8 @@ fn with_meter(ms: Meters, script: u32, m: Meter) -> Meters
     }
 }
 
-fn wide(x: u32) -> u64
-    ensures { λ r. ⌜ r ≡ x ⌝ }
-{
-    x as u64
-}
-
 // Four counts of 32 bits: "the sum never wraps" in 64.
-fn sum(ms: Meters) -> u64
+fn sum(ms: Meters) -> usize
     ensures { λ r. ⌜ r ≡ sumOf ms ⌝ }
 {
     let axis = wide(ms.axis.count);
@@ -150,7 +145,7 @@ fn refused(ms: Meters, number: u64) -> FedFour
 {
     FedFour {
         meters: ms,
-        answer: FeedAnswer { number, place: 0 },
+        answer: FlatAnswer { number, place: 0 },
     }
 }
 
@@ -160,7 +155,7 @@ fn turned_back(m: Meter, number: u64) -> Fed
 {
     Fed {
         meter: m,
-        answer: FeedAnswer { number, place: 0 },
+        answer: FlatAnswer { number, place: 0 },
     }
 }
 
@@ -175,7 +170,7 @@ pub fn begin_four(ms: Meters, script: u32) -> FedFour
     let next = with_meter(ms, script, begun);
     FedFour {
         meters: next,
-        answer: FeedAnswer {
+        answer: FlatAnswer {
             number: ACCEPTED,
             place: 0,
         },
@@ -193,7 +188,7 @@ pub fn reset_four(ms: Meters, script: u32) -> FedFour
     let next = with_meter(ms, script, reset);
     FedFour {
         meters: next,
-        answer: FeedAnswer {
+        answer: FlatAnswer {
             number: ACCEPTED,
             place: 0,
         },

@@ -43,12 +43,12 @@ use Rattle.values.specs.declared.ir.Operands.{Operands}
 use Rattle.values.specs.declared.ir.Reads.{Reads}
 use Rattle.values.specs.declared.ir.Writes.{Writes}
 use Rattle.values.specs.declared.ir.SemanticInstruction.{SemanticInstruction}
-use Rattle.common.specs.declared.answer.Answer.{Answer}
+use Rattle.common.specs.declared.c.FlatAnswer.{FlatAnswer}
+use Rattle.common.specs.Flat.{flatAnswer}
 use Rattle.records.specs.Lift.{liftOf}
 use Rattle.records.specs.Refusals.{answerOf, planOf}
 use Rattle.exports.specs.declared.parts.FlatSlot.{FlatSlot}
 use Rattle.exports.specs.declared.parts.FlatPair.{FlatPair}
-use Rattle.exports.specs.declared.lifted.FlatAnswer.{FlatAnswer}
 
 abbrev pub flagNumber : Bool → ℕ
 flagNumber true = 1
@@ -223,9 +223,6 @@ pub record RecordWise (words tags payloads names : List ℕ) (bytes : ℕ) (numb
       → numbersAfter words tags payloads names bytes numbers ≡ numbers
 
 -- document 01's number and place (RULES 8)
-abbrev pub flatAnswer : Answer → FlatAnswer
-flatAnswer answer = record { number = answer .number; place = answer .place }
-
 abbrev pub liftAnswer : List ℕ → List ℕ → List ℕ → List ℕ → ℕ → List ℕ → FlatAnswer
 liftAnswer words tags payloads names bytes numbers =
     flatAnswer (planOf (length words) tags payloads names bytes (roomIn numbers) .answer)

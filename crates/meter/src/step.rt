@@ -1,6 +1,6 @@
 // Begin, feed and reset by value: a meter goes in, a meter comes out.
 ghost use mathlib.Core.Path.{_≡_};
-ghost use Prim.Native.Nat.{_*_, _<_, _≤_, max};
+ghost use Prim.Native.Nat.{_*_, _<_, _≤_};
 ghost use Rattle.common.specs.Limits.{mostWords};
 ghost use Rattle.runs.specs.Script.{scriptOf, lua54, graphOf};
 ghost use Rattle.runs.specs.Weights.{heaviestWeight};
@@ -16,7 +16,10 @@ ghost use Rattle.meter.specs.Feed.{
   refusal,
   feedOf,
 };
+use common::c::FlatAnswer;
 use common::limits::MOST_WORDS;
+use common::widths::larger;
+use common::widths::wide;
 use fields::version::Version;
 
 // A feed's number has 64 bits, as C gets it.
@@ -51,18 +54,10 @@ pub struct Meter {
     pub highest: u32,
 }
 
-// "Each answer carries its number, 0 when accepted, and a place, 0 unless named.":
-// what a feed answers, as C gets it.
-#[repr(C)]
-pub struct FeedAnswer {
-    pub number: u64,
-    pub place: u64,
-}
-
 // A meter after a feed, and the feed's answer.
 pub struct Fed {
     pub meter: Meter,
-    pub answer: FeedAnswer,
+    pub answer: FlatAnswer,
 }
 
 // Begin: not begun, 0, 0; the services and the highest stay.
@@ -89,12 +84,6 @@ pub fn reset_step(m: Meter) -> Meter
         services: m.services,
         highest: m.count,
     }
-}
-
-fn wide(x: u32) -> usize
-    ensures { λ r. ⌜ r ≡ x ⌝ }
-{
-    x as usize
 }
 
 // One service more, up to the ceiling.
@@ -144,15 +133,6 @@ fn is_stray(version: Version, words: &[u32], m: Meter, q: usize) -> bool
     !runs::script::is_successor(version, words, wide(m.last), q)
 }
 
-fn larger(x: u32, y: u32) -> u32
-    ensures { λ r. ⌜ r ≡ max x y ⌝ }
-{
-    if x < y {
-        return y;
-    }
-    x
-}
-
 // A begun meter, and a count that it shows now, after `before` was its highest.
 fn show_count(last: u32, count: u32, services: u32, before: u32) -> Meter
     ensures { λ r. ⌜ r ≡ showing last count services before ⌝ }
@@ -189,7 +169,7 @@ fn refused(m: Meter, number: u64, place: usize) -> Fed
 {
     Fed {
         meter: m,
-        answer: FeedAnswer {
+        answer: FlatAnswer {
             number,
             place: place as u64,
         },
@@ -217,7 +197,7 @@ pub fn feed_script(version: Version, words: &[u32], weights: &[u8], m: Meter, q:
     let next = moved(version, words, weights, m, q);
     Fed {
         meter: next,
-        answer: FeedAnswer {
+        answer: FlatAnswer {
             number: ACCEPTED,
             place: 0,
         },

@@ -1,11 +1,12 @@
 // The rotation, a turn at a time.
 ghost use mathlib.Core.Path.{_≡_};
-ghost use Prim.Native.Nat.{ℕ, _<_, _≤_, min};
+ghost use Prim.Native.Nat.{ℕ, _<_, _≤_};
 ghost use mathlib.Core.Bool.{cond};
 ghost use Rattle.rehearsal.specs.Machine.{taskAt};
 ghost use Rattle.rehearsal.specs.Waits.{longestWait};
 ghost use Rattle.rehearsal.specs.Running.{tallyAt, withoutFirst, toTheEnd, nextStage, startStage, Fine};
 ghost use Rattle.rehearsal.specs.Rehearse.{graphsOf, rehearsed};
+use common::widths::smaller;
 use crate::machine::Queue;
 use crate::machine::Stage;
 use crate::machine::Tallies;
@@ -14,15 +15,6 @@ use crate::machine::Turn;
 use crate::tallies::new_tally;
 use crate::tallies::note;
 use crate::turn::turn_of;
-
-fn smaller(a: u32, b: u32) -> u32
-    ensures { λ r. ⌜ r ≡ min a b ⌝ }
-{
-    if a < b {
-        return a;
-    }
-    b
-}
 
 fn pick(c: bool, s: Task, t: Task) -> Task
     ensures { λ r. ⌜ r ≡ cond c s t ⌝ }
