@@ -11,6 +11,7 @@ use lib.ListN.{length}
 use borrow.Author.Tests.{ltb-false, le-ltb, eq-eqb}
 use Rattle.common.specs.Numbers.{«ACCEPTED», «NO_SCRIPT», «BUDGET_RANGE», «OVER_BUDGET»}
 use Rattle.common.specs.Chain.{refuseIf}
+use Rattle.common.specs.Limits.{lastScript}
 use Rattle.graph.specs.Graph.{In}
 use Rattle.fields.specs.declared.version.Version.{Version}
 use Rattle.runs.specs.Script.{scriptOf}
@@ -27,7 +28,7 @@ use Rattle.meter.specs.Calls.{meterCalled, meterAfter}
 use Rattle.meter.specs.Bound.{Bound}
 use Rattle.meter.proofs.Laws as meter
 use Rattle.budget.specs.declared.step.Meters.{Meters}
-use Rattle.budget.specs.Four.{lastScript, refusedFour, meterOf, othersOf, isOutOfRange, beginFourOf, resetFourOf, feedFourOf}
+use Rattle.budget.specs.Four.{refusedFour, meterOf, othersOf, isOutOfRange, beginFourOf, resetFourOf, feedFourOf}
 use Rattle.budget.specs.Calls.{FourCall, Scripts, scriptsOf, EachWith, JustBegun, EachBegun, madeBy, made, fourAfter, numbersOf, turnsBack, answered, ownCalls, allAnswers}
 use Rattle.budget.specs.Never as Claim
 use Rattle.budget.specs.Never.{AcceptedWithin, EachWithin, isBegin, isFeed, NoFeeds, Begins, Opening, TurnsBack}

@@ -7,6 +7,7 @@ use lib.Dec.{ltb, eqb}
 use borrow.Author.Tests.{ltb-false, le-ltb, eqb-true, eq-eqb}
 use Rattle.common.specs.Numbers.{«ACCEPTED», «NO_SCRIPT», «BUDGET_RANGE», «OVER_BUDGET»}
 use Rattle.common.specs.Chain.{refuseIf}
+use Rattle.common.specs.Limits.{lastScript}
 use Rattle.meter.specs.declared.step.Meter.{Meter}
 use Rattle.common.specs.declared.c.FlatAnswer.{FlatAnswer}
 use Rattle.meter.specs.declared.step.Fed.{Fed}
@@ -14,7 +15,7 @@ use Rattle.meter.specs.Feed.{Scale, beginOf, resetOf, refusal, feedOf}
 use Rattle.meter.specs.Model.{Call, begin, feed, reset}
 use Rattle.budget.specs.declared.step.Meters.{Meters}
 use Rattle.budget.specs.declared.step.FedFour.{FedFour}
-use Rattle.budget.specs.Four.{meterOf, withMeter, othersOf, isOutOfRange, lastScript, refusedFour, beginFourOf, resetFourOf, settleFour, feedFourOf}
+use Rattle.budget.specs.Four.{meterOf, withMeter, othersOf, isOutOfRange, refusedFour, beginFourOf, resetFourOf, settleFour, feedFourOf}
 use Rattle.budget.specs.Calls.{Scripts, FourCall, madeBy, made}
 use Rattle.budget.proofs.Meters.{read-after, read-left, sum-after}
 

@@ -6,6 +6,7 @@ use mathlib.Core.List.{List, [], _∷_}
 use Prim.Native.Nat.{ℕ, _≤_, _<_}
 use lib.Dec.{eqb}
 use Rattle.common.specs.Numbers.{«NO_SCRIPT», «BUDGET_RANGE», «OVER_BUDGET»}
+use Rattle.common.specs.Limits.{lastScript}
 use Rattle.fields.specs.declared.version.Version.{Version}
 use Rattle.runs.specs.Script.{scriptOf}
 use Rattle.meter.specs.declared.step.Meter.{Meter}
@@ -14,7 +15,7 @@ use Rattle.meter.specs.Feed.{Scale, scaleOf, beginOf, resetOf, feedOf}
 use Rattle.meter.specs.Model.{Call, begin, feed, reset}
 use Rattle.budget.specs.declared.step.Meters.{Meters}
 use Rattle.budget.specs.declared.step.FedFour.{FedFour}
-use Rattle.budget.specs.Four.{meterOf, lastScript, othersOf, beginFourOf, resetFourOf, feedFourOf}
+use Rattle.budget.specs.Four.{meterOf, othersOf, beginFourOf, resetFourOf, feedFourOf}
 
 -- a call on one of the four: the script's number, S (which only a feed looks at), and the call on its meter
 pub record FourCall : Type 0 where

@@ -2,10 +2,10 @@
 ghost use mathlib.Core.Path.{_≡_};
 ghost use mathlib.Core.Bool.{cond};
 ghost use Prim.Native.Nat.{_≤_};
+ghost use Rattle.common.specs.Limits.{lastScript};
 ghost use Rattle.runs.specs.Script.{scriptOf, lua54};
 ghost use Rattle.meter.specs.Feed.{scaleOf, refusal};
 ghost use Rattle.budget.specs.Four.{
-  lastScript,
   meterOf,
   withMeter,
   sumOf,
@@ -18,6 +18,8 @@ ghost use Rattle.budget.specs.Four.{
   feedFourOf,
 };
 use common::c::FlatAnswer;
+use common::limits::LAST_SCRIPT;
+use common::limits::MOST_BUDGET;
 use common::widths::wide;
 use fields::version::Version;
 use meter::Fed;
@@ -35,12 +37,6 @@ const NO_SCRIPT: u64 = common::numbers::NO_SCRIPT as u64;
 const BUDGET_RANGE: u64 = common::numbers::BUDGET_RANGE as u64;
 
 const OVER_BUDGET: u64 = common::numbers::OVER_BUDGET as u64;
-
-// Scripts have the numbers 0 to this.
-const LAST_SCRIPT: u32 = 3;
-
-// "an allowance S, 1 to 16,777,216"
-const MOST_BUDGET: u32 = 16777216;
 
 // "Axis, focuser, dome and guider scripts": the meters of scripts 0 to 3, laid out as C lays them out.
 #[repr(C)]

@@ -4,6 +4,7 @@ pub mod answer;
 pub mod c;
 pub mod limits;
 pub mod numbers;
+pub mod sizes;
 pub mod widths;
 
 pub use answer::Answer;

@@ -17,6 +17,7 @@ ghost use Rattle.meter.specs.Feed.{
   feedOf,
 };
 use common::c::FlatAnswer;
+use common::limits::MOST_SERVICES;
 use common::limits::MOST_WORDS;
 use common::widths::larger;
 use common::widths::wide;
@@ -36,9 +37,6 @@ const WEIGHTS_REFUSED: u64 = common::numbers::WEIGHTS_REFUSED as u64;
 
 // A meter's count is at most so much for each word up to the last (request C-17).
 const HEAVIEST: usize = 255;
-
-// Document 01, "Meter", RULES 4: services stay at this.
-const CEILING: u32 = 4294967295;
 
 // Four numbers in the order of document 01 and the highest of request C-19, laid out as C lays them out.
 // A number for `begun`, not a bool: a bool of 2 from a C caller would have no meaning, while a number does:
@@ -90,10 +88,10 @@ pub fn reset_step(m: Meter) -> Meter
 fn one_service(s: u32) -> u32
     ensures { λ r. ⌜ r ≡ oneService s ⌝ }
 {
-    if s < CEILING {
+    if s < MOST_SERVICES {
         return s + 1;
     }
-    CEILING
+    MOST_SERVICES
 }
 
 // Number 11: no meter of a function of n words, or one whose highest is below its count.

@@ -6,7 +6,6 @@ ghost use Rattle.rehearsal.specs.Machine.{taskAt};
 ghost use Rattle.rehearsal.specs.Waits.{longestWait};
 ghost use Rattle.rehearsal.specs.Running.{tallyAt, withoutFirst, toTheEnd, nextStage, startStage, Fine};
 ghost use Rattle.rehearsal.specs.Rehearse.{graphsOf, rehearsed};
-use common::widths::smaller;
 use crate::machine::Queue;
 use crate::machine::Stage;
 use crate::machine::Tallies;
@@ -15,6 +14,7 @@ use crate::machine::Turn;
 use crate::tallies::new_tally;
 use crate::tallies::note;
 use crate::turn::turn_of;
+use common::widths::smaller;
 
 fn pick(c: bool, s: Task, t: Task) -> Task
     ensures { λ r. ⌜ r ≡ cond c s t ⌝ }

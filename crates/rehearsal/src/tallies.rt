@@ -3,9 +3,9 @@ ghost use mathlib.Core.Path.{_≡_};
 ghost use Prim.Native.Nat.{_≤_};
 ghost use mathlib.Core.Bool.{cond};
 ghost use Rattle.rehearsal.specs.Running.{tallyAt, withTally, notedTally, noted, newTally};
-use common::widths::larger;
 use crate::machine::Tallies;
 use crate::machine::Tally;
+use common::widths::larger;
 
 pub(crate) fn new_tally(limit: u32) -> Tally
     ensures { λ r. ⌜ r ≡ newTally limit ⌝ }

@@ -23,7 +23,6 @@ ghost use Rattle.sweep.specs.PassInvariants.{
   SameBut,
   at,
 };
-use common::widths::larger;
 use crate::edges::serves;
 use crate::packing::ENTRIES;
 use crate::packing::KIND_NEXT;
@@ -31,6 +30,7 @@ use crate::packing::KIND_NONE;
 use crate::packing::KIND_TARGET;
 use crate::packing::RETURNS;
 use crate::packing::TARGETS;
+use common::widths::larger;
 
 // What a word weighs: a byte of the table, at the place that a mask leaves of the word.
 fn weigh(mask: u32, weights: &[u8], word: u32) -> u32
