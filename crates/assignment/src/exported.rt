@@ -2,24 +2,10 @@
 ghost use mathlib.Core.Path.{_≡_};
 ghost use lib.ListN.{length};
 ghost use Rattle.assignment.specs.Answers.{assignmentOf, marksAssigned};
-ghost use Rattle.assignment.specs.Flat.{flatAnswer};
+ghost use Rattle.common.specs.Flat.{flatAnswer};
 use crate::definite::definite_assignment;
-use common::Answer;
-
-#[repr(C)]
-pub struct FlatAnswer {
-    pub number: u64,
-    pub place: u64,
-}
-
-fn flat_answer(answer: Answer) -> FlatAnswer
-    ensures { λ r. ⌜ r ≡ flatAnswer answer ⌝ }
-{
-    FlatAnswer {
-        number: answer.number as u64,
-        place: answer.place as u64,
-    }
-}
+use common::c::FlatAnswer;
+use common::c::flat_answer;
 
 #[no_mangle]
 pub extern "C" fn lawendeb_definite_assignment(

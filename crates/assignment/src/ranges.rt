@@ -1,12 +1,14 @@
 // Sets of registers: those of a block, from register r on, as the bits of a number. The highest bit is no
 // register's.
 ghost use mathlib.Core.Path.{_≡_};
-ghost use Prim.Native.Nat.{_≤_, _<_, min, max};
+ghost use Prim.Native.Nat.{_≤_, _<_};
 ghost use lib.Dec.{ltb};
 ghost use lib.ListN.{length};
 ghost use Rattle.touches.specs.Meaning.{rangesIn};
 ghost use Rattle.assignment.specs.Uses.{inRange, inRanges, endOf, setsBy};
 ghost use Rattle.assignment.specs.Blocks.{mostRegisters, nextOf, nextIn, Listed, Holds};
+use common::widths::larger_size;
+use common::widths::smaller_size;
 use touches::Touches;
 use touches::answer::Range;
 use touches::answer::Ranges;
@@ -72,29 +74,11 @@ pub(crate) fn set_by(r: usize, t: Touches, q: usize) -> u64
     always
 }
 
-fn larger(x: usize, y: usize) -> usize
-    ensures { λ r. ⌜ r ≡ max x y ⌝ }
-{
-    if x < y {
-        return y;
-    }
-    x
-}
-
-pub(crate) fn smaller(x: usize, y: usize) -> usize
-    ensures { λ r. ⌜ r ≡ min x y ⌝ }
-{
-    if y < x {
-        return y;
-    }
-    x
-}
-
 // The lowest register from r on in a range, past all registers if there is none.
 fn next_of(x: Range, r: usize) -> usize
     ensures { λ s. ⌜ (s ≡ nextOf r x) × (x .last < mostRegisters) ⌝ }
 {
-    let first = larger(x.first as usize, r);
+    let first = larger_size(x.first as usize, r);
     if first <= x.last as usize {
         return first;
     }
@@ -112,19 +96,19 @@ pub(crate) fn next_in(x: Ranges, r: usize) -> usize
         return MOST_REGISTERS;
     }
     if count == 1 {
-        return smaller(next_of(items[0], r), MOST_REGISTERS);
+        return smaller_size(next_of(items[0], r), MOST_REGISTERS);
     }
     if count == 2 {
-        return smaller(
+        return smaller_size(
             next_of(items[0], r),
-            smaller(next_of(items[1], r), MOST_REGISTERS),
+            smaller_size(next_of(items[1], r), MOST_REGISTERS),
         );
     }
-    smaller(
+    smaller_size(
         next_of(items[0], r),
-        smaller(
+        smaller_size(
             next_of(items[1], r),
-            smaller(next_of(items[2], r), MOST_REGISTERS),
+            smaller_size(next_of(items[2], r), MOST_REGISTERS),
         ),
     )
 }

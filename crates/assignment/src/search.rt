@@ -15,9 +15,9 @@ use crate::ranges::MOST_REGISTERS;
 use crate::ranges::in_ranges;
 use crate::ranges::next_in;
 use crate::ranges::set_by;
-use crate::ranges::smaller;
 use crate::waiting::PAGE;
 use crate::waiting::next_waiting;
+use common::widths::smaller_size;
 use steps::successors::successors;
 use sweep::edges::Successors;
 use touches::Touches;
@@ -131,7 +131,7 @@ fn note(t: Touches, s: Successors, r: usize, at: u64, p: usize, seen: Seen) -> S
     ensures { λ f. ⌜ Notes r t s at p seen f ⌝ }
 {
     let reads = t.reads;
-    let next = smaller(seen.next, next_in(reads, r + BLOCK));
+    let next = smaller_size(seen.next, next_in(reads, r + BLOCK));
     let bad = bad_too(seen.bad, s);
     let to = onward(s, p);
     let least = seen.least;

@@ -6,7 +6,7 @@ use mathlib.Core.Path.{_≡_}
 use mathlib.Core.List.{List}
 use Prim.Native.Nat.{ℕ, _+_, _≤_, min}
 use lib.ListN.{length}
-use Rattle.common.specs.Limits.{mostWords}
+use Rattle.common.specs.Limits.{mostWords, lastScript}
 use Rattle.fields.specs.declared.version.Version.{Version}
 use Rattle.runs.specs.Script.{scriptOf}
 use Rattle.runs.specs.Weights.{Weighs}
@@ -25,7 +25,7 @@ use Rattle.meter.specs.Model.{
 use Rattle.meter.specs.Calls.{meterAfter}
 use Rattle.meter.specs.Highest.{HighestAfter}
 use Rattle.budget.specs.declared.step.Meters.{Meters}
-use Rattle.budget.specs.Four.{lastScript, meterOf}
+use Rattle.budget.specs.Four.{meterOf}
 use Rattle.budget.specs.Calls.{
   FourCall,
   Scripts,

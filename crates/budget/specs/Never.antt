@@ -9,6 +9,7 @@ use mathlib.Core.List.{List, [], _∷_, _++_}
 use Prim.Native.Nat.{ℕ, _/_, _≤_, _<_}
 use lib.ListN.{getD}
 use Rattle.common.specs.Numbers.{«ACCEPTED», «OVER_BUDGET»}
+use Rattle.common.specs.Limits.{lastScript}
 use Rattle.graph.specs.Graph.{In}
 use Rattle.fields.specs.declared.version.Version.{Version}
 use Rattle.runs.specs.Script.{scriptOf}
@@ -17,7 +18,7 @@ use Rattle.runs.specs.Run.{runOf, numberOf, longestOf}
 use Rattle.meter.specs.Feed.{scaleOf}
 use Rattle.meter.specs.Model.{Call, begin, feed, reset}
 use Rattle.budget.specs.declared.step.Meters.{Meters}
-use Rattle.budget.specs.Four.{lastScript, meterOf, feedFourOf}
+use Rattle.budget.specs.Four.{meterOf, feedFourOf}
 use Rattle.budget.specs.Calls.{
   FourCall,
   scriptsOf,

@@ -8,9 +8,9 @@ ghost use Rattle.meter.specs.Feed.{scaleOf};
 ghost use Rattle.budget.specs.Four.{ownOf, feedFourOf};
 use budget::Meters;
 use budget::feed_own_script;
+use common::c::FlatAnswer;
 use fields::version::Version;
 use meter::Fed;
-use meter::FeedAnswer;
 
 // By value: four meters go in, the fed script's own comes out.
 pub fn feed_own_53(
@@ -37,7 +37,7 @@ pub extern "C" fn lawendeb_feed_four_53(
     script: u32,
     budget: u32,
     q: usize,
-) -> FeedAnswer
+) -> FlatAnswer
     ensures { λ r. ⌜ (r ≡ feedFourOf (scaleOf (scriptOf Lua53 (now (words .entry))) (now (weights .entry)))
         (now (ms .entry)) script budget q .answer)
         × (now (ms .exit) ≡ feedFourOf (scaleOf (scriptOf Lua53 (now (words .entry))) (now (weights .entry)))

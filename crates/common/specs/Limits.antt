@@ -17,3 +17,27 @@ mostNames = 255
 -- "line 4,097 exists"
 abbrev pub mostLines : ℕ
 mostLines = 4096
+
+-- "sheet line malformed or over 4,294,967,295"
+abbrev pub mostWord : ℕ
+mostWord = 4294967295
+
+-- request C-20: "a script number above 3"
+abbrev pub lastScript : ℕ
+lastScript = 3
+
+-- request C-20: "an allowance S, 1 to 16,777,216"
+abbrev pub mostBudget : ℕ
+mostBudget = 16777216
+
+-- request C-21: "1 to 4 accepted scripts"
+abbrev pub mostScripts : ℕ
+mostScripts = 4
+
+-- request C-21: "q from 1 to 1,000"
+abbrev pub mostQuantum : ℕ
+mostQuantum = 1000
+
+-- document 01, "Meter", RULES 4: the services, "staying at 4,294,967,295"
+abbrev pub mostServices : ℕ
+mostServices = 4294967295

@@ -11,3 +11,21 @@ pub const MOST_NAMES: usize = 255;
 
 // Number 13: so many lines of a sheet pass.
 pub const MOST_LINES: usize = 4096;
+
+// Number 12: a line of a sheet is a word, of 32 bits.
+pub const MOST_WORD: u64 = 4294967295;
+
+// Number 20: scripts have the numbers 0 to this.
+pub const LAST_SCRIPT: u32 = 3;
+
+// Number 21: a budget is 1 to this.
+pub const MOST_BUDGET: u32 = 16777216;
+
+// Number 23: so many scripts are rehearsed.
+pub const MOST_SCRIPTS: usize = 4;
+
+// Number 23: a turn's q is 1 to this.
+pub const MOST_QUANTUM: u32 = 1000;
+
+// Document 01, "Meter", RULES 4: a meter's services stay at this.
+pub const MOST_SERVICES: u32 = 4294967295;

@@ -2,7 +2,7 @@
 -- include/RECORD.md has the tables. A kind is the place of the case in ir.rs or model.rs, an absent value is
 -- 0, and so is every number that a kind does not use.
 -- Assumes nothing.
-use Prim.Native.Nat.{ℕ, zero, suc, _+_, _*_, _/_, _^_, _<_}
+use Prim.Native.Nat.{ℕ, zero, suc, _*_, _/_, _<_}
 use mathlib.Core.Path.{_≡_}
 use mathlib.Core.Bool.{Bool, true, false}
 use mathlib.Core.List.{List, [], _∷_, _++_}
@@ -13,7 +13,7 @@ use mir.Syntax.{w64}
 use mir.Val.{ofZ}
 use Rattle.common.specs.Numbers.{«ACCEPTED»}
 use Rattle.common.specs.Chain.{choose}
-use Rattle.values.specs.declared.model.Span.{Span}
+use Rattle.values.specs.Values.{spanNumber}
 use Rattle.values.specs.declared.model.Name.{Name}
 use Rattle.values.specs.declared.model.Name.the-variants.{Unnamed, Named}
 use Rattle.values.specs.declared.model.ConstantValue.{ConstantValue}
@@ -43,20 +43,16 @@ use Rattle.values.specs.declared.ir.Operands.{Operands}
 use Rattle.values.specs.declared.ir.Reads.{Reads}
 use Rattle.values.specs.declared.ir.Writes.{Writes}
 use Rattle.values.specs.declared.ir.SemanticInstruction.{SemanticInstruction}
-use Rattle.common.specs.declared.answer.Answer.{Answer}
+use Rattle.common.specs.declared.c.FlatAnswer.{FlatAnswer}
+use Rattle.common.specs.Flat.{flatAnswer}
 use Rattle.records.specs.Lift.{liftOf}
 use Rattle.records.specs.Refusals.{answerOf, planOf}
 use Rattle.exports.specs.declared.parts.FlatSlot.{FlatSlot}
 use Rattle.exports.specs.declared.parts.FlatPair.{FlatPair}
-use Rattle.exports.specs.declared.lifted.FlatAnswer.{FlatAnswer}
 
 abbrev pub flagNumber : Bool → ℕ
 flagNumber true = 1
 flagNumber false = 0
-
--- a string's place, as it is lent: start in the low 32 bits, length in the high 32
-abbrev pub spanNumber : Span → ℕ
-spanNumber span = span .start + span .len * 2 ^ 32
 
 -- a float's bits. What is not a number has no bits as a `Float`, and no record holds it as one: see NanBits.
 unfoldable pub floatBits : Float → ℕ
@@ -71,7 +67,7 @@ pair kind value = record { kind = kind; value = value }
 -- whether there is a name, and its place
 abbrev pub flatName : Name → FlatPair
 flatName Unnamed = pair 0 0
-flatName (Named span) = pair 1 (spanNumber span)
+flatName (Named span) = pair 1 (spanNumber (span .start) (span .len))
 
 -- the kinds of model.rs's constants. A float that is not a number is of the floats' kind, by its own bits.
 abbrev pub flatValue : ConstantValue → FlatPair
@@ -80,8 +76,8 @@ flatValue (value.Boolean b) = pair 1 (flagNumber b)
 flatValue (value.Integer i) = pair 2 (ofZ w64 i)
 flatValue (value.Float x) = pair 3 (floatBits x)
 flatValue (value.NanBits bits) = pair 3 bits
-flatValue (value.ShortString span) = pair 4 (spanNumber span)
-flatValue (value.LongString span) = pair 5 (spanNumber span)
+flatValue (value.ShortString span) = pair 4 (spanNumber (span .start) (span .len))
+flatValue (value.LongString span) = pair 5 (spanNumber (span .start) (span .len))
 
 -- the kinds of ir.rs's operands
 abbrev pub flatOperand : TypedOperand → FlatSlot
@@ -223,9 +219,6 @@ pub record RecordWise (words tags payloads names : List ℕ) (bytes : ℕ) (numb
       → numbersAfter words tags payloads names bytes numbers ≡ numbers
 
 -- document 01's number and place (RULES 8)
-abbrev pub flatAnswer : Answer → FlatAnswer
-flatAnswer answer = record { number = answer .number; place = answer .place }
-
 abbrev pub liftAnswer : List ℕ → List ℕ → List ℕ → List ℕ → ℕ → List ℕ → FlatAnswer
 liftAnswer words tags payloads names bytes numbers =
     flatAnswer (planOf (length words) tags payloads names bytes (roomIn numbers) .answer)

@@ -23,18 +23,13 @@ ghost use Rattle.exports.specs.Record.{
   liftAnswer,
 };
 use crate::parts::*;
+use common::c::FlatAnswer;
 use records::lift::record_or_blank;
 use records::refusals::planned;
 use values::ir::*;
 
 // Numbers in a record.
 const RECORD_LENGTH: usize = 53;
-
-#[repr(C)]
-pub struct FlatAnswer {
-    pub number: u64,
-    pub place: u64,
-}
 
 fn put_one(numbers: &mut [u64], at: usize, a: u64)
     requires { ⌜ at + 1 ≤ length (now numbers) ⌝ }

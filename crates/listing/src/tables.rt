@@ -9,11 +9,11 @@ ghost use Rattle.listing.specs.Answer.{runText, answerOf};
 ghost use Rattle.listing.specs.Claims.{pageLength, Enough, Counted};
 use crate::paper::BUFFER;
 use crate::paper::PAGE;
-use crate::paper::put_text;
 use crate::rows::put_listing;
 use fields::version::Version;
 use runs::Run;
 use sheet::Sheet;
+use sheet::inner::put_text;
 
 // Puts the only line of a refusal, and answers how long it is.
 fn put_refusal(number: u8, place: usize, page: &mut [u8]) -> usize

@@ -7,7 +7,7 @@ use native.Mathlib.Omega.{arith}
 use lib.Dec.{ltb, eqb}
 use lib.ListN.{getD}
 use borrow.Author.Tests.{ltb-true, ltb-false, le-ltb, lt-leb, le-leb, eqb-true, ne-eqb}
-use Rattle.common.specs.Limits.{mostWords}
+use Rattle.common.specs.Limits.{mostWords, mostServices}
 use Rattle.graph.specs.Graph.{Graph, Lawful}
 use Rattle.graph.proofs.Laws.{laws}
 use Rattle.runs.specs.Script.{Script, graphOf, weightOf}
@@ -16,7 +16,7 @@ use Rattle.runs.specs.Weights.{refusesWeights, weightsPlace, heaviestWeight}
 use Rattle.runs.proofs.Laws as runs
 use Rattle.meter.specs.declared.step.Meter.{Meter}
 use Rattle.meter.specs.declared.step.Fed.{Fed}
-use Rattle.meter.specs.Feed.{scaleOf, follows, ceiling, showing, movedTo, isForeign, isStray, beginOf, resetOf, feedOf}
+use Rattle.meter.specs.Feed.{scaleOf, follows, showing, movedTo, isForeign, isStray, beginOf, resetOf, feedOf}
 use Rattle.meter.specs.Model.{lastFrom, writes, servesTo, hasWord, lastOr0, anyServes}
 use Rattle.meter.specs.Changing.{Call, begin, feed, reset, Entry, Book, empty, wordsOf, sumOf, sinceService, weighedSince, written, bookFed, bookCalled, bookAfter, bookAnswer, bookAnswers, meterAfter, meterAnswers, Bytes, FollowsBook}
 use Rattle.meter.proofs.Calls.{more-services}
@@ -70,7 +70,7 @@ module _ (ws : Script) (sound : script.Sound ws) (few : ws .size ≤ mostWords) 
         begun = cond (hasWord (wordsOf (b .path))) 1 0;
         last = lastOr0 (wordsOf (b .path));
         count = weighedSince g (b .path);
-        services = min (start + b .tally) ceiling;
+        services = min (start + b .tally) mostServices;
         highest = highest;
       }
 
@@ -219,7 +219,7 @@ module _ (ws : Script) (sound : script.Sound ws) (few : ws .size ≤ mostWords) 
                 ∙ (rest .after ∙ ap (λ (u : Bool). shows start (bookAfter ws (cond u b (written ws b weights q t)) cs) (rest .highest)) (sym e));
           }
 
-  begun-empty : (m : Meter) → m .services ≤ ceiling → beginOf m ≡ shows (m .services) empty (m .highest)
+  begun-empty : (m : Meter) → m .services ≤ mostServices → beginOf m ≡ shows (m .services) empty (m .highest)
   unfolding beginOf
   begun-empty m h = ap (λ (n : ℕ). record { begun = 0; last = 0; count = 0; services = n; highest = m .highest }) (omega arith)
 

@@ -10,9 +10,10 @@ use lib.Dec.{eqb}
 use lib.ListN.{length, take, drop, length-append, take-append-drop}
 use lib.Seq.{take-at, drop-at, take-take, take-nil, drop-drop}
 use borrow.Author.Tests.{ne-eqb}
+use Rattle.common.specs.Limits.{mostWord}
 use Rattle.sheet.specs.declared.reading.Sheet.{Sheet}
 use Rattle.sheet.specs.declared.reading.Sheet.the-variants.{Words, Malformed, TooLong}
-use Rattle.sheet.specs.Line.{mostWord, lineOf, valueOf, isLine}
+use Rattle.sheet.specs.Line.{lineOf, valueOf, isLine}
 use Rattle.sheet.specs.Format.{readFrom, sheetOf, wordAt, wordsOf}
 use Rattle.sheet.specs.Claims.{textOf, AllWords, Accepted, Broken, Overfull, Says, Claims}
 use Rattle.sheet.proofs.Widths.{length-line}

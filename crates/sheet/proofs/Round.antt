@@ -10,8 +10,9 @@ use lib.Dec.{leb, eqb}
 use lib.ListN.{length, take, drop, length-take, length-drop}
 use lib.Seq.{take-at}
 use borrow.Author.Tests.{eqb-true, eq-eqb, leb-true, le-leb, lt-leb}
+use Rattle.common.specs.Limits.{mostWord}
 use Rattle.sheet.specs.Columns.{digitOf, glyphOf, leading, columns}
-use Rattle.sheet.specs.Line.{mostWord, lineOf, valueFrom, valueOf, same, isLine}
+use Rattle.sheet.specs.Line.{lineOf, valueFrom, valueOf, same, isLine}
 use Rattle.sheet.proofs.Widths.{length-columns, length-line}
 use Rattle.sheet.proofs.Compare.{same-short}
 

@@ -6,11 +6,8 @@ use mathlib.Core.List.{List, [], _∷_, _++_}
 use Prim.Native.Nat.{ℕ, _+_, _*_, _%_}
 use lib.Dec.{leb, eqb}
 use lib.ListN.{take}
+use Rattle.common.specs.Limits.{mostWord}
 use Rattle.sheet.specs.Columns.{newline, columns}
-
--- a word is 32 bits
-abbrev pub mostWord : ℕ
-mostWord = 4294967295
 
 -- the line of the word v
 unfoldable pub lineOf : ℕ → List ℕ

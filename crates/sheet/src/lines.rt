@@ -6,12 +6,10 @@ ghost use lib.ListN.{length, take, drop};
 ghost use Rattle.sheet.specs.Line.{lineOf, valueOf, same, isLine};
 use crate::digits::digit;
 use crate::digits::glyph;
+use common::limits::MOST_WORD;
 
 // Ten columns and a newline.
 pub(crate) const LINE: usize = 11;
-
-// A word is 32 bits.
-const MOST: u64 = 4294967295;
 
 // The number that the ten columns from index at show.
 pub(crate) fn value(text: &[u8], at: usize) -> u64
@@ -59,7 +57,7 @@ pub(crate) fn is_line(text: &[u8], at: usize) -> bool
         return false;
     }
     let v = value(text, at);
-    if MOST < v {
+    if MOST_WORD < v {
         return false;
     }
     shows(text, at, v)

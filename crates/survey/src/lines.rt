@@ -8,11 +8,11 @@ ghost use Rattle.survey.specs.Lines.{headOf, tailOf, onlyOf, lineOf};
 ghost use Rattle.survey.specs.Claims.{lineLength, Counted};
 use crate::paper;
 use crate::paper::LINE;
-use crate::paper::put_text;
 use crate::run::run_of;
 use chunk::Counts;
 use runs::Run;
 use sheet::Cell;
+use sheet::inner::put_text;
 
 fn put_cell(page: &mut [u8], at: usize, c: Cell)
     requires { ⌜ at + 6 ≤ length (now page) ⌝ }

@@ -5,7 +5,7 @@
 ghost use mathlib.Core.Path.{_≡_};
 ghost use mathlib.Core.Bool.{cond};
 ghost use mathlib.Core.List.{_++_};
-ghost use Prim.Native.Nat.{_≤_, _<_, max};
+ghost use Prim.Native.Nat.{_≤_, _<_};
 ghost use lib.Bits.{bitAnd};
 ghost use lib.Dec.{eqb};
 ghost use lib.ListN.{length, getD, drop, replicate};
@@ -30,6 +30,7 @@ use crate::packing::KIND_NONE;
 use crate::packing::KIND_TARGET;
 use crate::packing::RETURNS;
 use crate::packing::TARGETS;
+use common::widths::larger;
 
 // What a word weighs: a byte of the table, at the place that a mask leaves of the word.
 fn weigh(mask: u32, weights: &[u8], word: u32) -> u32
@@ -57,16 +58,6 @@ fn beyond(lengths: &[u32], p: usize, q: usize) -> u32
     ensures { λ r. ⌜ r ≡ cond (servesOf p q) 0 (at (now (lengths .entry)) q) ⌝ }
 {
     lengths[later(p, q)]
-}
-
-// The larger of two lengths.
-fn larger(x: u32, y: u32) -> u32
-    ensures { λ r. ⌜ r ≡ max x y ⌝ }
-{
-    if x < y {
-        return y;
-    }
-    x
 }
 
 // The length of a word, and the lowest reachable invalid word from it on.

@@ -39,9 +39,9 @@ use denote.Triple.Table.{entered, cited}
 use denote.Triple.Walked.{says, Stays, stay-ref, stay-none, walkOf, AllGo, goes-none, goes-ref, Walks, ends-at, walked, walk-meets}
 use denote.Exit.{yes}
 use denote.Triple.Clauses.{ensured, lasts}
-use Rattle.meter.specs.declared.step.FeedAnswer.{FeedAnswer}
-use Rattle.meter.proofs.step.FeedAnswer as N
-use Rattle.meter.proofs.step.FeedAnswer.Laws as N′
+use Rattle.common.specs.declared.c.FlatAnswer.{FlatAnswer}
+use Rattle.common.proofs.c.FlatAnswer as N
+use Rattle.common.proofs.c.FlatAnswer.Laws as N′
 use Rattle.budget.specs.declared.step.Meters.{Meters}
 use Rattle.budget.specs.declared.step.FedFour.{FedFour}
 use Rattle.budget.specs.Four.{resetFourOf}
@@ -64,7 +64,7 @@ stayed = (stay-ref (0 ∷ []) tt (plain (λ _. T.the-row)), (stay-none (λ _. u3
 abbrev vals : Meters → List Val
 vals = LL.vals T.the-type T′.the-laws
 
-abbrev answer-vals : FeedAnswer → List Val
+abbrev answer-vals : FlatAnswer → List Val
 answer-vals = LL.vals N.the-type N′.the-laws
 
 -- what whoever holds a `FedFour` knows of its two fields

@@ -3,7 +3,8 @@ use Prim.Native.Nat.{_≤_}
 use native.Mathlib.Omega.{arith}
 use lib.ListN.{take, drop, length-take, length-drop}
 use borrow.Author.Needs.{needs}
-use Rattle.sheet.specs.Line.{mostWord, valueOf}
+use Rattle.common.specs.Limits.{mostWord}
+use Rattle.sheet.specs.Line.{valueOf}
 use Rattle.sheet.proofs.Round.{line-short, line-big, line-fits}
 use Rattle.sheet.proofs.lines.is_line.Statement.{statement}
 use Rattle.sheet.proofs.lines.is_line.Tie as tie

@@ -7,8 +7,8 @@ use lib.ListN.{length, take, length-set}
 use lib.Seq.{take-length}
 use Rattle.common.specs.Lists.{put}
 use Rattle.common.proofs.Put.{put-laws}
-use Rattle.survey.proofs.paper.put_text.Statement.{statement}
-use Rattle.survey.proofs.paper.put_text.Tie as tie
+use Rattle.sheet.proofs.writing.put_text.Statement.{statement}
+use Rattle.sheet.proofs.writing.put_text.Tie as tie
 
 abbrev Inv-loop : tie.InvT-loop
 Inv-loop page₀ at text i₀ page i = (i ≤ length text) × (length page ≡ length page₀) × (page ≡ put page₀ at (take i text))
