@@ -1026,6 +1026,20 @@ static void weights_of(const struct version *version, const uint32_t *four_words
     CHECK(lent_from(0));
 }
 
+/* Too many words, for what the files have no room: 1 before all else, and nothing is written. */
+static void too_many(const struct version *u) {
+    enum { ONE = LAWENDEB_TOO_MANY_WORDS };
+    uint32_t *l = lengths;
+    lend_all();
+    CHECK(u->nearest(many, MANY, 0, marks, 0, l, 0).number == ONE);
+    CHECK(u->crossed(many, MANY, 0, marks, MANY, l, MANY).number == ONE);
+    CHECK(u->within(many, MANY, 0, marks, 0, l, 0, within_list, 0).number == ONE);
+    CHECK(u->path(many, MANY, ones, 0, marks, 0, l, 0, l, 0).number == ONE);
+    CHECK(lawendeb_rehearse(many, MANY, NULL, 0, NULL, 0, NULL, 0, 1, 1, NULL, 0, 9, marks, 0, l, 0)
+              .number == ONE);
+    CHECK(lent_from(0));
+}
+
 /* ---- two tables, the most words, and four meters of Lua 5.3 */
 
 static void siblings_53(void) {
@@ -1224,6 +1238,7 @@ static int is_name(struct lawendeb_name a) {
 static void nulls_of(const struct version *u, const uint32_t *four_words) {
     enum { SHORT = LAWENDEB_SHORT_SLICE, NONE = LAWENDEB_NO_WORDS };
     enum { WEIGHTS = LAWENDEB_WEIGHTS_REFUSED, STEP = LAWENDEB_NO_STEP };
+    const struct lawendeb_steps none = u->successors(NULL, 0, 0);
     const struct lawendeb_touched nothing = u->touches(NULL, 0, 0);
     const uint32_t *s = four_words;
     struct lawendeb_meter m;
@@ -1232,9 +1247,10 @@ static void nulls_of(const struct version *u, const uint32_t *four_words) {
     uint32_t *l = lengths, p[4];
     memset(&m, 0, sizeof m), memset(&ms, 0, sizeof ms);
     lend_all();
-    CHECK(u->successors(NULL, 0, 0).kind == LAWENDEB_KIND_INVALID);
-    memset(p, 0, sizeof p);
-    CHECK(nothing.reads.count + nothing.writes.count + nothing.edge_writes.count == 0);
+    CHECK(!(none.kind | none.first | none.second));
+    CHECK(!(nothing.reads.count | nothing.reads_to_top.count | nothing.constants.count |
+            nothing.upvalues.count | nothing.writes.count | nothing.writes_to_top.count |
+            nothing.upvalue_writes.count | nothing.edge_writes.count | nothing.edge));
     /* nothing at all; words; weights; marks; lengths; all but the weights */
     CHECK(ran(u->run(NULL, 0, NULL, 0, NULL, 0, NULL, 0), WEIGHTS, 0));
     CHECK(ran(u->run(NULL, 0, ones, W, o, 4, l, 4), NONE, 0));
@@ -1364,6 +1380,8 @@ int main(void) {
     fields();
     weights_of(&lua54, sheet);
     weights_of(&lua53, loop_53);
+    too_many(&lua54);
+    too_many(&lua53);
     siblings_53();
     records();
     values();

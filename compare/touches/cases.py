@@ -129,6 +129,7 @@ def corners():
     show("MOVE as the last word", two, 1)
     show("word 2 of 2", two, 2)
     show("word 4,294,967,295 of 2", two, 4294967295)
+    show("word 18,446,744,073,709,551,615 of 2", two, 18446744073709551615)
     show("no words", [], 0)
 
 
