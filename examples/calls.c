@@ -881,8 +881,7 @@ static int asked(const struct area *a, char *line) {
     return 0;
 }
 
-/* All of an area; what C has no function for has a line of the stored ones, which is passed over.
- */
+/* All of an area. What C has no function for is passed over, with its line of the stored ones. */
 static void ask_all(const struct area *a) {
     const int before = checks;
     const char *at = stored;
