@@ -47,6 +47,9 @@ pub record Both (g : Graph) (p a b : ℕ) : Type 0 where
   pub other : In b (g .successors p)
   pub only : (q : ℕ) → In q (g .successors p) → (q ≡ a) ⊎ (q ≡ b)
 
+pub other-way : {g : Graph} {p a b : ℕ} → Both g p a b → Both g p b a
+other-way e = record { one = e .other; other = e .one; only = λ q i. ⊎-elim inr inl (e .only q i) }
+
 -- a visit of word p
 module _ (g : Graph) (law : Lawful g) (m qu : List ℕ) (p t : ℕ) (r : Room g m qu t) where
   successor-reached : (hand : List ℕ) (h : ℕ) → Marking g (p ∷ hand) m qu h t → (q : ℕ) → In q (g .successors p) → Reachable g q
