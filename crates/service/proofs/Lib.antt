@@ -1,7 +1,7 @@
 pub mod Sizes
 pub mod Near
+pub mod PairedWords
 pub mod Cross
-pub mod Bad
 pub mod Outcome
 pub mod Nearest
 pub mod ListedWords

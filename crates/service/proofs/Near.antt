@@ -25,7 +25,7 @@ use Rattle.service.specs.Pass.{noted, Nearing, Holds, Notes}
 abbrev pub entering : Laws
 entering = laws
 
-going : (p q : ℕ) → p < q → servesOf p q ≡ false
+pub going : (p q : ℕ) → p < q → servesOf p q ≡ false
 unfolding servesOf
 going p q h = lt-leb q p h
 
@@ -35,15 +35,15 @@ behind p q e = leb-true q p e
 
 -- two words in order
 module _ (q r : ℕ) where
-  in-order-one : r ≤ q → q ≤ r → ordered q r ≡ One q
+  pub in-order-one : r ≤ q → q ≤ r → ordered q r ≡ One q
   unfolding ordered
   in-order-one a b = simp (le-ltb q r a, le-ltb r q b)
 
-  in-order-up : q < r → ordered q r ≡ Two q r
+  pub in-order-up : q < r → ordered q r ≡ Two q r
   unfolding ordered
   in-order-up a = simp (lt-ltb q r a)
 
-  in-order-down : r < q → ordered q r ≡ Two r q
+  pub in-order-down : r < q → ordered q r ≡ Two r q
   unfolding ordered
   in-order-down a = let b : r ≤ q = omega arith in simp (le-ltb q r b, lt-ltb r q a)
 
@@ -115,9 +115,9 @@ module _ (l : List ℕ) (p : ℕ) where
   near-target k e = by-entry (getD l target 0 / «ENTRIES» + 1) (entering .kinds entry p .target k) (rw e (omega arith))
 
 -- a target is an element
-module _ (l : List ℕ) (p a : ℕ) (n : Nearing l p a) where
+module _ (l : List ℕ) (p : ℕ) (steps : (q : ℕ) → In q (listOf (entryAt (entry l p) p)) → q < length l) where
   pub target-in : (entry l p / «TARGETS» ≡ 0 → ⊥) → (entry l p / «TARGETS» ≡ 1 → ⊥) → target l p < length l
-  target-in x y = n .steps (target l p) (⊎-elim one both (same-or-not (entry l p / «TARGETS») 2))
+  target-in x y = steps (target l p) (⊎-elim one both (same-or-not (entry l p / «TARGETS») 2))
     where
       one : entry l p / «TARGETS» ≡ 2 → In (target l p) (listOf (entryAt (entry l p) p))
       one k = subst (λ (s : Successors). In (target l p) (listOf s)) (sym (entering .kinds (entry l p) p .target k)) (inl refl)
@@ -125,6 +125,8 @@ module _ (l : List ℕ) (p a : ℕ) (n : Nearing l p a) where
       both : (entry l p / «TARGETS» ≡ 2 → ⊥) → In (target l p) (listOf (entryAt (entry l p) p))
       both z = subst (λ (s : Successors). In (target l p) (listOf s)) (sym (entering .kinds (entry l p) p .both x y z)) (ordered-has (p + 1) (target l p))
 
+-- what is noted above a word is low
+module _ (l : List ℕ) (p a : ℕ) (n : Nearing l p a) where
   pub next-low : a < mostWords
   next-low = let h = n .low (p + 1) (omega arith) in omega (arith, n .next)
 

@@ -1,21 +1,22 @@
 -- The whole outcome of each question from that of the run. Assumes nothing.
 use mathlib.Core.Path.{_≡_, refl, sym, ap, subst, _∙_}
 use mathlib.Core.Bool.{Bool, true, false, cond}
-use mathlib.Core.List.{List, _++_}
-use Prim.Native.Nat.{ℕ, _≤_, _<_}
+use mathlib.Core.List.{List, [], _++_, append-nil}
+use Prim.Native.Nat.{ℕ, _/_, _%_, _≤_, _<_, min}
 use native.Mathlib.Omega.{arith}
-use lib.Dec.{ltb}
-use lib.ListN.{length, getD, drop}
+use lib.Dec.{ltb, eqb}
+use lib.ListN.{length, getD, drop, replicate}
+use lib.Seq.{drop-length}
 use borrow.Author.Tests.{lt-ltb, le-ltb, eq-eqb, ne-eqb}
 use Rattle.common.specs.Limits.{mostWords}
 use Rattle.common.specs.Numbers.{«ACCEPTED», «TOO_MANY_WORDS», «SHORT_SLICE», «REACHES_INVALID»}
 use Rattle.common.specs.Chain.{refuseIf, answer}
-use Rattle.common.specs.Lists.{over}
+use Rattle.common.specs.Lists.{tabulate, over}
 use Rattle.common.specs.declared.answer.Answer.{Answer}
 use Rattle.common.proofs.Over.{over-laws}
 use Rattle.graph.specs.Graph.{Graph}
 use Rattle.graph.specs.Marks.{markOf}
-use Rattle.graph.specs.Longest.{longest, first}
+use Rattle.graph.specs.Longest.{lengthOf, longest, first}
 use Rattle.graph.specs.Distance.{distanceOf}
 use Rattle.graph.specs.Crossing.{crossingOf}
 use Rattle.graph.proofs.Distance.{distances}
@@ -23,10 +24,11 @@ use Rattle.fields.specs.declared.version.Version.{Version}
 use Rattle.runs.specs.Script.{Script, scriptOf, graphOf, weightOf}
 use Rattle.runs.specs.declared.longest.Run.{Run}
 use Rattle.runs.specs.declared.longest.Run.the-variants as Run
+use Rattle.sweep.specs.Steps.{unitWeight}
 use Rattle.sweep.specs.Entries.{entries, stepsOf, graphIn, lowestBy}
 use Rattle.sweep.specs.PassInvariants.{FillAsks}
 use Rattle.runs.specs.Outcome.{Searched, decided, Decided}
-use Rattle.runs.specs.Run.{runOf, lowestInvalid, marksAfter, lengthsAfter}
+use Rattle.runs.specs.Run.{runOf, numberOf, lowestInvalid, marksAfter, lengthsAfter}
 use Rattle.runs.specs.Counted.{ones}
 use Rattle.runs.proofs.Laws.{laws}
 use Rattle.service.specs.declared.distance.Nearest.{Nearest}
@@ -34,9 +36,11 @@ use Rattle.service.specs.declared.distance.Nearest.the-variants as Neare
 use Rattle.service.specs.declared.crossing.Crossed.{Crossed}
 use Rattle.service.specs.declared.crossing.Crossed.the-variants as Crossed
 use Rattle.service.specs.Questions.{fewestOf, nearestBy, nearestOf, crossedBy, crossedOf, listedAt, withinOf, marksWithin, lengthsWithin, listBy, listWithin}
-use Rattle.service.specs.Pass.{Fits, Sizes, noted, Holds, Notes, fewestIn, listedBy, listIn, answerBy}
+use Rattle.service.specs.Pass.{Fits, Sizes, noted, Holds, Notes, fewestIn, answerBy}
+use Rattle.service.specs.Pairs.{«LENGTHS», distanceIn, lengthIn, pairOf, Pairs, listedBy, byLowest, answerIn, lengthsIn, listIn}
 use Rattle.service.proofs.Sizes.{run-many}
 use Rattle.service.proofs.Near.{entering, same-length}
+use Rattle.service.proofs.PairedWords.{pair-length, pair-listed}
 
 -- the fewest words from a word
 module _ (ws : Script) (w : ℕ) where
@@ -89,29 +93,66 @@ module _ (m l : List ℕ) (a : FillAsks m l) where
             let d = distances graph (a .held .law) .few w inside in
             omega (arith, k .each w (omega arith) (omega (arith, entering .as-long l, inside)), d, a .held .lent .few)
 
-  -- the list by noted distances
-  pub listed-noted : (d : ℕ) (list : List ℕ) {l′ list′ : List ℕ} → length l ≤ length list → Notes 0 l l′ → list′ ≡ over (listedBy d m l′) (length l′) list
-      → list′ ≡ over (listedAt graph d) (length (entries l)) list
-  listed-noted d list {l′} {list′} h k e =
-      let s = entering .as-long l in
-      let n : length l′ ≡ length l = same-length l l′ (k .kept) in
-      over-laws .is (listedAt graph d) (length (entries l)) list list′
-      (let z = ap length e in omega (arith, over-laws .length-over (listedBy d m l′) (length l′) list (omega arith)))
-      (λ p i. ap (λ (x : List ℕ). getD x p 0) e ∙ over-laws .at (listedBy d m l′) (length l′) list p (omega arith)
-      ∙ rw (marks-are p (omega (arith, a .held .lent .m-same)), k .each p (omega arith) (omega arith)))
-      (ap (drop (length (entries l))) e ∙ ap (λ (x : ℕ). drop (length (entries l)) (over (listedBy d m l′) x list)) (n ∙ sym s)
-      ∙ over-laws .past (listedBy d m l′) (length (entries l)) list)
+-- the list, the lengths and the answer by pairs l′ of the entries in l, of which r is the lowest that is invalid
+module _ (m l : List ℕ) (a : FillAsks m l) (d : ℕ) (list : List ℕ) (long : length l ≤ length list) {l′ : List ℕ} {r : ℕ} (k : Pairs l l′ r) (same : length l′ ≡ length l) where
+  abbrev es : List ℕ
+  es = entries l
 
--- the list, by whether a reachable word is bad
-module _ (d : ℕ) (es list : List ℕ) {b : Bool} (e : b ≡ ltb (lowestBy (length es) (stepsOf es)) (length es)) where
-  abbrev by-bad : Bool → List ℕ
-  by-bad x = cond x list (over (listedAt (graphIn es) d) (length es) list)
+  abbrev Listing : Answer → List ℕ → List ℕ → Type 0
+  Listing x l″ list′ = (x ≡ answerIn es) × ((l″ ≡ lengthsIn es) × (list′ ≡ listIn d es list))
 
-  pub list-bad : b ≡ true → list ≡ listIn d es list
-  list-bad t = ap by-bad (sym t ∙ e)
+  n : length es ≡ length l
+  n = entering .as-long l
 
-  pub list-good : b ≡ false → {list′ : List ℕ} → list′ ≡ over (listedAt (graphIn es) d) (length es) list → list′ ≡ listIn d es list
-  list-good t g = g ∙ ap by-bad (sym t ∙ e)
+  -- a reachable word is bad
+  module _ (h : r < length l) where
+    refused : {A : Type 0} (x y : A) → x ≡ byLowest es x y
+    refused x y = let z : lowestBy (length es) (stepsOf es) < length es = omega (arith, n, k .lowest-invalid) in rw (lt-ltb (lowestBy (length es) (stepsOf es)) (length es) z)
+
+    pub listing-refused : {l″ : List ℕ} → l″ ≡ replicate (length l) 0 ++ drop (length l) l′ → Listing (answer «REACHES_INVALID» r) l″ list
+    listing-refused {l″} e = (
+      ap (answer «REACHES_INVALID») (k .lowest-invalid) ∙ refused _ _,
+      (cleared ∙ refused _ _, refused _ _),
+    )
+      where
+        none : drop (length l) l′ ≡ []
+        none = ap (λ (x : ℕ). drop x l′) (sym same) ∙ drop-length l′
+
+        cleared : l″ ≡ tabulate (λ p. 0) 0 (length es)
+        cleared =
+            e ∙ ap (λ (x : List ℕ). replicate (length l) 0 ++ x) none ∙ append-nil (replicate (length l) 0) ∙ over-laws .zeros 0 (length l)
+            ∙ ap (tabulate (λ p. 0) 0) (sym n)
+
+  -- none is
+  module _ (h : length l ≤ r) where
+    accepted : {A : Type 0} (x y : A) → y ≡ byLowest es x y
+    accepted x y = let z : length es ≤ lowestBy (length es) (stepsOf es) = omega (arith, n, k .lowest-invalid) in rw (le-ltb (lowestBy (length es) (stepsOf es)) (length es) z)
+
+    pub listing-accepted : {e : ℕ} {l″ list′ : List ℕ} → e ≡ min d 65535 → l″ ≡ tabulate (lengthIn l′) 0 (length l′)
+        → list′ ≡ over (λ p. listedBy e (distanceIn l′ p)) (length l′) list → Listing (answer «ACCEPTED» 0) l″ list′
+    listing-accepted {e} {l″} {list′} s x y = (accepted _ _, (lengths ∙ accepted _ _, listed ∙ accepted _ _))
+      where
+        pair : (p : ℕ) → p < length es → getD l′ p 0 ≡ pairOf (graphIn es) p
+        pair p h = k .each p (omega (arith, n))
+
+        length-at : (p : ℕ) → p < length es → getD l″ p 0 ≡ lengthOf (graphIn es) unitWeight p
+        length-at p h =
+            ap (λ (z : List ℕ). getD z p 0) x ∙ over-laws .getD-tabulate (lengthIn l′) 0 (length l′) p (omega (arith, n, same))
+            ∙ ap (lengthIn l′) (omega arith) ∙ ap (λ (z : ℕ). z % «LENGTHS») (pair p h) ∙ pair-length (graphIn es) (a .held .law) (a .held .lent .few) p
+
+        lengths : l″ ≡ tabulate (lengthOf (graphIn es) unitWeight) 0 (length es)
+        lengths = over-laws .whole (lengthOf (graphIn es) unitWeight) (length es) l″ (ap length x ∙ over-laws .length-tabulate (lengthIn l′) 0 (length l′) ∙ same ∙ sym n) length-at
+
+        by : ℕ → ℕ
+        by p = listedBy e (distanceIn l′ p)
+
+        listed : list′ ≡ over (listedAt (graphIn es) d) (length es) list
+        listed =
+            over-laws .is (listedAt (graphIn es) d) (length es) list list′
+            (let z = ap length y in omega (arith, n, same, long, over-laws .length-over by (length l′) list (omega (arith, same, long))))
+            (λ p h. ap (λ (z : List ℕ). getD z p 0) y ∙ over-laws .at by (length l′) list p (omega (arith, n, same))
+            ∙ ap (λ (z : ℕ). listedBy e (z / «LENGTHS»)) (pair p h) ∙ pair-listed (graphIn es) (a .held .law) (a .held .lent .few) d e s p h)
+            (ap (drop (length es)) y ∙ ap (λ (z : ℕ). drop (length es) (over by z list)) (same ∙ sym n) ∙ over-laws .past by (length es) list)
 
 -- words that are searched, and the run of them
 module _ (version : Version) (words m l : List ℕ) (s : Searched (scriptOf version words) m l) where
@@ -148,17 +189,64 @@ module _ (version : Version) (words m l : List ℕ) (s : Searched (scriptOf vers
     pub crossed-accepted : (w : ℕ) {a b x : ℕ} → r ≡ Run.Accepted a b → x ≡ crossingOf (graphIn (entries l)) w → Crossed.Count x ≡ crossedBy (decided script ones) script w
     crossed-accepted w h e = ap Crossed.Count (e ∙ ap (λ (g : Graph). crossingOf g w) graph-is) ∙ ap (λ (x : Run). crossedBy x script w) (sym h ∙ d .answer)
 
-    pub answer-refused : {k p : ℕ} → r ≡ Run.Refused k p → answer k p ≡ answerBy (decided script ones)
-    answer-refused h = ap answerBy (sym h ∙ d .answer)
+  size-is : length (entries l) ≡ script .size
+  size-is = entering .as-long l ∙ s .lent .l-same
 
-    pub answer-accepted : {a b : ℕ} → r ≡ Run.Accepted a b → answer «ACCEPTED» 0 ≡ answerBy (decided script ones)
-    answer-accepted h = ap answerBy (sym h ∙ d .answer)
+  abbrev low : ℕ
+  low = lowestBy (length (entries l)) (stepsOf (entries l))
+
+  lowest-is : low ≡ lowestInvalid script
+  lowest-is = laws .entry-laws .lowest-is version words m l s
+
+  pub answer-decided : {x : Answer} → x ≡ answerIn (entries l) → x ≡ answerBy (decided script ones)
+  answer-decided e =
+      let a = ap (λ (x : ℕ). cond (ltb x (length (entries l))) (answer «REACHES_INVALID» x) (answer «ACCEPTED» 0)) lowest-is in
+      let b = ap (λ (x : ℕ). cond (ltb (lowestInvalid script) x) (answer «REACHES_INVALID» (lowestInvalid script)) (answer «ACCEPTED» 0)) size-is in
+      e ∙ a ∙ b ∙ go (ltb (lowestInvalid script) (script .size))
+    where
+      go : (b : Bool)
+          → cond b (answer «REACHES_INVALID» (lowestInvalid script)) (answer «ACCEPTED» 0)
+          ≡ answerBy (refuseIf b (Run.Refused «REACHES_INVALID» (lowestInvalid script)) (Run.Accepted (longest (graphOf script) (weightOf script ones)) (first (graphOf script) (weightOf script ones))))
+      go true = refl
+      go false = refl
+
+  pub lengths-decided : {l′ : List ℕ} → l′ ≡ lengthsIn (entries l) → Decided script ones (decided script ones) m l′
+  lengths-decided {l′} e =
+      record {
+        answer = refl;
+        marks = over-laws .whole (markOf (graphOf script)) (script .size) m (s .lent .m-same) (s .marked);
+        lengths = e ∙ a ∙ b ∙ g ∙ w ∙ go (ltb (lowestInvalid script) (script .size));
+      }
+    where
+      zeros : ℕ → List ℕ
+      zeros n = tabulate (λ p. 0) 0 n
+
+      a : lengthsIn (entries l) ≡ cond (ltb (lowestInvalid script) (length (entries l))) (zeros (length (entries l))) (tabulate (lengthOf (graphIn (entries l)) unitWeight) 0 (length (entries l)))
+      a = ap (λ (x : ℕ). cond (ltb x (length (entries l))) (zeros (length (entries l))) (tabulate (lengthOf (graphIn (entries l)) unitWeight) 0 (length (entries l)))) lowest-is
+
+      by : Graph → (ℕ → ℕ) → ℕ → List ℕ
+      by h v n = cond (ltb (lowestInvalid script) n) (zeros n) (tabulate (lengthOf h v) 0 n)
+
+      b : by (graphIn (entries l)) unitWeight (length (entries l)) ≡ by (graphIn (entries l)) unitWeight (script .size)
+      b = ap (by (graphIn (entries l)) unitWeight) size-is
+
+      g : by (graphIn (entries l)) unitWeight (script .size) ≡ by (graphOf script) unitWeight (script .size)
+      g = ap (λ (x : Graph). by x unitWeight (script .size)) graph-is
+
+      w : by (graphOf script) unitWeight (script .size) ≡ by (graphOf script) (weightOf script ones) (script .size)
+      w = ap (λ (x : ℕ → ℕ). by (graphOf script) x (script .size)) (sym (laws .ones-weigh-of version words))
+
+      go : (b : Bool)
+          → cond b (zeros (script .size)) (tabulate (lengthOf (graphOf script) (weightOf script ones)) 0 (script .size))
+          ≡ cond (eqb (numberOf (refuseIf b (Run.Refused «REACHES_INVALID» (lowestInvalid script)) (Run.Accepted (longest (graphOf script) (weightOf script ones)) (first (graphOf script) (weightOf script ones))))) «ACCEPTED»)
+          (tabulate (lengthOf (graphOf script) (weightOf script ones)) 0 (script .size)) (zeros (script .size))
+      go true = refl
+      go false = refl
 
   pub list-decided : (d : ℕ) (list : List ℕ) {list′ : List ℕ} → list′ ≡ listIn d (entries l) list → list′ ≡ listBy (decided script ones) script d list
   list-decided d list e =
-      let n : length (entries l) ≡ script .size = entering .as-long l ∙ s .lent .l-same in
-      let a = ap (λ (x : ℕ). cond (ltb x (length (entries l))) list (over (listedAt (graphIn (entries l)) d) (length (entries l)) list)) (laws .entry-laws .lowest-is version words m l s) in
-      let b = ap (λ (x : ℕ). cond (ltb (lowestInvalid script) x) list (over (listedAt (graphIn (entries l)) d) x list)) n in
+      let a = ap (λ (x : ℕ). cond (ltb x (length (entries l))) list (over (listedAt (graphIn (entries l)) d) (length (entries l)) list)) lowest-is in
+      let b = ap (λ (x : ℕ). cond (ltb (lowestInvalid script) x) list (over (listedAt (graphIn (entries l)) d) x list)) size-is in
       let g = ap (λ (x : Graph). cond (ltb (lowestInvalid script) (script .size)) list (over (listedAt x d) (script .size) list)) graph-is in
       e ∙ a ∙ b ∙ g ∙ go (ltb (lowestInvalid script) (script .size))
     where

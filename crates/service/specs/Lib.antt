@@ -6,3 +6,4 @@ pub mod Crossings
 pub mod Versions
 pub mod Flat
 pub mod Pass
+pub mod Pairs

@@ -11,7 +11,6 @@ use lib.ListN.{length, getD}
 use Rattle.common.specs.Limits.{mostWords}
 use Rattle.common.specs.Numbers.{«ACCEPTED»}
 use Rattle.common.specs.Chain.{answer}
-use Rattle.common.specs.Lists.{over}
 use Rattle.common.specs.declared.answer.Answer.{Answer}
 use Rattle.graph.specs.Graph.{Graph, In, Lawful}
 use Rattle.graph.specs.Marks.{markOf}
@@ -22,12 +21,11 @@ use Rattle.sweep.specs.declared.edges.Successors.{Successors}
 use Rattle.runs.specs.declared.longest.Run.{Run}
 use Rattle.runs.specs.declared.longest.Run.the-variants as Run
 use Rattle.sweep.specs.Steps.{listOf}
-use Rattle.sweep.specs.Entries.{«ENTRIES», entryAt, entries, stepsOf, graphIn, lowestBy}
+use Rattle.sweep.specs.Entries.{«ENTRIES», entryAt, entries, graphIn}
 use Rattle.runs.specs.Run.{runOf, numberOf, placeOf, untouched}
 use Rattle.runs.specs.Counted.{ones}
 use Rattle.service.specs.declared.distance.Nearest.{Nearest}
 use Rattle.service.specs.declared.distance.Nearest.the-variants as Nearest
-use Rattle.service.specs.Questions.{listedOf, listedAt}
 
 -- n words, some and not too many, with a place for each in both slices
 pub record Fits (n marks lengths : ℕ) : Type 0 where
@@ -67,15 +65,6 @@ pub record Notes (from : ℕ) (l l′ : List ℕ) : Type 0 where
 -- the fewest words from word w of a graph
 abbrev pub fewestIn : Graph → ℕ → Nearest
 fewestIn g w = cond (ltb w (g .size) && eqb (markOf g w) 1) (Nearest.Fewest (distanceOf g w)) Nearest.Nowhere
-
--- what is listed of word p by marks m and noted distances
-abbrev pub listedBy : ℕ → List ℕ → List ℕ → ℕ → ℕ
-listedBy d m l p = listedOf d (getD m p 0) (noted l p)
-
--- the list after entries es: as it was, where a reachable word is bad
-abbrev pub listIn : ℕ → List ℕ → List ℕ → List ℕ
-listIn d es list = cond (ltb (lowestBy (length es) (stepsOf es)) (length es)) list
-    (over (listedAt (graphIn es) d) (length es) list)
 
 -- the list's answer by that of the run
 abbrev pub answerBy : Run → Answer

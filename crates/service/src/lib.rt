@@ -3,6 +3,7 @@
 pub mod crossing;
 pub mod distance;
 pub mod exported;
+mod pairs;
 mod pass;
 mod unit;
 pub mod within;

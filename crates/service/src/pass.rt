@@ -15,7 +15,7 @@ use sweep::inner::KIND_TARGET;
 use sweep::inner::TARGETS;
 
 // The smaller of two numbers.
-fn smaller(x: u32, y: u32) -> u32
+pub(crate) fn smaller(x: u32, y: u32) -> u32
     ensures { λ r. ⌜ r ≡ min x y ⌝ }
 {
     if x < y {

@@ -1,110 +1,101 @@
 // "list which reachable words have one within d words".
 ghost use mathlib.Core.Path.{_≡_};
-ghost use mathlib.Core.Bool.{_&&_};
-ghost use Prim.Native.Nat.{_≤_};
-ghost use lib.Dec.{ltb, eqb};
+ghost use Prim.Native.Nat.{_≤_, min};
 ghost use lib.ListN.{length};
-ghost use Rattle.common.specs.Lists.{over};
-ghost use Rattle.sweep.specs.Steps.{isInvalid};
+ghost use Rattle.common.specs.Lists.{tabulate, over};
 ghost use Rattle.runs.specs.Script.{scriptOf};
-ghost use Rattle.sweep.specs.Entries.{entryAt, entries, stepsOf, lowestBy};
+ghost use Rattle.sweep.specs.Entries.{entries};
 ghost use Rattle.sweep.specs.SearchInvariants.{Lent};
 ghost use Rattle.sweep.specs.PassInvariants.{FillAsks};
 ghost use Rattle.runs.specs.Outcome.{decided, Decided};
 ghost use Rattle.runs.specs.Counted.{ones};
-ghost use Rattle.service.specs.Questions.{
-  listedOf,
-  listBy,
-  withinOf,
-  marksWithin,
-  lengthsWithin,
-  listWithin,
+ghost use Rattle.service.specs.Questions.{listBy, withinOf, marksWithin, lengthsWithin, listWithin};
+ghost use Rattle.service.specs.Pass.{answerBy};
+ghost use Rattle.service.specs.Pairs.{
+  distanceIn,
+  lengthIn,
+  listedBy,
+  answerIn,
+  lengthsIn,
+  listIn,
 };
-ghost use Rattle.service.specs.Pass.{answerBy, listedBy, listIn};
-use crate::pass::note_distances;
+use crate::pairs::LENGTHS;
+use crate::pairs::pair_words;
 use crate::unit::size_refusal;
-use crate::unit::unit_run;
 use common::Answer;
 use common::limits::MOST_WORDS;
 use common::numbers::*;
 use fields::version::Version;
-use runs::Run;
 use runs::inner::search_words;
-use sweep::inner::ENTRIES;
-use sweep::inner::RETURNS;
-use sweep::inner::TARGETS;
+use sweep::inner::clear_lengths;
 
-// Whether a word of this mark and this entry is reachable and bad.
-fn is_bad(mark: u8, entry: u32, p: usize) -> bool
-    ensures { λ r. ⌜ r ≡ (eqb mark 1 && isInvalid (entryAt entry p)) ⌝ }
+// No pair holds a larger distance.
+const FARTHEST: u32 = 65535;
+
+// d in 32 bits: where it is larger than any distance, FARTHEST lists the same words. The compiler then takes
+// more of them at a time.
+fn shorten(d: usize) -> u32
+    ensures { λ r. ⌜ r ≡ min d 65535 ⌝ }
 {
-    if mark != 1 {
-        return false;
+    if d < FARTHEST as usize {
+        return d as u32;
     }
-    if TARGETS <= entry {
-        return false;
-    }
-    entry != RETURNS
+    FARTHEST
 }
 
-// Whether a reachable word is bad, so that the run refuses. It looks at all words, so that the
-// compiler takes several at a time.
-fn some_bad(marks: &[u8], lengths: &[u32]) -> bool
-    requires { ⌜ FillAsks (now marks) (now lengths) ⌝ }
-    ensures { λ r. ⌜ r ≡ ltb (lowestBy (length (entries (now (lengths .entry))))
-        (stepsOf (entries (now (lengths .entry))))) (length (entries (now (lengths .entry)))) ⌝ }
+// What is listed of a word by its distance. An unreachable one has 0.
+fn listed(d: u32, distance: u32) -> u8
+    ensures { λ r. ⌜ r ≡ listedBy d distance ⌝ }
 {
-    let n = lengths.len();
-    let mut bad = false;
-    let mut i = 0;
-    while i < n {
-        if is_bad(marks[i], lengths[i] % ENTRIES, i) {
-            bad = true;
-        }
-        i += 1;
+    if distance == 0 {
+        return 0;
     }
-    bad
-}
-
-// What is listed of a word by its mark and its distance.
-fn listed(d: usize, mark: u8, distance: u32) -> u8
-    ensures { λ r. ⌜ r ≡ listedOf d mark distance ⌝ }
-{
-    if mark == 1 {
-        let fewest = distance as usize;
-        if fewest <= d {
-            return 1;
-        }
+    if distance <= d {
+        return 1;
     }
     0
 }
 
-// Lists the marked words whose noted distance is at most d.
-fn write_list(d: usize, marks: &[u8], lengths: &[u32], list: &mut [u8])
-    requires { ⌜ (length (now lengths) ≤ length (now marks)) × (length (now lengths) ≤ length (now list)) ⌝ }
-    ensures { λ _. ⌜ now (list .exit) ≡ over (listedBy d (now (marks .entry)) (now (lengths .entry)))
+// Takes the pairs apart: lists the words whose distance is at most d, and leaves the lengths.
+fn write_list(d: u32, lengths: &mut [u32], list: &mut [u8])
+    requires { ⌜ length (now lengths) ≤ length (now list) ⌝ }
+    ensures { λ _. ⌜ now (lengths .exit)
+        ≡ tabulate (lengthIn (now (lengths .entry))) 0 (length (now (lengths .entry))) ⌝ }
+    ensures { λ _. ⌜ now (list .exit) ≡ over (λ p. listedBy d (distanceIn (now (lengths .entry)) p))
         (length (now (lengths .entry))) (now (list .entry)) ⌝ }
 {
     let n = lengths.len();
     let mut i = 0;
     while i < n {
-        list[i] = listed(d, marks[i], lengths[i] / ENTRIES + 1);
+        let pair = lengths[i];
+        list[i] = listed(d, pair / LENGTHS);
+        lengths[i] = pair % LENGTHS;
         i += 1;
     }
 }
 
-// Lists the words, by the entries and the marks that the search leaves, unless the run will
-// refuse them. The entries stay.
-fn list_searched(d: usize, marks: &[u8], lengths: &mut [u32], list: &mut [u8])
+// The list, the lengths and the answer, by the entries and the marks that the search leaves. How long the
+// longest run is, and where it begins, is not asked.
+fn list_searched(d: usize, marks: &[u8], lengths: &mut [u32], list: &mut [u8]) -> Answer
     requires { ⌜ FillAsks (now marks) (now lengths) × (length (now lengths) ≤ length (now list)) ⌝ }
-    ensures { λ _. ⌜ entries (now (lengths .exit)) ≡ entries (now (lengths .entry)) ⌝ }
+    ensures { λ r. ⌜ r ≡ answerIn (entries (now (lengths .entry))) ⌝ }
+    ensures { λ _. ⌜ now (lengths .exit) ≡ lengthsIn (entries (now (lengths .entry))) ⌝ }
     ensures { λ _. ⌜ now (list .exit) ≡ listIn d (entries (now (lengths .entry))) (now (list .entry)) ⌝ }
 {
-    if some_bad(marks, lengths) {
-        return;
+    let n = lengths.len();
+    let invalid = pair_words(marks, lengths);
+    if invalid < n {
+        clear_lengths(lengths, n);
+        return Answer {
+            number: REACHES_INVALID,
+            place: invalid,
+        };
     }
-    note_distances(0, lengths);
-    write_list(d, marks, lengths, list);
+    write_list(shorten(d), lengths, list);
+    Answer {
+        number: ACCEPTED,
+        place: 0,
+    }
 }
 
 // The list and the answer for words that pass the checks of their number and of the slices.
@@ -125,19 +116,7 @@ fn list_of_words(
         (scriptOf version (now (words .entry))) d (now (list .entry)) ⌝ }
 {
     search_words(version, words, marks, lengths);
-    list_searched(d, marks, lengths, list);
-    let run = unit_run(version, words, marks, lengths);
-    match run {
-        Run::Refused { number, place } => {
-            return Answer { number, place };
-        }
-        Run::Accepted { longest, first } => {
-            return Answer {
-                number: ACCEPTED,
-                place: 0,
-            };
-        }
-    }
+    list_searched(d, marks, lengths, list)
 }
 
 // Which reachable words have a service or return within d words: 1 for a listed word, else 0.

@@ -17,7 +17,7 @@ module _ (c : tie.Else2) where
   start = c .before .before .before .before
 
   inside : getD (start .args .lengths .now) (start .args .p) 0 % «ENTRIES» % «TARGETS» < length (start .args .lengths .now)
-  inside = target-in _ _ _ (start .pre) (c .if2 .left) (c .before .if1 .left)
+  inside = target-in (start .args .lengths .now) (start .args .p) (start .pre .steps) (c .if2 .left) (c .before .if1 .left)
 
 -- that does not serve
 module _ (c : tie.Else3) where

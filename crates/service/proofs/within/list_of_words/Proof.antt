@@ -4,7 +4,7 @@ use native.Mathlib.Omega.{arith}
 use borrow.Author.Needs.{needs}
 use Rattle.fields.specs.declared.version.Version.{Version}
 use Rattle.runs.proofs.Laws.{laws}
-use Rattle.service.proofs.Outcome.{searched-kept, decided-run, answer-refused, answer-accepted, list-decided}
+use Rattle.service.proofs.Outcome.{answer-decided, lengths-decided, list-decided}
 use Rattle.service.proofs.within.list_of_words.Statement.{statement}
 use Rattle.service.proofs.within.list_of_words.Tie as tie
 
@@ -16,31 +16,27 @@ module _ (s : tie.Start) where
   abbrev words : List ℕ
   words = s .args .words .now
 
+-- where the words are searched
+abbrev start : tie.After-search-words → tie.Start
+start c = c .before .before .before .before .before .before .before
+
 pub list-of-words-spec : {M : Type 1} → statement M
 list-of-words-spec =
     tie.close
     (tie.spec
     (λ c κs. c .before .before .before .before .before .before .pre .0)
     (λ c κs.
-    let s = c .before .before .before .before .before .before .before .before .before .before .before .before .before .before in
-    let k = c .before .before .before .before .before .before .before .search-words .ensures in
+    let w = c .before .before .before .before .before .before .before in
+    let s = start w in
+    let k = w .search-words .ensures in
     (laws .entry-laws .asks (version s) (words s) _ _ k, omega (arith, k .lent .l-same, s .pre .1)))
-    (λ c κs. let s = c .before .before .before .before .before .before .before .before .before .before .before .before .before .before .before .before .before .before .before .before .before in searched-kept (version s) (words s) _ _ (c .before .before .before .before .before .before .before .before .before .before .before .before .before .before .search-words .ensures) _ (c .before .before .before .before .before .before .list-searched .ensures .0))
-    (λ c. search needs)
-    (λ c. search needs)
-    (λ c. search needs)
-    (λ c. search needs)
-    (λ c.
-    let s = c .before .before .before .before .before .before .before .before .before .before .before .before .before .before .before .before .before .before .before .before .before .before .before .before .before .before .before in
-    let k = c .before .before .before .before .before .before .before .before .before .before .before .before .before .before .before .before .before .before .before .before .search-words .ensures in
-    let d = c .before .before .before .before .before .unit-run .ensures in
-    (answer-refused (version s) (words s) _ _ k d (c .before .run .given .1), (decided-run (version s) (words s) _ _ k d, list-decided (version s) (words s) _ _ k _ _ (c .before .before .before .before .before .before .before .before .before .before .before .before .list-searched .ensures .1))))
-    (λ c. search needs)
     (λ c. search needs)
     (λ c. search needs)
     (λ c. search needs)
     (λ c.
-    let s = c .before .before .before .before .before .before .before .before .before .before .before .before .before .before .before .before .before .before .before .before .before .before .before .before .before .before .before in
-    let k = c .before .before .before .before .before .before .before .before .before .before .before .before .before .before .before .before .before .before .before .before .search-words .ensures in
-    let d = c .before .before .before .before .before .unit-run .ensures in
-    (answer-accepted (version s) (words s) _ _ k d (c .before .run2 .given .1), (decided-run (version s) (words s) _ _ k d, list-decided (version s) (words s) _ _ k _ _ (c .before .before .before .before .before .before .before .before .before .before .before .before .list-searched .ensures .1)))))
+    let e = c .before .before .before .before in
+    let w = e .before .before .before .before .before .before .before .before in
+    let s = start w in
+    let k = w .search-words .ensures in
+    let r = e .list-searched .ensures in
+    (answer-decided (version s) (words s) _ _ k (r .0), (lengths-decided (version s) (words s) _ _ k (r .1 .0), list-decided (version s) (words s) _ _ k _ _ (r .1 .1)))))

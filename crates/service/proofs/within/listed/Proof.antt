@@ -6,6 +6,6 @@ pub listed-spec : {M : Type 1} → statement M
 listed-spec =
     tie.close
     (tie.spec
-    (λ c. rw (eq-eqb _ _ (c .before .if1 .taken), le-leb _ _ (c .if2 .taken)))
-    (λ c. rw (eq-eqb _ _ (c .before .if1 .taken), lt-leb _ _ (c .if2 .left)))
-    (λ c. rw (ne-eqb _ _ (c .if1 .left))))
+    (λ c. rw (eq-eqb _ _ (c .if1 .taken)))
+    (λ c. rw (ne-eqb _ _ (c .before .if1 .left), le-leb _ _ (c .if2 .taken)))
+    (λ c. rw (ne-eqb _ _ (c .before .if1 .left), lt-leb _ _ (c .if2 .left))))
