@@ -11,6 +11,6 @@ pub mod Laws
 pub mod Masks
 pub mod Outcome
 pub mod Searched
-pub mod Shapes
 pub mod Slices
+pub mod Together
 pub mod Weights

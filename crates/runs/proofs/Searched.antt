@@ -26,13 +26,6 @@ use Rattle.sweep.proofs.Laws as sweep
 use Rattle.runs.proofs.Lawful.{lawful, sound}
 use Rattle.runs.proofs.Outcome.{decided-invalid, decided-accepted}
 
--- the marks stay where the entries are settled anew
-pub searched-again : (ws : Script) {m l l′ : List ℕ} → Searched ws m l
-    → Settled (ws .size) (ws .steps) (entries l′) → length l′ ≡ length l → Searched ws m l′
-searched-again ws s e n =
-    let k = s .lent in
-    record { lent = record { some = k .some; few = k .few; m-same = k .m-same; l-same = n ∙ k .l-same }; settled = e; marked = s .marked }
-
 -- a script of either version: its steps serve by the rule that the search of entries goes by
 module _ (version : Version) (words : List ℕ) where
   abbrev ws : Script

@@ -1,5 +1,6 @@
 // The longest run by a lowest and by a highest weight for every opcode (request C-18).
 ghost use mathlib.Core.Path.{_≡_};
+ghost use lib.Dec.{ltb};
 ghost use lib.ListN.{length};
 ghost use Rattle.runs.specs.Weights.{weightCount};
 ghost use Rattle.runs.specs.Script.{scriptOf};
@@ -7,16 +8,13 @@ ghost use Rattle.sweep.specs.SearchInvariants.{Lent};
 ghost use Rattle.runs.specs.Range.{
   lowestAbove,
   rangeRefusal,
-  bothOf,
   runsOf,
   marksAfterBoth,
   lengthsAfterBoth,
 };
-ghost use Rattle.runs.specs.Outcome.{DecidedBoth};
-use crate::longest::Run;
-use crate::longest::measure_run;
+ghost use Rattle.runs.specs.Outcome.{Searched, DecidedBoth};
 use crate::longest::search_words;
-use crate::script::settle_script;
+use crate::script::slot_mask;
 use crate::weighing::WEIGHTS;
 use crate::weighing::refuses_weights;
 use crate::weighing::weights_place;
@@ -24,6 +22,10 @@ use common::Answer;
 use common::limits::MOST_WORDS;
 use common::numbers::*;
 use fields::version::Version;
+use sweep::inner::clear_lengths;
+use sweep::inner::fill_twice;
+use sweep::inner::find_first;
+use sweep::inner::find_longest;
 
 // Both reports, or what refuses them.
 pub enum RunRange {
@@ -37,6 +39,23 @@ pub enum RunRange {
         number: u8,
         place: usize,
     },
+}
+
+// Whether a low weight is above its high one. It looks at all of them, so that the compiler takes many at a
+// time.
+fn has_above(low: &[u8], high: &[u8]) -> bool
+    requires { ⌜ (length (now low) ≡ weightCount) × (length (now high) ≡ weightCount) ⌝ }
+    ensures { λ r. ⌜ r ≡ ltb (lowestAbove (now (low .entry)) (now (high .entry))) weightCount ⌝ }
+{
+    let mut above = false;
+    let mut i = 0;
+    while i < WEIGHTS {
+        if low[i] > high[i] {
+            above = true;
+        }
+        i += 1;
+    }
+    above
 }
 
 // The lowest opcode whose low weight is above its high one, or the count.
@@ -70,11 +89,10 @@ fn range_refusal(low: &[u8], high: &[u8]) -> Answer
             place: weights_place(high),
         };
     }
-    let place = lowest_above(low, high);
-    if place < WEIGHTS {
+    if has_above(low, high) {
         return Answer {
             number: LOW_ABOVE_HIGH,
-            place,
+            place: lowest_above(low, high),
         };
     }
     Answer {
@@ -83,33 +101,42 @@ fn range_refusal(low: &[u8], high: &[u8]) -> Answer
     }
 }
 
-// Two runs as one answer, refused as the first of them that is.
-fn both(low: Run, high: Run) -> RunRange
-    ensures { λ r. ⌜ r ≡ bothOf low high ⌝ }
+// The runs by two tables, of words that are searched: their lengths by the high one, measured, take the place
+// of their entries.
+fn measure_runs(
+    version: Version,
+    words: &[u32],
+    low: &[u8],
+    high: &[u8],
+    marks: &mut [u8],
+    lengths: &mut [u32],
+) -> RunRange
+    requires { ⌜ Searched (scriptOf version (now words)) (now marks) (now lengths)
+        × ((length (now low) ≡ weightCount) × (length (now high) ≡ weightCount)) ⌝ }
+    ensures { λ r. ⌜ DecidedBoth (scriptOf version (now (words .entry))) (now (low .entry))
+        (now (high .entry)) r (now (marks .exit)) (now (lengths .exit)) ⌝ }
 {
-    match low {
-        Run::Refused { number, place } => RunRange::Refused { number, place },
-        Run::Accepted {
-            longest: low_longest,
-            first: low_first,
-        } => match high {
-            Run::Refused { number, place } => RunRange::Refused { number, place },
-            Run::Accepted {
-                longest: high_longest,
-                first: high_first,
-            } => RunRange::Accepted {
-                low_longest,
-                low_first,
-                high_longest,
-                high_first,
-            },
-        },
+    let n = words.len();
+    let lows = fill_twice(slot_mask(version), words, low, high, marks, lengths);
+    if lows.invalid < n {
+        clear_lengths(lengths, n);
+        return RunRange::Refused {
+            number: REACHES_INVALID,
+            place: lows.invalid,
+        };
+    }
+    let longest = find_longest(lengths, n);
+    let first = find_first(lengths, n, longest);
+    RunRange::Accepted {
+        low_longest: lows.longest,
+        low_first: lows.first,
+        high_longest: longest,
+        high_first: first,
     }
 }
 
-// The runs of words that pass the checks of their number, of the slices and of the tables.
-// What is reachable does not depend on weights, so that one search is enough. The lengths by the low table
-// took the entries' place: they are settled again for the high one.
+// The runs of words that pass the checks of their number, of the slices and of the tables. What is reachable
+// does not depend on weights, so that one search is enough, and its entries serve both tables.
 fn runs_of_words(
     version: Version,
     words: &[u32],
@@ -124,10 +151,7 @@ fn runs_of_words(
         (now (high .entry)) r (now (marks .exit)) (now (lengths .exit)) ⌝ }
 {
     search_words(version, words, marks, lengths);
-    let by_low = measure_run(version, words, low, marks, lengths);
-    settle_script(version, words, lengths);
-    let by_high = measure_run(version, words, high, marks, lengths);
-    both(by_low, by_high)
+    measure_runs(version, words, low, high, marks, lengths)
 }
 
 // The longest run by the low table and by the high one, each with the lowest word at which it begins, or the

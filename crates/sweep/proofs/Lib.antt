@@ -1,5 +1,6 @@
 pub mod Entries
 pub mod Held
+pub mod Keeping
 pub mod Laws
 pub mod Measures
 pub mod Moves

@@ -28,7 +28,7 @@ use Rattle.sweep.specs.PassInvariants.{Filled, Measuring, Measures, Fill
 use Rattle.sweep.proofs.Entries.{ordered-among, entries-length, entry-is, entry-target, entry-both}
 
 -- the next word is no service
-next-unserved : (p : ℕ) → servesOf p (p + 1) ≡ false
+pub next-unserved : (p : ℕ) → servesOf p (p + 1) ≡ false
 unfolding servesOf
 next-unserved p = lt-leb (p + 1) p (omega arith)
 
@@ -117,7 +117,7 @@ measures-at w m l p i e d =
     record { length-is = d .length-is ∙ ap (λ (y : ℕ). lengthIn (λ _. y) m l p) e; invalid-is = d .invalid-is }
 
 -- what a graph of entries takes from an edge does not hang on the entries
-best-in : (es fs : List ℕ) (p : ℕ) (f : ℕ → ℕ) (l : List ℕ) → best (graphIn es) p f l ≡ best (graphIn fs) p f l
+pub best-in : (es fs : List ℕ) (p : ℕ) (f : ℕ → ℕ) (l : List ℕ) → best (graphIn es) p f l ≡ best (graphIn fs) p f l
 best-in es fs p f [] = refl
 best-in es fs p f (x ∷ xs) = ap (λ (y : ℕ). max (cond (servesOf p x) 0 (f x)) y) (best-in es fs p f xs)
 

@@ -17,3 +17,5 @@ pub use crate::packing::RETURNS;
 pub use crate::packing::TARGETS;
 pub use crate::packing::entry_of;
 pub use crate::search::mark_reachable;
+pub use crate::twice::Lows;
+pub use crate::twice::fill_twice;

@@ -6,3 +6,4 @@ pub mod inner;
 mod lengths;
 mod packing;
 mod search;
+mod twice;

@@ -1,7 +1,8 @@
 use mathlib.Core.Path.{_≡_, sym, _∙_}
 use mathlib.Core.Bool.{false}
 use borrow.Author.Needs.{needs}
-use Rattle.runs.specs.Weights.{refusesWeights}
+use lib.ListN.{length}
+use Rattle.runs.specs.Weights.{weightCount, refusesWeights}
 use Rattle.runs.proofs.Weights.{weight-laws}
 use Rattle.runs.proofs.BothTables.{range-low, range-high, range-above, range-passed}
 use Rattle.runs.proofs.range.range_refusal.Statement.{statement}
@@ -21,6 +22,10 @@ module _ (c : tie.Else2) where
   high-weighs : refusesWeights (start .args .high .now) ≡ false
   high-weighs = sym (c .before .refuses-weights2 .ensures) ∙ c .if2 .left
 
+-- so that each has its count
+counts : (c : tie.Else2) → (length (start c .args .low .now) ≡ weightCount) × (length (start c .args .high .now) ≡ weightCount)
+counts c = (weight-laws (start c .args .low .now) (low-weighs c) .count, weight-laws (start c .args .high .now) (high-weighs c) .count)
+
 returns-2 : tie.Need-returns-2
 returns-2 c =
     let t = c .before in
@@ -37,6 +42,7 @@ range-refusal-spec =
     (λ c κs. search needs)
     (λ c κs. search needs)
     returns-2
-    (λ c κs. (weight-laws (start c .args .low .now) (low-weighs c) .count, weight-laws (start c .args .high .now) (high-weighs c) .count))
-    (λ c. let k = c .before .before in range-above _ _ (low-weighs k) (high-weighs k) (c .before .lowest-above .ensures) (c .if3 .taken))
-    (λ c. let k = c .before .before in range-passed _ _ (low-weighs k) (high-weighs k) (c .before .lowest-above .ensures) (c .if3 .left)))
+    (λ c κs. counts c)
+    (λ c κs. counts (c .before .before))
+    (λ c. let a = c .before .before in let k = a .before in range-above _ _ (low-weighs k) (high-weighs k) (c .lowest-above .ensures) (sym (a .has-above .ensures) ∙ c .before .if3 .taken))
+    (λ c. let a = c .before in let k = a .before in range-passed _ _ (low-weighs k) (high-weighs k) (sym (a .has-above .ensures) ∙ c .if3 .left)))
