@@ -26,14 +26,25 @@ pub fn run(scripts: &[Vec<u8>]) {
     let plain = ffi::real::compile(&many, false);
     let stripped = ffi::real::compile(&many, true);
     let large = corpus::large(32768, 65536, 255);
+    let (nil, integer, float, string) = ([0], [3, 1, 0, 0, 0, 0, 0, 0, 0], [19, 0, 0, 0, 0, 0, 0, 0xf0, 0x3f], *b"\x04\x84abc");
+    let nils = corpus::large_of(32768, 65536, 255, &[&nil]);
+    let integers = corpus::large_of(32768, 65536, 255, &[&integer]);
+    let mixed = corpus::large_of(32768, 65536, 255, &[&nil, &integer, &string, &[1], &float]);
     let (mut words, mut tags, mut payloads, mut names) = (vec![0; 32768], vec![0; 65536], vec![0; 65536], vec![0; 255]);
     println!("| nanoseconds a byte | bytes | functions | first pass | second pass | Lua's loader | second pass / loader |");
     println!("|---|---|---|---|---|---|---|");
-    for (name, bytes) in [("scripts", &plain), ("scripts, stripped", &stripped), ("32,768 words, 65,536 constants", &large)] {
+    for (name, bytes) in [
+        ("scripts", &plain),
+        ("scripts, stripped", &stripped),
+        ("32,768 words, 65,536 constants", &large),
+        ("the same, all nil", &nils),
+        ("the same, all integers", &integers),
+        ("the same, of all kinds", &mixed),
+    ] {
         let functions = (0..).take_while(|&k| ffi::count(bytes, k).number == 0).count();
         let state = unsafe { ffi::real::real_open() };
         let times = best(
-            40,
+            200,
             &mut [
                 &mut || assert_eq!(black_box(ffi::count(bytes, 0)).number, 0),
                 &mut || assert_eq!(black_box(ffi::fill(bytes, 0, &mut words, &mut tags, &mut payloads, &mut names)).number, 0),

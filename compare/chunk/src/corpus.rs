@@ -166,6 +166,11 @@ impl Writer {
 
 /// A chunk whose counts stand at a limit: so many words, constants and upvalues.
 pub fn large(words: u64, constants: u64, upvalues: u64) -> Vec<u8> {
+    large_of(words, constants, upvalues, &[&[0], &[1], &[17]])
+}
+
+/// The same, with these constants in turn.
+pub fn large_of(words: u64, constants: u64, upvalues: u64, each: &[&[u8]]) -> Vec<u8> {
     let mut out = HEADER.to_vec();
     out.push(1);
     number(&mut out, 0, 0);
@@ -175,7 +180,7 @@ pub fn large(words: u64, constants: u64, upvalues: u64) -> Vec<u8> {
     number(&mut out, words, 0);
     out.extend((0..words).flat_map(|w| (w as u32).to_le_bytes()));
     number(&mut out, constants, 0);
-    out.extend((0..constants).map(|i| [0u8, 1, 17][(i % 3) as usize]));
+    out.extend((0..constants as usize).flat_map(|i| each[i % each.len()]));
     number(&mut out, upvalues, 0);
     out.extend((0..3 * upvalues).map(|i| i as u8));
     for _ in 0..5 {
