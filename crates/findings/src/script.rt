@@ -1,7 +1,9 @@
 // A function of a compiled script, as it is told. Nothing else here calls the libraries of compiled files,
 // of the path and of registers.
 use crate::order::key;
+use crate::order::is_refused_in;
 use crate::order::key_at;
+use crate::order::longest_in;
 use crate::order::number_in;
 use crate::order::parent_in;
 use crate::order::set_key;
@@ -40,7 +42,7 @@ pub struct Function {
 
 // The name of the source, as the head at a place gives it; empty where there is none.
 pub fn source(bytes: &[u8], at: usize) -> &[u8] {
-    let head = lines::head_by(bytes, Choice::Place(at));
+    let head = lines::head_from(bytes, at);
     if head.source == NO_SOURCE {
         return first(bytes, 0);
     }
@@ -67,9 +69,9 @@ fn refused(f: Function, number: u64, place: u64) -> Function {
     }
 }
 
-// The function of a key, of n words, by its head and its run.
-fn with_run(key: u64, head: FlatHead, n: usize, run: PathRun) -> Function {
-    let f = Function {
+// The function of a key, of n words, by its head: no word of its run is told yet.
+fn with_head(key: u64, head: FlatHead, n: usize) -> Function {
+    Function {
         number: 0,
         place: 0,
         k: number_in(key),
@@ -78,10 +80,15 @@ fn with_run(key: u64, head: FlatHead, n: usize, run: PathRun) -> Function {
         first_line: head.linedefined,
         last_line: head.lastlinedefined,
         parameters: head.numparams,
-        longest: 0,
+        longest: longest_in(key),
         start: 0,
         count: 0,
-    };
+    }
+}
+
+// The same, by its run.
+fn with_run(key: u64, head: FlatHead, n: usize, run: PathRun) -> Function {
+    let f = with_head(key, head, n);
     match run {
         PathRun::Accepted {
             longest,
@@ -115,7 +122,7 @@ fn measured(
     lengths: &mut [u32],
     path: &mut [u32],
 ) -> Function {
-    let head = lines::head_by(bytes, Choice::Place(at));
+    let head = lines::head_from(bytes, at);
     let counts = lines::words_by(bytes, Choice::Place(at), words);
     let n = counts.words as usize;
     let run = witness::longest_path(first_words(words, n), weights, marks, lengths, path);
@@ -158,11 +165,26 @@ pub fn load(
     let at = place_in(places, number_in(key));
     fill_lines(bytes, at, lines);
     let m = measured(bytes, key, at, weights, words, marks, lengths, path);
-    checked(m, words, marks)
+    if is_refused_in(key) {
+        return checked(m, words, marks);
+    }
+    m
+}
+
+// The function of a key that is not refused, without its words: what a line of its own tells.
+pub fn brief(bytes: &[u8], places: &[u64], key: u64) -> Function {
+    let at = place_in(places, number_in(key));
+    with_head(key, lines::head_from(bytes, at), 0)
 }
 
 pub fn place_in(places: &[u64], k: u64) -> usize {
     key_at(places, k as usize) as usize
+}
+
+// The key of a function that is measured and checked.
+fn key_of(f: Function) -> u64 {
+    let refused = if f.number == 0 { 0 } else { 1 };
+    key(f.longest, f.k, f.parent, refused)
 }
 
 // Puts a key for function k where the number of the one that it stands in was.
@@ -177,10 +199,11 @@ fn measure_one(
     lengths: &mut [u32],
     path: &mut [u32],
 ) {
-    let own = key(0, k as u64, key_at(keys, k));
+    let own = key(0, k as u64, key_at(keys, k), 0);
     let at = place_in(places, k as u64);
-    let f = measured(bytes, own, at, weights, words, marks, lengths, path);
-    set_key(keys, k, key(f.longest, f.k, f.parent));
+    let m = measured(bytes, own, at, weights, words, marks, lengths, path);
+    let f = checked(m, words, marks);
+    set_key(keys, k, key_of(f));
 }
 
 // A key for each function.

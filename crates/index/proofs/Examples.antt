@@ -5,7 +5,9 @@ use Rattle.chunk.specs.Lundump.{loadBlock, loadByte, unsignedFrom, loadUnsigned
 use Rattle.chunk.specs.Chunk.{pick, chosen}
 use Rattle.lines.specs.Choices.{functionAt}
 use Rattle.lines.specs.Heads.{readHead, headOf}
-use Rattle.index.specs.Refusing.{signed, whyRefused}
+use Rattle.common.specs.Lists.{put}
+use Rattle.index.specs.Listing.{functionsOf}
+use Rattle.index.specs.Refusing.{goesOn, endsEarly, signed, whyRefused}
 use Rattle.index.specs.Examples.{ExampleHeads, ExampleReasons}
 
 pub example-heads : ExampleHeads
@@ -24,7 +26,7 @@ example-heads =
     }
 
 pub example-reasons : ExampleReasons
-unfolding loadByte checkBytes checkHeader signed whyRefused
+unfolding repeat littleEnd loadBlock loadByte unsignedFrom loadUnsigned loadNumber loadInteger stringOf loadStringN loadString loadVector loadItems wordsFrom loadCode constantOf loadConstant loadUpvalues loadAbsLine loadLocVar loadLines namesFrom loadNames loadHead functionWith several noneOf loadProtos checkBytes checkHeader undump functionsOf put goesOn endsEarly signed whyRefused
 example-reasons =
     record {
       text = refl;
@@ -40,4 +42,11 @@ example-reasons =
       ends = refl;
       ends-early = refl;
       whole = λ byte. refl;
+      cut-header = refl;
+      cut-source = refl;
+      cut-lines = refl;
+      cut-word = refl;
+      cut-string = refl;
+      many-words = refl;
+      no-string = refl;
     }

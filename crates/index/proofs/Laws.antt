@@ -21,7 +21,7 @@ use Rattle.chunk.specs.Stands.{Stands, OneRead, Between, ReadBetween}
 use Rattle.chunk.proofs.Laws as chunk
 use Rattle.lines.specs.declared.choosing.Choice.the-variants.{Number, Place}
 use Rattle.lines.specs.Choices.{functionAt, chosenBy, filledBy}
-use Rattle.lines.specs.Heads.{readHead, headOf}
+use Rattle.lines.specs.Heads.{readHead, headOf, headFrom}
 use Rattle.index.specs.Listing.{functionsOf, placesOf, standsIn, parentsFrom, parentsOf, noFunction}
 use Rattle.index.specs.Laws.{AtItsPlace, Inner, Listing, Laws}
 use Rattle.index.proofs.Levels.{levels-grow}
@@ -68,8 +68,12 @@ module _ (bytes : List ℕ) (short : length bytes ≤ mostBytes) (k : ℕ) (f : 
   unfolding headOf
   head = rw (same, e)
 
+  head-alone : headFrom (f .firstAt) bytes ≡ headOf (Number k) bytes
+  unfolding headOf headFrom
+  head-alone = rw (le-leb (length bytes) mostBytes short, e)
+
   at-its-place : AtItsPlace k bytes f
-  at-its-place = record { same = same; counts = counts; slices = slices; head = head }
+  at-its-place = record { same = same; counts = counts; slices = slices; head = head; head-alone = head-alone }
 
 -- ---- which function it stands in
 place-of : (fs : List Function) (k : ℕ) (d : Function) → k < length fs → getD (placesOf fs) k 0 ≡ getD fs k d .firstAt

@@ -2,8 +2,10 @@
 -- loadFunction and checkHeader.
 -- Assumes nothing.
 use mathlib.Core.Path.{_≡_}
+use mathlib.Core.Bool.{true, false}
 use mathlib.Core.List.{List, [], _∷_, _++_}
 use Prim.Native.Nat.{ℕ}
+use lib.ListN.{replicate}
 use Rattle.chunk.specs.Examples.{header}
 use Rattle.lines.specs.declared.choosing.Choice.{Choice}
 use Rattle.lines.specs.declared.choosing.Choice.the-variants.{Number, Place}
@@ -16,7 +18,7 @@ use Rattle.index.specs.declared.refusing.Why.the-variants.{
   Damaged,
 }
 use Rattle.lines.specs.Heads.{headOf, headTold}
-use Rattle.index.specs.Refusing.{whyRefused}
+use Rattle.index.specs.Refusing.{whyRefused, endsEarly}
 
 -- Two functions, of which the second, from byte 48 on, stands in the first. loadFunction reads of each the
 -- source ("@a", which starts at byte 33, and none), linedefined, lastlinedefined, numparams, is_vararg and
@@ -63,6 +65,17 @@ abbrev header32 : List ℕ
 header32 = 27 ∷ 76 ∷ 117 ∷ 97 ∷ 84 ∷ 0 ∷ 25 ∷ 147 ∷ 13 ∷ 10 ∷ 26 ∷ 10 ∷ 4 ∷ 4 ∷ 4 ∷ 120 ∷ 86 ∷ 0 ∷ 0
     ∷ 0 ∷ 64 ∷ 185 ∷ 67 ∷ []
 
+-- a main function up to its words, of which 32,769 are more than 01's limit; one with a word and a constant
+-- that is a string of tag 4 and absent; and room for more bytes
+abbrev manyWords : List ℕ
+manyWords = header ++ (0 ∷ 128 ∷ 128 ∷ 128 ∷ 0 ∷ 1 ∷ 2 ∷ 2 ∷ 0 ∷ 129 ∷ [])
+
+abbrev noString : List ℕ
+noString = header ++ (0 ∷ 128 ∷ 128 ∷ 128 ∷ 0 ∷ 1 ∷ 2 ∷ 129 ∷ 71 ∷ 0 ∷ 1 ∷ 0 ∷ 129 ∷ 4 ∷ 128 ∷ [])
+
+abbrev roomy : List ℕ → List ℕ
+roomy bytes = bytes ++ replicate 60 0
+
 pub record ExampleReasons : Type 0 where
   -- "return", and nothing at all
   pub text : whyRefused (114 ∷ 101 ∷ 116 ∷ 117 ∷ 114 ∷ 110 ∷ []) ≡ NotLua
@@ -83,3 +96,12 @@ pub record ExampleReasons : Type 0 where
   pub ends : whyRefused (27 ∷ 76 ∷ 117 ∷ 97 ∷ []) ≡ Damaged
   pub ends-early : whyRefused (27 ∷ 76 ∷ 117 ∷ 97 ∷ 84 ∷ 0 ∷ 25 ∷ 147 ∷ []) ≡ Damaged
   pub whole : (byte : ℕ) → whyRefused (header ++ (byte ∷ [])) ≡ Damaged
+  -- 15, since the bytes end: within the header, in two heads' source, lines and words, behind a string's tag
+  pub cut-header : endsEarly (roomy twoHeads) 20 ≡ true
+  pub cut-source : endsEarly (roomy twoHeads) 34 ≡ true
+  pub cut-lines : endsEarly (roomy twoHeads) 36 ≡ true
+  pub cut-word : endsEarly (roomy twoHeads) 42 ≡ true
+  pub cut-string : endsEarly (roomy noString) 45 ≡ true
+  -- 15 for other causes
+  pub many-words : endsEarly (roomy manyWords) 41 ≡ false
+  pub no-string : endsEarly (roomy noString) 46 ≡ false

@@ -12,7 +12,7 @@ use Rattle.chunk.specs.Lundump.{Function}
 use Rattle.chunk.specs.Chunk.{chosen, countsOf, Rooms, filled, after}
 use Rattle.lines.specs.declared.choosing.Choice.the-variants.{Number, Place}
 use Rattle.lines.specs.Choices.{functionAt, filledBy}
-use Rattle.lines.specs.Heads.{headOf}
+use Rattle.lines.specs.Heads.{headOf, headFrom}
 use Rattle.index.specs.Listing.{functionsOf, placesOf, parentsOf, noFunction}
 
 -- function k of a chunk, f, and the place that is listed for it
@@ -27,6 +27,8 @@ pub record AtItsPlace (k : ℕ) (bytes : List ℕ) (f : Function) : Type 0 where
       → after part (filledBy (Place (f .firstAt)) bytes rooms) out
       ≡ after part (filledBy (Number k) bytes rooms) out
   pub head : headOf (Place (f .firstAt)) bytes ≡ headOf (Number k) bytes
+  -- also where only the head is read
+  pub head-alone : headFrom (f .firstAt) bytes ≡ headOf (Number k) bytes
 
 -- j is the function that k stands in: its bytes go on past k's first byte, and so do
 -- those of no other between them

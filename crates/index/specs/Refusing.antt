@@ -4,15 +4,18 @@
 -- Assumes nothing.
 use mathlib.Core.Bool.{Bool, not, _&&_}
 use mathlib.Core.List.{List}
-use Prim.Native.Nat.{ℕ}
+use Prim.Native.Nat.{ℕ, _-_}
 use lib.Dec.{leb, eqb}
-use lib.ListN.{length, getD}
+use lib.ListN.{length, getD, replicate}
+use Rattle.common.specs.Numbers.{«MALFORMED_CHUNK»}
+use Rattle.common.specs.Lists.{put}
 use Rattle.common.specs.Chain.{refuseIf}
 use Rattle.chunk.specs.declared.reading.Refusal.the-variants as refusal
 use Rattle.chunk.specs.declared.reading.Cursor.{Cursor}
 use Rattle.chunk.specs.declared.reading.Cursor.the-variants.{At, Refused}
 use Rattle.chunk.specs.Lundump.{checkHeader}
 use Rattle.chunk.specs.Cursors.{cursorOf, none}
+use Rattle.index.specs.Listing.{functionsOf, listedOf}
 use Rattle.index.specs.declared.refusing.Why.{Why}
 use Rattle.index.specs.declared.refusing.Why.the-variants.{
   NotLua,
@@ -21,6 +24,20 @@ use Rattle.index.specs.declared.refusing.Why.the-variants.{
   OtherNumbers,
   Damaged,
 }
+
+-- whether a chunk is not refused by 15
+unfoldable pub goesOn : List ℕ → Bool
+goesOn bytes = not (eqb (listedOf (functionsOf bytes) .number) «MALFORMED_CHUNK»)
+
+-- Of 15's causes "the bytes end early" is one that other bytes behind them mend: the first n of a room are
+-- read on into as many of these as the room has. Each is a count of 1, the length of a string that has no
+-- bytes, and no constant's tag, so that none of them is what 15 refuses. Where that does not mend it, a count
+-- or number is over its limit, or a constant string absent, in the bytes themselves
+abbrev pub filler : ℕ
+filler = 129
+
+unfoldable pub endsEarly : List ℕ → ℕ → Bool
+endsEarly room n = goesOn (put room n (replicate (length room - n) filler))
 
 -- LUA_SIGNATURE "\x1bLua"
 unfoldable pub signed : List ℕ → Bool

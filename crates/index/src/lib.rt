@@ -9,4 +9,5 @@ pub use listing::Tally;
 pub use listing::count_functions;
 pub use listing::list_functions;
 pub use refusing::Why;
+pub use refusing::ends_early;
 pub use refusing::why_refused;

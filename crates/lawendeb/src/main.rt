@@ -8,6 +8,7 @@ mod usage;
 use asking::Asked;
 use asking::Wish;
 use asking::read_all;
+use index::Listed;
 use libc::STDERR_FILENO;
 use owner::Options;
 use pages::Sheet;
@@ -19,9 +20,33 @@ use usage::put_unclear;
 use usage::put_usage;
 use usage::put_version;
 
-// Tells of a script's bytes.
+// Tells why a script of n bytes in the room for them is refused.
+fn tell_refused(
+    room: &mut [u8],
+    n: usize,
+    file: &[u8],
+    o: Options,
+    listed: Listed,
+    page: &mut [u8],
+    s: Sheet,
+) -> Sheet {
+    let is_cut = index::ends_early(room, n);
+    owner::put_refused(
+        page,
+        s,
+        file,
+        o,
+        first(room, n),
+        listed.number,
+        listed.place,
+        is_cut,
+    )
+}
+
+// Tells of a script of n bytes in the room for them.
 fn tell_bytes(
-    bytes: &[u8],
+    room: &mut [u8],
+    n: usize,
     file: &[u8],
     o: Options,
     weights: &[u8],
@@ -30,7 +55,21 @@ fn tell_bytes(
 ) -> Sheet {
     let mut places = rooms::places();
     let mut keys = rooms::places();
-    owner::tell(bytes, file, o, weights, &mut places, &mut keys, page, s)
+    let listed = index::list_functions(first(room, n), &mut places, &mut keys);
+    if listed.number != 0 {
+        return tell_refused(room, n, file, o, listed, page, s);
+    }
+    owner::tell(
+        first(room, n),
+        file,
+        o,
+        weights,
+        &places,
+        &mut keys,
+        listed.functions as usize,
+        page,
+        s,
+    )
 }
 
 // Tells of an open script.
@@ -39,7 +78,7 @@ fn tell_open(fd: i32, file: &[u8], o: Options, weights: &[u8], page: &mut [u8], 
     let r = read_file(fd, &mut bytes);
     match r {
         Reading::Whole(n) => {
-            return tell_bytes(first(&bytes, n), file, o, weights, page, s);
+            return tell_bytes(&mut bytes, n, file, o, weights, page, s);
         }
         Reading::Longer => {
             return owner::put_too_long(page, s, file, o);

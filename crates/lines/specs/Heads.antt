@@ -8,7 +8,10 @@ use Rattle.common.specs.Numbers.{«ACCEPTED»}
 use Rattle.chunk.specs.declared.reading.Refusal.{Refusal}
 use Rattle.lines.specs.declared.heads.FlatHead.{FlatHead}
 use Rattle.chunk.specs.Numbers.{numberOf, placeOf}
-use Rattle.chunk.specs.Reading.{Result, done, refused, Reader, bind}
+use lib.Dec.{leb}
+use lib.ListN.{length}
+use Rattle.chunk.specs.Limits.{mostBytes}
+use Rattle.chunk.specs.Reading.{Result, done, refused, Reader, bind, only}
 use Rattle.chunk.specs.Lundump.{Text, Function, loadByte, loadInt, loadStringN, loadHead}
 use Rattle.chunk.specs.Chunk.{nameNumber}
 use Rattle.lines.specs.declared.choosing.Choice.{Choice}
@@ -44,6 +47,10 @@ readHead bytes at =
 -- of the chosen function, at its first byte
 unfoldable pub headOf : Choice → List ℕ → Result Head
 headOf c bytes = bind (chosenBy c bytes) (λ f _. readHead bytes (f .firstAt))
+
+-- that of the function whose first byte stands there, by itself: nothing behind it is read
+unfoldable pub headFrom : ℕ → List ℕ → Result Head
+headFrom at bytes = only (leb (length bytes) mostBytes) (readHead bytes at)
 
 -- a refusal's number and place
 abbrev pub headRefused : Refusal → FlatHead

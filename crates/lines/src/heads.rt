@@ -1,13 +1,14 @@
 // What loadFunction reads ahead of a function's parts: its source, lines, parameters and stack size.
 ghost use mathlib.Core.Path.{_≡_};
 ghost use Rattle.chunk.specs.Filling.{Bounded};
-ghost use Rattle.lines.specs.Heads.{readHead, headTold, headRefused, headOf};
+ghost use Rattle.lines.specs.Heads.{readHead, headTold, headRefused, headOf, headFrom};
 use crate::choosing::Choice;
 use crate::choosing::locate_by;
 use chunk::Cursor;
 use chunk::Located;
 use chunk::Placed;
 use chunk::Refusal;
+use chunk::inner::MOST_BYTES;
 use chunk::inner::byte;
 use chunk::inner::int;
 use chunk::inner::name_at;
@@ -75,6 +76,16 @@ fn head_at(chunk: &[u8], at: usize) -> FlatHead
             };
         }
     }
+}
+
+// Of the function whose first byte stands there: nothing behind its head is read.
+pub fn head_from(chunk: &[u8], at: usize) -> FlatHead
+    ensures { λ r. ⌜ r ≡ headTold (headFrom at (now (chunk .entry))) ⌝ }
+{
+    if MOST_BYTES < chunk.len() {
+        return refuse_head(Refusal::Malformed);
+    }
+    head_at(chunk, at)
 }
 
 // Of the chosen function.

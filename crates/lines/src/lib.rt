@@ -7,6 +7,7 @@ mod words;
 pub use choosing::Choice;
 pub use heads::FlatHead;
 pub use heads::head_by;
+pub use heads::head_from;
 pub use lines::AbsRead;
 pub use lines::LinePlaces;
 pub use lines::LineTurn;

@@ -1,7 +1,7 @@
 // All that is told of a compiled script.
-use crate::rows::put_rows;
-use crate::titles::put_title;
 use findings::Function;
+use findings::brief;
+use findings::is_refused_in;
 use findings::key_at;
 use findings::load;
 use findings::longest_in;
@@ -9,16 +9,12 @@ use findings::order_all;
 use findings::place_in;
 use findings::source;
 use pages::Sheet;
-use pages::either;
-use pages::fill;
 use pages::first_words;
-use pages::put;
+use reports::put_rows;
+use reports::put_title;
 use std::num::wrapping_add_u64;
 use wording::NO_LIMIT;
 use wording::json;
-use wording::put_name;
-use wording::put_number;
-use wording::put_why;
 
 pub struct Options {
     // NO_LIMIT without one.
@@ -34,15 +30,31 @@ pub struct Tally {
     pub refused: u64,
 }
 
-// Whether nothing is to say of a function by its limit.
-fn is_within(f: Function, limit: u64) -> bool {
-    if f.number != 0 {
-        return false;
+// How much is told of a function.
+pub enum Share {
+    // Nothing, since it is within the limit.
+    Nothing,
+    // A line of its own, for which its head is enough.
+    Title,
+    // Its words, too; or why it is refused.
+    Whole,
+}
+
+// In text, with a limit those over it alone, with their runs.
+fn how_much(o: Options, key: u64) -> Share {
+    if o.is_json {
+        return Share::Whole;
     }
-    if limit == NO_LIMIT {
-        return false;
+    if is_refused_in(key) {
+        return Share::Whole;
     }
-    f.longest <= limit
+    if o.limit == NO_LIMIT {
+        return Share::Title;
+    }
+    if longest_in(key) <= o.limit {
+        return Share::Nothing;
+    }
+    Share::Whole
 }
 
 fn begun(sheet: Sheet) -> Tally {
@@ -68,7 +80,7 @@ fn counted(sheet: Sheet, t: Tally, f: Function, limit: u64) -> Tally {
     }
 }
 
-// Tells of a function. In text, with a limit those over it alone, with their runs.
+// Tells of a function.
 fn put_function(
     page: &mut [u8],
     s: Sheet,
@@ -83,9 +95,6 @@ fn put_function(
 ) -> Sheet {
     if o.is_json {
         return json::put_function(page, s, f, words, lines, lengths, path);
-    }
-    if is_within(f, o.limit) {
-        return s;
     }
     let a = put_title(page, s, file, source, f, o.limit, o.is_weighted);
     if o.limit == NO_LIMIT {
@@ -124,8 +133,15 @@ fn tell_loaded(
     counted(sheet, t, f, o.limit)
 }
 
-// Tells of the function of a key, of a source of this name.
-fn tell_one(
+// Tells of a function that is not refused by a line of its own.
+fn tell_title(page: &mut [u8], t: Tally, file: &[u8], source: &[u8], o: Options, f: Function) -> Tally {
+    let s = t.sheet;
+    let sheet = put_title(page, s, file, source, f, o.limit, o.is_weighted);
+    counted(sheet, t, f, o.limit)
+}
+
+// Tells of the function of a key, of a source of this name, by its words.
+fn tell_whole(
     bytes: &[u8],
     file: &[u8],
     name: &[u8],
@@ -153,6 +169,52 @@ fn tell_one(
         path,
     );
     tell_loaded(page, t, file, name, o, f, words, lines, lengths, path)
+}
+
+// Tells of the function of a key as much as is asked.
+fn tell_one(
+    bytes: &[u8],
+    file: &[u8],
+    name: &[u8],
+    o: Options,
+    weights: &[u8],
+    places: &[u64],
+    key: u64,
+    words: &mut [u32],
+    lines: &mut [u32],
+    marks: &mut [u8],
+    lengths: &mut [u32],
+    path: &mut [u32],
+    page: &mut [u8],
+    t: Tally,
+) -> Tally {
+    let much = how_much(o, key);
+    match much {
+        Share::Nothing => {
+            return t;
+        }
+        Share::Title => {
+            return tell_title(page, t, file, name, o, brief(bytes, places, key));
+        }
+        Share::Whole => {
+            return tell_whole(
+                bytes,
+                file,
+                name,
+                o,
+                weights,
+                places,
+                key,
+                words,
+                lines,
+                marks,
+                lengths,
+                path,
+                page,
+                t,
+            );
+        }
+    }
 }
 
 // Tells of each function, by the order of the keys.
@@ -195,59 +257,17 @@ fn tell_all(
     u
 }
 
-fn put_refused_part(page: &mut [u8], s: Sheet, refused: u64) -> Sheet {
-    fill(
-        page,
-        s,
-        either(refused == 0, b"\n", b", # refused\n"),
-        [refused, 0, 0, 0],
-    )
-}
-
-fn put_over_part(page: &mut [u8], s: Sheet, over: u64, limit: u64) -> Sheet {
-    let text = either(over == 0, b", none over the limit", b", # over the limit");
-    fill(
-        page,
-        s,
-        either(limit == NO_LIMIT, b"", text),
-        [over, 0, 0, 0],
-    )
-}
-
-// The most, what it is of, and how many functions there are.
-fn put_most(page: &mut [u8], s: Sheet, most: u64, is_weighted: bool, n: u64) -> Sheet {
-    let a = fill(
-        page,
-        s,
-        either(is_weighted, b"at most weight #", b"at most # words"),
-        [most, 0, 0, 0],
-    );
-    let b = put(
-        page,
-        a,
-        b" of each function; in a script whose calls nest d deep, up to d times as much\n",
-    );
-    fill(
-        page,
-        b,
-        either(n == 1, b"# function", b"# functions"),
-        [n, 0, 0, 0],
-    )
-}
-
 // The last lines: the most that can pass, and how many functions there are, over the limit and refused.
 fn put_sum(page: &mut [u8], t: Tally, o: Options, n: u64, most: u64) -> Sheet {
     let s = t.sheet;
     if o.is_json {
         return json::put_sum(page, s, n, t.over, t.refused, most);
     }
-    let a = put_most(page, s, most, o.is_weighted, n);
-    let b = put_over_part(page, a, t.over, o.limit);
-    put_refused_part(page, b, t.refused)
+    reports::put_sum(page, s, o.limit, o.is_weighted, n, t.over, t.refused, most)
 }
 
-// A file that is refused: the only line.
-fn put_refused(
+// A file that is refused: the only line. Whether its bytes end early counts where the number is 15.
+pub fn put_refused(
     page: &mut [u8],
     s: Sheet,
     file: &[u8],
@@ -255,16 +275,12 @@ fn put_refused(
     bytes: &[u8],
     refusal: u64,
     place: u64,
+    is_cut: bool,
 ) -> Sheet {
     if o.is_json {
-        return json::put_refused_file(page, s, file, bytes, refusal, place);
+        return json::put_refused_file(page, s, file, bytes, refusal, place, is_cut);
     }
-    let a = put(page, s, b"refused: ");
-    let b = put_name(page, a, file);
-    let c = put(page, b, b": ");
-    let d = put_why(page, c, bytes, refusal);
-    let e = put_number(page, d, refusal, place);
-    put(page, e, b"\n")
+    reports::put_refused(page, s, file, bytes, refusal, place, is_cut)
 }
 
 // A file that is longer than the room for it.
@@ -272,9 +288,7 @@ pub fn put_too_long(page: &mut [u8], s: Sheet, file: &[u8], o: Options) -> Sheet
     if o.is_json {
         return json::put_too_long(page, s, file);
     }
-    let a = put(page, s, b"refused: ");
-    let b = put_name(page, a, file);
-    put(page, b, b": longer than 4 MiB (15)\n")
+    reports::put_too_long(page, s, file)
 }
 
 fn put_head(page: &mut [u8], s: Sheet, file: &[u8], source: &[u8], o: Options) -> Sheet {
@@ -324,23 +338,19 @@ fn tell_sorted(
     put_sum(page, u, o, n as u64, longest_in(key_at(keys, 0)))
 }
 
-// Tells of a file's functions, the longest run first; or why it is refused. Places and keys are room for
-// a number of each function.
+// Tells of a file's n functions, the longest run first. The places are those that `index::list_functions`
+// gives, the keys the numbers of those that they stand in.
 pub fn tell(
     bytes: &[u8],
     file: &[u8],
     o: Options,
     weights: &[u8],
-    places: &mut [u64],
+    places: &[u64],
     keys: &mut [u64],
+    n: usize,
     page: &mut [u8],
     s: Sheet,
 ) -> Sheet {
-    let listed = index::list_functions(bytes, places, keys);
-    if listed.number != 0 {
-        return put_refused(page, s, file, o, bytes, listed.number, listed.place);
-    }
-    let n = listed.functions as usize;
     order_all(bytes, weights, places, n, keys);
     tell_sorted(bytes, file, o, weights, places, keys, n, page, s)
 }

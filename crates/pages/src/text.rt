@@ -1,8 +1,9 @@
 // Bytes and numbers put on the page.
 ghost use mathlib.Core.Path.{_≡_};
-ghost use Prim.Native.Nat.{_+_, _≤_};
-ghost use lib.ListN.{length};
+ghost use Prim.Native.Nat.{_+_, _-_, _≤_};
+ghost use lib.ListN.{length, replicate};
 ghost use Rattle.common.specs.Lists.{put as Lists·put};
+ghost use Rattle.pages.specs.Text.{Puts, PutsNumber, PutsCell};
 use crate::parts::before;
 use crate::parts::first;
 use crate::parts::rest;
@@ -66,7 +67,9 @@ fn put_over(page: &mut [u8], s: Sheet, text: &[u8]) -> Sheet {
     }
 }
 
-pub fn put(page: &mut [u8], s: Sheet, text: &[u8]) -> Sheet {
+pub fn put(page: &mut [u8], s: Sheet, text: &[u8]) -> Sheet
+    ensures { λ r. ⌜ Puts (now (page .entry)) s (now (text .entry)) (now (page .exit)) r ⌝ }
+{
     let at = s.at;
     if page.len() < at {
         return put_over(page, s, text);
@@ -82,7 +85,9 @@ pub fn put(page: &mut [u8], s: Sheet, text: &[u8]) -> Sheet {
 }
 
 // A number in as many digits as it has.
-pub fn number(page: &mut [u8], s: Sheet, n: u64) -> Sheet {
+pub fn number(page: &mut [u8], s: Sheet, n: u64) -> Sheet
+    ensures { λ r. ⌜ PutsNumber n (now (page .entry)) s (now (page .exit)) r ⌝ }
+{
     let mut digits = [0u8; 20];
     let k = io::decimal(n, &mut digits);
     put(page, s, &digits[..k])
@@ -105,17 +110,26 @@ pub fn fill(page: &mut [u8], s: Sheet, text: &[u8], numbers: [u64; 4]) -> Sheet 
     put(page, t, rest(text, from))
 }
 
-// A number at the right of a column of six, blanks to the left; wider where it has more digits.
-fn column(page: &mut [u8], s: Sheet, n: u64) -> Sheet {
-    let mut digits = [0u8; 20];
-    let k = io::decimal(n, &mut digits);
-    let blanks = if k < 6 { 6 - k } else { 0 };
-    let padded = put(page, s, first(b"      ", blanks));
-    put(page, padded, &digits[..k])
+// Blanks for so many of six columns as a number of k digits leaves.
+fn indent(page: &mut [u8], s: Sheet, k: usize) -> Sheet
+    ensures { λ r. ⌜ Puts (now (page .entry)) s (replicate (6 - k) 32) (now (page .exit)) r ⌝ }
+{
+    let blanks = [b' '; 6];
+    if 6 < k {
+        return put(page, s, &blanks[..0]);
+    }
+    put(page, s, &blanks[..6 - k])
 }
 
-// A column and what stands behind it.
-pub fn cell(page: &mut [u8], s: Sheet, n: u64, after: &[u8]) -> Sheet {
-    let t = column(page, s, n);
-    put(page, t, after)
+// A number at the right of a column of six, blanks to the left, and what stands behind it; wider where the
+// number has more digits.
+pub fn cell(page: &mut [u8], s: Sheet, n: u64, after: &[u8]) -> Sheet
+    ensures { λ r. ⌜
+        PutsCell n (now (after .entry)) (now (page .entry)) s (now (page .exit)) r ⌝ }
+{
+    let mut digits = [0u8; 20];
+    let k = io::decimal(n, &mut digits);
+    let a = indent(page, s, k);
+    let b = put(page, a, &digits[..k]);
+    put(page, b, after)
 }

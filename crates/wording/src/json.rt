@@ -10,6 +10,7 @@ use pages::Sheet;
 use pages::byte_at;
 use pages::either;
 use pages::fill;
+use pages::number;
 use pages::put;
 use pages::word_at;
 use steps::successors::successors;
@@ -56,36 +57,51 @@ fn put_source(page: &mut [u8], s: Sheet, source: &[u8]) -> Sheet {
     put(page, s, b"null")
 }
 
+// A number of a list. There are many, so no template is read for each.
+fn put_item(page: &mut [u8], s: Sheet, is_first: bool, n: u64) -> Sheet {
+    if is_first {
+        return number(page, s, n);
+    }
+    let a = put(page, s, b",");
+    number(page, a, n)
+}
+
 // The first n numbers of a list.
 fn put_numbers(page: &mut [u8], s: Sheet, before: &[u8], list: &[u32], n: usize) -> Sheet {
     let mut t = put(page, s, before);
     for i in 0..n {
-        t = fill(
-            page,
-            t,
-            either(i == 0, b"#", b",#"),
-            [word_at(list, i) as u64, 0, 0, 0],
-        );
+        t = put_item(page, t, i == 0, word_at(list, i) as u64);
     }
     put(page, t, b"]")
 }
 
+fn put_two(page: &mut [u8], s: Sheet, q: usize, r: usize) -> Sheet {
+    let a = put_item(page, s, true, q as u64);
+    put_item(page, a, false, r as u64)
+}
+
 // The words that can follow word p.
 fn put_steps(page: &mut [u8], s: Sheet, words: &[u32], p: usize) -> Sheet {
-    let a = put(page, s, either(p == 0, b"", b","));
     let w = successors(words, p);
     match w {
-        Successors::Invalid => put(page, a, b"[]"),
-        Successors::Stop => put(page, a, b"[]"),
-        Successors::One(q) => fill(page, a, b"[#]", [q as u64, 0, 0, 0]),
-        Successors::Two(q, r) => fill(page, a, b"[#,#]", [q as u64, r as u64, 0, 0]),
+        Successors::Invalid => s,
+        Successors::Stop => s,
+        Successors::One(q) => put_item(page, s, true, q as u64),
+        Successors::Two(q, r) => put_two(page, s, q, r),
     }
+}
+
+// Those words between brackets.
+fn put_next(page: &mut [u8], s: Sheet, words: &[u32], p: usize) -> Sheet {
+    let a = put(page, s, either(p == 0, b"[", b",["));
+    let b = put_steps(page, a, words, p);
+    put(page, b, b"]")
 }
 
 fn put_all_steps(page: &mut [u8], s: Sheet, words: &[u32]) -> Sheet {
     let mut t = put(page, s, b",\"next\":[");
     for p in 0..words.len() {
-        t = put_steps(page, t, words, p);
+        t = put_next(page, t, words, p);
     }
     put(page, t, b"]")
 }
@@ -187,10 +203,11 @@ pub fn put_refused_file(
     bytes: &[u8],
     refusal: u64,
     place: u64,
+    is_cut: bool,
 ) -> Sheet {
     let b = put_file(page, s, file);
     let c = put_refused(page, b, refusal, place);
-    let d = put_why(page, c, bytes, refusal);
+    let d = put_why(page, c, bytes, refusal, is_cut);
     put(page, d, b"\"}\n")
 }
 

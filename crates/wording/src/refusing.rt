@@ -7,12 +7,22 @@ use pages::either;
 use pages::fill;
 use pages::put;
 
-// Why a function is refused, and a file where the header is right.
+// 15, by `index::ends_early`.
+fn put_malformed(page: &mut [u8], s: Sheet, is_cut: bool) -> Sheet {
+    let text = either(
+        is_cut,
+        b"damaged: the bytes end early",
+        b"damaged, or a function of more than 32,768 words or 65,536 constants",
+    );
+    put(page, s, text)
+}
+
+// Why a function is refused, and a file where the header is right and the number is not 15.
 pub fn put_reason(page: &mut [u8], s: Sheet, refusal: u64) -> Sheet {
     let a = either(
         refusal == TOO_MANY_WORDS as u64,
         b"more than 32,768 words",
-        b"damaged: the bytes end early, or a count is over its limit",
+        b"damaged",
     );
     let b = either(
         refusal == UNKNOWN_TAG as u64,
@@ -66,15 +76,23 @@ fn put_other(page: &mut [u8], s: Sheet, bytes: &[u8]) -> Sheet {
     put(page, s, text)
 }
 
+// A file whose header is right.
+fn put_damaged(page: &mut [u8], s: Sheet, refusal: u64, is_cut: bool) -> Sheet {
+    if refusal == MALFORMED_CHUNK as u64 {
+        return put_malformed(page, s, is_cut);
+    }
+    put_reason(page, s, refusal)
+}
+
 // Why a file is refused.
-pub fn put_why(page: &mut [u8], s: Sheet, bytes: &[u8], refusal: u64) -> Sheet {
+pub fn put_why(page: &mut [u8], s: Sheet, bytes: &[u8], refusal: u64, is_cut: bool) -> Sheet {
     let why = index::why_refused(bytes);
     match why {
         Why::NotLua => put(page, s, b"not a compiled Lua script"),
         Why::Lua53 => put(page, s, b"of Lua 5.3: this reads 5.4"),
         Why::OtherVersion => put(page, s, b"of another Lua: this reads 5.4"),
         Why::OtherNumbers => put_other(page, s, bytes),
-        Why::Damaged => put_reason(page, s, refusal),
+        Why::Damaged => put_damaged(page, s, refusal, is_cut),
     }
 }
 

@@ -7,10 +7,10 @@ use Rattle.wording.proofs.json.put_numbers.Statement.{statement}
 use Rattle.wording.proofs.json.put_numbers.Tie as tie
 
 abbrev Inv-loop : tie.InvT-loop
-Inv-loop page₀ before list n t₀ i₀ t8 t9 t10 page t i = length page ≡ length page₀
+Inv-loop page₀ before list n t₀ i₀ t8 page t i = length page ≡ length page₀
 
 abbrev μ-loop : tie.MeasureT-loop
-μ-loop page₀ before list n t₀ i₀ t8 t9 t10 page t i = n - i
+μ-loop page₀ before list n t₀ i₀ t8 page t i = n - i
 
 pub put-numbers-spec : {M : Type 1} → statement M
 put-numbers-spec =
@@ -20,9 +20,6 @@ put-numbers-spec =
     μ-loop
     (λ c κs. search needs)
     (λ c. search needs)
-    (λ c. search needs)
-    (λ c. search needs)
-    (λ c κs. search needs)
     (λ c κs. search needs)
     (λ c. search needs)
     (λ c κs. search needs)

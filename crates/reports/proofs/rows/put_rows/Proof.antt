@@ -3,8 +3,8 @@ use mathlib.Core.Path.{_≡_}
 use lib.ListN.{length}
 use native.Mathlib.Omega.{arith}
 use borrow.Author.Needs.{needs}
-use Rattle.owner.proofs.rows.put_rows.Statement.{statement}
-use Rattle.owner.proofs.rows.put_rows.Tie as tie
+use Rattle.reports.proofs.rows.put_rows.Statement.{statement}
+use Rattle.reports.proofs.rows.put_rows.Tie as tie
 
 abbrev Inv-loop : tie.InvT-loop
 Inv-loop page₀ words lines lengths path count t₀ from₀ row₀ page t from row = (length page ≡ length page₀)

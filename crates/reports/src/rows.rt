@@ -160,7 +160,7 @@ fn put_row(
 }
 
 // The rows of a function's longest run. There are no more rows than words.
-pub(crate) fn put_rows(
+pub fn put_rows(
     page: &mut [u8],
     s: Sheet,
     words: &[u32],

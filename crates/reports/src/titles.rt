@@ -58,7 +58,7 @@ fn put_longest(page: &mut [u8], s: Sheet, longest: u64, limit: u64, is_weighted:
 }
 
 // A function's name, and what the longest run is or why the function is refused.
-pub(crate) fn put_title(
+pub fn put_title(
     page: &mut [u8],
     s: Sheet,
     file: &[u8],

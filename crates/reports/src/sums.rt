@@ -1,0 +1,61 @@
+// The last lines: the most that can pass, and how many functions there are, over the limit and refused.
+use pages::Sheet;
+use pages::either;
+use pages::fill;
+use pages::put;
+use wording::NO_LIMIT;
+
+fn put_refused_part(page: &mut [u8], s: Sheet, refused: u64) -> Sheet {
+    fill(
+        page,
+        s,
+        either(refused == 0, b"\n", b", # refused\n"),
+        [refused, 0, 0, 0],
+    )
+}
+
+fn put_over_part(page: &mut [u8], s: Sheet, over: u64, limit: u64) -> Sheet {
+    let text = either(over == 0, b", none over the limit", b", # over the limit");
+    fill(
+        page,
+        s,
+        either(limit == NO_LIMIT, b"", text),
+        [over, 0, 0, 0],
+    )
+}
+
+// The most, what it is of, and how many functions there are.
+fn put_most(page: &mut [u8], s: Sheet, most: u64, is_weighted: bool, n: u64) -> Sheet {
+    let a = fill(
+        page,
+        s,
+        either(is_weighted, b"at most weight #", b"at most # words"),
+        [most, 0, 0, 0],
+    );
+    let b = put(
+        page,
+        a,
+        b" of each function; in a script whose calls nest d deep, up to d times as much\n",
+    );
+    fill(
+        page,
+        b,
+        either(n == 1, b"# function", b"# functions"),
+        [n, 0, 0, 0],
+    )
+}
+
+pub fn put_sum(
+    page: &mut [u8],
+    s: Sheet,
+    limit: u64,
+    is_weighted: bool,
+    n: u64,
+    over: u64,
+    refused: u64,
+    most: u64,
+) -> Sheet {
+    let a = put_most(page, s, most, is_weighted, n);
+    let b = put_over_part(page, a, over, limit);
+    put_refused_part(page, b, refused)
+}
