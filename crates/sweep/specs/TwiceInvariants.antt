@@ -1,3 +1,4 @@
+-- Inner: no promise and no law between crates rests on what stands here.
 -- What the functions of the two passes over the lengths, by a lower and by a higher table of weights, ask and
 -- leave (request C-18). The first pass keeps each word's steps beside its length, so that the second needs
 -- no entry settled again. No exported contract cites it. Of a word nothing is read but the place of its
