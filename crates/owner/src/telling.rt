@@ -134,44 +134,20 @@ fn tell_loaded(
 }
 
 // Tells of a function that is not refused by a line of its own.
-fn tell_title(page: &mut [u8], t: Tally, file: &[u8], source: &[u8], o: Options, f: Function) -> Tally {
+fn tell_title(
+    page: &mut [u8],
+    t: Tally,
+    file: &[u8],
+    source: &[u8],
+    o: Options,
+    f: Function,
+) -> Tally {
     let s = t.sheet;
     let sheet = put_title(page, s, file, source, f, o.limit, o.is_weighted);
     counted(sheet, t, f, o.limit)
 }
 
-// Tells of the function of a key, of a source of this name, by its words.
-fn tell_whole(
-    bytes: &[u8],
-    file: &[u8],
-    name: &[u8],
-    o: Options,
-    weights: &[u8],
-    places: &[u64],
-    key: u64,
-    words: &mut [u32],
-    lines: &mut [u32],
-    marks: &mut [u8],
-    lengths: &mut [u32],
-    path: &mut [u32],
-    page: &mut [u8],
-    t: Tally,
-) -> Tally {
-    let f = load(
-        bytes,
-        places,
-        key,
-        weights,
-        words,
-        lines,
-        marks,
-        lengths,
-        path,
-    );
-    tell_loaded(page, t, file, name, o, f, words, lines, lengths, path)
-}
-
-// Tells of the function of a key as much as is asked.
+// Tells of the function of a key, of a source of this name, as much as is asked.
 fn tell_one(
     bytes: &[u8],
     file: &[u8],
@@ -197,22 +173,18 @@ fn tell_one(
             return tell_title(page, t, file, name, o, brief(bytes, places, key));
         }
         Share::Whole => {
-            return tell_whole(
+            let f = load(
                 bytes,
-                file,
-                name,
-                o,
-                weights,
                 places,
                 key,
+                weights,
                 words,
                 lines,
                 marks,
                 lengths,
                 path,
-                page,
-                t,
             );
+            return tell_loaded(page, t, file, name, o, f, words, lines, lengths, path);
         }
     }
 }
