@@ -6,7 +6,13 @@ ghost use lib.Dec.{ltb};
 ghost use lib.ListN.{length};
 ghost use Rattle.touches.specs.Meaning.{rangesIn};
 ghost use Rattle.assignment.specs.Uses.{inRange, inRanges, endOf, setsBy};
-ghost use Rattle.assignment.specs.Blocks.{mostRegisters, nextOf, nextIn, Listed, Holds};
+ghost use Rattle.assignment.specs.Blocks.{
+  mostRegisters,
+  nextRegister,
+  nextIn,
+  TouchesListed,
+  HoldsBits,
+};
 use common::widths::larger_size;
 use common::widths::smaller_size;
 use touches::Touches;
@@ -24,7 +30,7 @@ const ALL: u64 = 9223372036854775807;
 
 // The registers below one.
 fn below(r: usize, end: usize) -> u64
-    ensures { λ m. ⌜ Holds r (λ s. ltb s end) m ⌝ }
+    ensures { λ m. ⌜ HoldsBits r (λ s. ltb s end) m ⌝ }
 {
     if end <= r {
         return 0;
@@ -37,14 +43,14 @@ fn below(r: usize, end: usize) -> u64
 }
 
 fn in_range(r: usize, x: Range) -> u64
-    ensures { λ m. ⌜ Holds r (λ s. inRange s x) m ⌝ }
+    ensures { λ m. ⌜ HoldsBits r (λ s. inRange s x) m ⌝ }
 {
     below(r, x.last as usize + 1) & (ALL - below(r, x.first as usize))
 }
 
 pub(crate) fn in_ranges(r: usize, x: Ranges) -> u64
     requires { ⌜ length (x .items) ≡ 3 ⌝ }
-    ensures { λ m. ⌜ Holds r (λ s. inRanges s (rangesIn x)) m ⌝ }
+    ensures { λ m. ⌜ HoldsBits r (λ s. inRanges s (rangesIn x)) m ⌝ }
 {
     let items = x.items;
     let count = x.count;
@@ -62,8 +68,8 @@ pub(crate) fn in_ranges(r: usize, x: Ranges) -> u64
 
 // The registers that a word that touches t sets on the step to q.
 pub(crate) fn set_by(r: usize, t: Touches, q: usize) -> u64
-    requires { ⌜ Listed t ⌝ }
-    ensures { λ m. ⌜ Holds r (setsBy t q) m ⌝ }
+    requires { ⌜ TouchesListed t ⌝ }
+    ensures { λ m. ⌜ HoldsBits r (setsBy t q) m ⌝ }
 {
     let writes = t.writes;
     let always = in_ranges(r, writes);
@@ -76,7 +82,7 @@ pub(crate) fn set_by(r: usize, t: Touches, q: usize) -> u64
 
 // The lowest register from r on in a range, past all registers if there is none.
 fn next_of(x: Range, r: usize) -> usize
-    ensures { λ s. ⌜ (s ≡ nextOf r x) × (x .last < mostRegisters) ⌝ }
+    ensures { λ s. ⌜ (s ≡ nextRegister r x) × (x .last < mostRegisters) ⌝ }
 {
     let first = larger_size(x.first as usize, r);
     if first <= x.last as usize {

@@ -22,7 +22,7 @@ use Rattle.meter.specs.Demand3.{Demand3}
 use Rattle.meter.proofs.Laws.{laws}
 use Rattle.budget.specs.declared.step.Meters.{Meters}
 use Rattle.budget.specs.Four.{meterOf, othersOf, isOutOfRange}
-use Rattle.budget.specs.Calls.{FourCall, Scripts, scriptsOf, JustBegun, made, fourAfter, aloneAnswers, numbersOf, turnsBack, answered, ownCalls, ownAnswers}
+use Rattle.budget.specs.Calls.{FourCall, Scripts, scriptsOf, JustBegun, made, fourAfter, aloneAnswers, answerNumbers, turnsBack, answered, ownCalls, ownAnswers}
 use Rattle.budget.specs.Alone as Claim
 use Rattle.budget.specs.Alone.{RunsAlone, FollowsOwnModel}
 use Rattle.budget.proofs.View.{taken, settled, viewed, seenAs, other-as, own-as}
@@ -126,7 +126,7 @@ module _ (g : Scripts) (i : ℕ) (i-script : i ≤ 3) where
 
 -- Each script and its reference model.
 
-numbers-alone : (s : Scale) (m : Meter) (cs : List Call) → numbersOf (aloneAnswers s m cs) ≡ meterAnswers s m cs
+numbers-alone : (s : Scale) (m : Meter) (cs : List Call) → answerNumbers (aloneAnswers s m cs) ≡ meterAnswers s m cs
 numbers-alone s m [] = refl
 numbers-alone s m (begin ∷ cs) = numbers-alone s (beginOf m) cs
 numbers-alone s m (feed q ∷ cs) = ap (λ (l : List ℕ). feedOf s m q .answer .number ∷ l) (numbers-alone s (feedOf s m q .meter) cs)
@@ -147,7 +147,7 @@ module _ (versions : ℕ → Version) (words weights : ℕ → List ℕ) (ms : M
       let same : meterOf (fourAfter g ms calls) i ≡ meterAfter (g i) (beginOf (meterOf ms i)) own =
       a .meter ∙ ap (λ (m : Meter). meterAfter (g i) m own) (sym (b .begun)) in
       record {
-        answers = ap numbersOf (a .answers) ∙ numbers-alone (g i) (meterOf ms i) own ∙ ap (λ (m : Meter). meterAnswers (g i) m own) (sym (b .begun)) ∙ f .answers;
+        answers = ap answerNumbers (a .answers) ∙ numbers-alone (g i) (meterOf ms i) own ∙ ap (λ (m : Meter). meterAnswers (g i) m own) (sym (b .begun)) ∙ f .answers;
         begun = ap isBegun same ∙ f .begun;
         last = ap (λ (m : Meter). m .last) same ∙ f .last;
         count = ap (λ (m : Meter). m .count) same ∙ f .count;

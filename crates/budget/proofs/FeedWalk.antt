@@ -58,7 +58,7 @@ use Rattle.budget.proofs.step.Meters.Laws as T′
 use Rattle.meter.proofs.step.Fed as F
 use Rattle.meter.proofs.step.Fed.Laws as F′
 use Rattle.budget.proofs.step.feed_own as step
-use Rattle.budget.proofs.lent.lawendeb_feed_four as f
+use Rattle.budget.proofs.c.lawendeb_feed_four as f
 
 abbrev stayed : Stays (f.ended .signature .params) (f.ended .kept)
 stayed = (stay-none-slice (0 ∷ []) tt (plain (λ _. u32)) yes, (stay-none-slice (1 ∷ []) tt (plain (λ _. u8)) yes, (stay-ref (2 ∷ []) tt (plain (λ _. T.the-row)), (stay-none (λ _. u32) yes, (stay-none (λ _. u32) yes, (stay-none (λ _. usize) yes, tt))))))

@@ -29,7 +29,7 @@ use Rattle.meter.specs.Bound.{Bound}
 use Rattle.meter.proofs.Laws as meter
 use Rattle.budget.specs.declared.step.Meters.{Meters}
 use Rattle.budget.specs.Four.{refusedFour, meterOf, othersOf, isOutOfRange, beginFourOf, resetFourOf, feedFourOf}
-use Rattle.budget.specs.Calls.{FourCall, Scripts, scriptsOf, EachWith, JustBegun, EachBegun, madeBy, made, fourAfter, numbersOf, turnsBack, answered, ownCalls, allAnswers}
+use Rattle.budget.specs.Calls.{FourCall, Scripts, scriptsOf, EachWith, JustBegun, EachBegun, madeBy, made, fourAfter, answerNumbers, turnsBack, answered, ownCalls, allAnswers}
 use Rattle.budget.specs.Never as Claim
 use Rattle.budget.specs.Never.{AcceptedWithin, EachWithin, isBegin, isFeed, NoFeeds, Begins, Opening, TurnsBack}
 use Rattle.budget.proofs.Meters.{others-most}
@@ -62,7 +62,7 @@ now-more g ms [] c = refl
 now-more g ms (x ∷ cs) c = now-more g (made g ms x .meters) cs c
 
 abbrev Over : List FlatAnswer → Type 0
-Over answers = In «OVER_BUDGET» (numbersOf answers)
+Over answers = In «OVER_BUDGET» (answerNumbers answers)
 
 not-answered : (t : Bool) (c : Call) (a : FlatAnswer) (later : List FlatAnswer) → (a .number ≡ «OVER_BUDGET» → ⊥) → (Over later → ⊥)
     → Over (cond t (answered c a later) later) → ⊥

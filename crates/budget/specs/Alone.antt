@@ -33,7 +33,7 @@ use Rattle.budget.specs.Calls.{
   JustBegun,
   fourAfter,
   aloneAnswers,
-  numbersOf,
+  answerNumbers,
   ownCalls,
   ownAnswers,
 }
@@ -64,7 +64,7 @@ module _ (versions : ℕ → Version) (words weights : ℕ → List ℕ) (ms : M
 
   pub record FollowsOwnModel : Type 0 where
     -- "Any other feed writes nothing; its answer is 10, and that of a written one 0."
-    pub answers : numbersOf (ownAnswers (scriptsOf versions words weights) i ms calls)
+    pub answers : answerNumbers (ownAnswers (scriptsOf versions words weights) i ms calls)
         ≡ modelAnswers (scale .graph) emptyModel own
     -- "After the list the meter is begun exactly if the course has a word"
     pub begun : isBegun shown ≡ hasWord (model .path)

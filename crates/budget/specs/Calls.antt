@@ -75,9 +75,9 @@ aloneAnswers s m (feed q ∷ cs) = feedOf s m q .answer ∷ aloneAnswers s (feed
 aloneAnswers s m (reset ∷ cs) = aloneAnswers s (resetOf m) cs
 
 -- their numbers
-abbrev pub numbersOf : List FlatAnswer → List ℕ
-numbersOf [] = []
-numbersOf (a ∷ rest) = a .number ∷ numbersOf rest
+abbrev pub answerNumbers : List FlatAnswer → List ℕ
+answerNumbers [] = []
+answerNumbers (a ∷ rest) = a .number ∷ answerNumbers rest
 
 -- "calls that 20, 21 or 22 turns back"
 abbrev pub turnsBack : ℕ → Bool

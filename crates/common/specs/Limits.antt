@@ -41,3 +41,28 @@ mostQuantum = 1000
 -- document 01, "Meter", RULES 4: the services, "staying at 4,294,967,295"
 abbrev pub mostServices : ℕ
 mostServices = 4294967295
+
+-- request C-17: "128 weights of 1 to 255": a weight is a byte
+abbrev pub heaviestWeight : ℕ
+heaviestWeight = 255
+
+-- request C-11: "the chunk passes 4,294,967,295 bytes"
+abbrev pub mostBytes : ℕ
+mostBytes = 4294967295
+
+-- request C-11: "the reader goes down at most 32 levels, the main function being level 1": so many levels lie
+-- below it
+abbrev pub levelsBelow : ℕ
+levelsBelow = 31
+
+-- llimits.h: MAX_SIZET of a 64-bit size_t, and limits.h's INT_MAX of a 32-bit int: the limits that
+-- loadSize and loadInt pass on
+abbrev pub sizeMax : ℕ
+sizeMax = 18446744073709551615
+
+abbrev pub intMax : ℕ
+intMax = 2147483647
+
+-- llimits.h: LUAI_MAXSHORTLEN; "A string's tag is 4 up to 40 bytes and 20 above"
+abbrev pub shortLength : ℕ
+shortLength = 40

@@ -29,3 +29,20 @@ pub const MOST_QUANTUM: u32 = 1000;
 
 // Document 01, "Meter", RULES 4: a meter's services stay at this.
 pub const MOST_SERVICES: u32 = 4294967295;
+
+// Number 11: a meter's count is at most so much for each word up to the last (request C-17).
+pub const HEAVIEST_WEIGHT: usize = 255;
+
+// Number 15: a chunk's bytes (request C-11).
+pub const MOST_BYTES: usize = 4294967295;
+
+// Number 16: the reader goes down 32 levels, and the main function is the first (request C-11).
+pub const LEVELS_BELOW: u32 = 31;
+
+// Number 15: MAX_SIZET and INT_MAX, what loadSize and loadInt hand to loadUnsigned.
+pub const SIZE_MAX: usize = 18446744073709551615;
+
+pub const INT_MAX: usize = 2147483647;
+
+// LUAI_MAXSHORTLEN.
+pub const SHORT_LENGTH: usize = 40;

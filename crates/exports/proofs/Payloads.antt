@@ -26,7 +26,7 @@ use Rattle.records.specs.Lift.{liftOf}
 use Rattle.records.specs.Sources.{operandIn, immediateFloat}
 use Rattle.records.proofs.Sources.{sources}
 use Rattle.exports.specs.declared.parts.FlatPair.{FlatPair}
-use Rattle.exports.specs.Record.{floatBits, pair, flatName, flatValue, flatOperand, flatTarget}
+use Rattle.exports.specs.Flat.{floatBits, pair, flatName, flatValue, flatOperand, flatTarget}
 use Rattle.exports.specs.Payloads.{lentConstant, lentName, lentConstantAt, lentNameAt, OperandKept, TargetKept, Slice64, PayloadsKept}
 use Rattle.exports.proofs.Floats.{bits-of, bits-back, integer-number}
 

@@ -3,7 +3,7 @@ ghost use mathlib.Core.Path.{_≡_};
 ghost use mir.Syntax.{w64};
 ghost use mir.Val.{ofZ};
 ghost use Rattle.values.specs.Values.{spanNumber};
-ghost use Rattle.exports.specs.Record.{flagNumber, floatBits};
+ghost use Rattle.exports.specs.Flat.{flagNumber, floatBits};
 use values::model::Span;
 
 pub(crate) fn flag_number(flag: bool) -> u64

@@ -1,7 +1,7 @@
 // A function of a compiled script, as it is told. Nothing else here calls the libraries of compiled files,
 // of the path and of registers.
-use crate::order::key;
 use crate::order::is_refused_in;
+use crate::order::key;
 use crate::order::key_at;
 use crate::order::longest_in;
 use crate::order::number_in;

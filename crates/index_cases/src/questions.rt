@@ -1,10 +1,10 @@
 // The questions. A line has what each is lent, in the order of its parameters.
 use crate::print;
+use index::list_functions;
+use index::why_refused;
 use lines::Choice;
 use lines::head_by;
 use lines::lines_by;
-use index::list_functions;
-use index::why_refused;
 use lines::words_by;
 use vectors::bytes_of;
 use vectors::number_of;

@@ -11,7 +11,7 @@ use asking::read_all;
 use index::Listed;
 use libc::STDERR_FILENO;
 use owner::Options;
-use pages::Sheet;
+use pages::PageState;
 use pages::first;
 use reading::Reading;
 use reading::read_file;
@@ -28,8 +28,8 @@ fn tell_refused(
     o: Options,
     listed: Listed,
     page: &mut [u8],
-    s: Sheet,
-) -> Sheet {
+    s: PageState,
+) -> PageState {
     let is_cut = index::ends_early(room, n);
     owner::put_refused(
         page,
@@ -51,8 +51,8 @@ fn tell_bytes(
     o: Options,
     weights: &[u8],
     page: &mut [u8],
-    s: Sheet,
-) -> Sheet {
+    s: PageState,
+) -> PageState {
     let mut places = rooms::places();
     let mut keys = rooms::places();
     let listed = index::list_functions(first(room, n), &mut places, &mut keys);
@@ -73,7 +73,14 @@ fn tell_bytes(
 }
 
 // Tells of an open script.
-fn tell_open(fd: i32, file: &[u8], o: Options, weights: &[u8], page: &mut [u8], s: Sheet) -> Sheet {
+fn tell_open(
+    fd: i32,
+    file: &[u8],
+    o: Options,
+    weights: &[u8],
+    page: &mut [u8],
+    s: PageState,
+) -> PageState {
     let mut bytes = rooms::bytes();
     let r = read_file(fd, &mut bytes);
     match r {
@@ -91,7 +98,7 @@ fn tell_open(fd: i32, file: &[u8], o: Options, weights: &[u8], page: &mut [u8], 
 }
 
 // Tells of a script by its name.
-fn tell_file(file: &[u8], o: Options, weights: &[u8], page: &mut [u8], s: Sheet) -> Sheet {
+fn tell_file(file: &[u8], o: Options, weights: &[u8], page: &mut [u8], s: PageState) -> PageState {
     let fd = os::open_read(file);
     if fd < 0 {
         os::fail(file);
@@ -103,14 +110,14 @@ fn tell_file(file: &[u8], o: Options, weights: &[u8], page: &mut [u8], s: Sheet)
 }
 
 // Tells of a script by its argument.
-fn tell_argument(i: usize, o: Options, weights: &[u8], page: &mut [u8], s: Sheet) -> Sheet {
+fn tell_argument(i: usize, o: Options, weights: &[u8], page: &mut [u8], s: PageState) -> PageState {
     let mut file = io::buffer();
     let n = os::arg(i, &mut file);
     tell_file(&file[..n], o, weights, page, s)
 }
 
 // The weights in an open file; or which of its lines can't be read, and then nothing more is told.
-fn tell_weighed(fd: i32, name: &[u8], a: Asked, page: &mut [u8], s: Sheet) -> Sheet {
+fn tell_weighed(fd: i32, name: &[u8], a: Asked, page: &mut [u8], s: PageState) -> PageState {
     let mut text = io::large_buffer();
     let mut weights = rooms::weights();
     let r = read_file(fd, &mut text);
@@ -141,7 +148,7 @@ fn options(a: Asked, is_weighted: bool) -> Options {
 }
 
 // With the weights of a file.
-fn tell_by_weights(a: Asked, page: &mut [u8], s: Sheet) -> Sheet {
+fn tell_by_weights(a: Asked, page: &mut [u8], s: PageState) -> PageState {
     let mut name = io::buffer();
     let n = os::arg(a.weights, &mut name);
     let fd = os::open_read(&name[..n]);
@@ -155,12 +162,12 @@ fn tell_by_weights(a: Asked, page: &mut [u8], s: Sheet) -> Sheet {
 }
 
 // With weights of 1.
-fn tell_by_words(a: Asked, page: &mut [u8], s: Sheet) -> Sheet {
+fn tell_by_words(a: Asked, page: &mut [u8], s: PageState) -> PageState {
     let weights = rooms::weights();
     tell_argument(a.file, options(a, false), &weights, page, s)
 }
 
-fn answer(a: Asked, page: &mut [u8], s: Sheet) -> Sheet {
+fn answer(a: Asked, page: &mut [u8], s: PageState) -> PageState {
     let wish = a.wish;
     match wish {
         Wish::Telling => {

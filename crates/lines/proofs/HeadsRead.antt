@@ -15,9 +15,9 @@ use Rattle.chunk.specs.declared.locating.Located.the-variants.{Here, Not}
 use Rattle.lines.specs.declared.heads.FlatHead.{FlatHead}
 use Rattle.chunk.specs.Reading.{Result, done, refused, bind, andThen}
 use Rattle.chunk.specs.Lundump.{Text, Function, loadByte, loadInt, loadStringN, loadHead}
-use Rattle.chunk.specs.Cursors.{step, cursorOf, valueOf, refusalOf, same, placedOf}
+use Rattle.chunk.specs.Cursors.{step, cursorOf, cursorValue, refusalOf, same, placedOf}
 use Rattle.chunk.specs.Chunk.{nameNumber}
-use Rattle.chunk.specs.Filling.{Bounded}
+use Rattle.chunk.specs.Filling.{BytesBounded}
 use Rattle.chunk.specs.Search.{layoutOf, locatedOf}
 use Rattle.chunk.specs.Stands.{Stands, OneRead}
 use Rattle.lines.specs.declared.choosing.Choice.{Choice}
@@ -28,13 +28,13 @@ use Rattle.lines.proofs.Passes.{chosen-stands, short-enough}
 -- what is told once all five numbers are read
 abbrev pub told : ℕ → Cursor → Cursor → Cursor → Cursor → Cursor → FlatHead
 told s d l p v (At at m) =
-    record { number = 0; place = 0; source = s; linedefined = valueOf d; lastlinedefined = valueOf l; numparams = valueOf p; «is_vararg» = valueOf v; maxstacksize = m }
+    record { number = 0; place = 0; source = s; linedefined = cursorValue d; lastlinedefined = cursorValue l; numparams = cursorValue p; «is_vararg» = cursorValue v; maxstacksize = m }
 told s d l p v (Refused e) = headRefused e
 
 pub told-refused : (s : ℕ) (d l p v k : Cursor) (e x : Refusal) (r : FlatHead) → k ≡ Refused e → x ≡ refusalOf k → r ≡ headRefused x → r ≡ told s d l p v k
 told-refused s d l p v k e x r h q j = rw h (j ∙ ap headRefused (q ∙ ap refusalOf h))
 
-pub told-all : (s : ℕ) (d l p v k : Cursor) (x m a b c e : ℕ) → k ≡ At x m → a ≡ valueOf d → b ≡ valueOf l → c ≡ valueOf p → e ≡ valueOf v
+pub told-all : (s : ℕ) (d l p v k : Cursor) (x m a b c e : ℕ) → k ≡ At x m → a ≡ cursorValue d → b ≡ cursorValue l → c ≡ cursorValue p → e ≡ cursorValue v
     → record { number = 0; place = 0; source = s; linedefined = a; lastlinedefined = b; numparams = c; «is_vararg» = e; maxstacksize = m } ≡ told s d l p v k
 told-all s d l p v k x m a b c e h ea eb ec ee = rw (h, ea, eb, ec, ee)
 
@@ -142,10 +142,10 @@ module _ (bytes : List ℕ) (k : Choice) (m : Located) (h : m ≡ locatedOf (cho
       go (done f at) d = let w : l ≡ layoutOf f = cc in q ∙ ap (λ (x : Layout). headTold (readHead bytes (x .«first_at»))) w
       go (refused x) d = absurd (let z : _≡_ {A = ℕ} 0 1 = cc in omega arith)
 
-  pub within-bytes : (l : Layout) → m ≡ Here l → Bounded bytes
+  pub within-bytes : (l : Layout) → m ≡ Here l → BytesBounded bytes
   within-bytes l j = go (chosenBy k bytes) refl (sym h ∙ j)
     where
-      go : (X : Result Function) → chosenBy k bytes ≡ X → locatedOf X ≡ Here l → Bounded bytes
+      go : (X : Result Function) → chosenBy k bytes ≡ X → locatedOf X ≡ Here l → BytesBounded bytes
       go (done f at) e d = short-enough bytes k f at e
       go (refused x) e d = absurd (let z : _≡_ {A = ℕ} 0 1 = cc in omega arith)
 

@@ -9,7 +9,7 @@ use lib.Dec.{ltb, leb, eqb}
 use lib.ListN.{length, getD, take, drop, set, length-set, length-append, length-drop, drop-of-length-le}
 use lib.Seq.{drop-cons, getD-drop, getD-take, length-take-le}
 use borrow.Author.Tests.{ltb-true, eq-eqb, ne-eqb}
-use Rattle.common.specs.Limits.{mostWords}
+use Rattle.common.specs.Limits.{mostWords, intMax}
 use Rattle.common.specs.Lists.{put}
 use Rattle.common.proofs.Put.{put-laws}
 use Rattle.chunk.specs.declared.reading.Refusal.{Refusal}
@@ -17,17 +17,16 @@ use Rattle.chunk.specs.declared.reading.Cursor.{Cursor}
 use Rattle.chunk.specs.declared.reading.Cursor.the-variants.{At, Refused}
 use Rattle.lines.specs.declared.lines.AbsRead.{AbsRead}
 use Rattle.lines.specs.declared.lines.AbsRead.the-variants as next
-use Rattle.chunk.specs.Limits.{intMax}
 use Rattle.chunk.specs.Reading.{Result, done, refused, bind, only, andThen}
 use Rattle.chunk.specs.Lundump.{unsignedFrom, loadUnsigned, Text, loadBlock, loadInt, loadStringN}
-use Rattle.chunk.specs.Cursors.{step, cursorOf, valueOf, same, none}
+use Rattle.chunk.specs.Cursors.{step, cursorOf, cursorValue, same, none}
 use Rattle.lines.specs.declared.lines.LinePlaces.{LinePlaces}
 use Rattle.chunk.specs.declared.functions.Layout.{Layout}
 use Rattle.chunk.specs.Chunk.{Rooms, after}
 use Rattle.lines.specs.declared.choosing.Choice.{Choice}
 use Rattle.lines.specs.Choices.{filledBy}
-use Rattle.lines.specs.Ldebug.{AbsLine, LineInfo, moved, linesFrom, linesOf}
-use Rattle.lines.specs.Lines.{orNone, definedAt, readInfo, readAbs, absFrom, absBehind, infoBehind, lineInfoAt, linesIn, nextBy, nextAbs, Placed, Turns}
+use Rattle.lines.specs.Ldebug.{AbsLine, LineInfo, lineMoved, linesFrom, linesOf}
+use Rattle.lines.specs.Lines.{orNone, definedAt, readInfo, readAbs, absFrom, absBehind, infoBehind, lineInfoAt, linesIn, nextAbsRead, nextAbs, Placed, LineTurns}
 use Rattle.lines.proofs.Cursors.{seen, follows, refused-is, done-is, unit-is, block-inside}
 use Rattle.lines.proofs.Ldebug.{moved-most}
 use Rattle.lines.proofs.Ldebug as ldebug
@@ -75,7 +74,7 @@ module _ (bytes : List ℕ) (at : ℕ) where
   unfolding nextAbs
   none-left left z = rw z
 
-  some-left : (left : ℕ) → (left ≡ 0 → ⊥) → nextBy (readAbs bytes at) ≡ nextAbs left bytes at
+  some-left : (left : ℕ) → (left ≡ 0 → ⊥) → nextAbsRead (readAbs bytes at) ≡ nextAbs left bytes at
   unfolding nextAbs
   some-left zero z = absurd (z refl)
   some-left (suc n) z = refl
@@ -111,7 +110,7 @@ unfolding nextAbs absFrom
 abs-ends bytes zero at e = refl
 abs-ends bytes (suc n) at e = go (readAbs bytes at) e
   where
-    go : (X : Result AbsLine) → nextBy X ≡ next.Ends → Rattle.lines.specs.Lines.andMore X (λ at₁. absFrom n bytes at₁) ≡ []
+    go : (X : Result AbsLine) → nextAbsRead X ≡ next.Ends → Rattle.lines.specs.Lines.andMore X (λ at₁. absFrom n bytes at₁) ≡ []
     go (done a p) d = absurd (let z : _≡_ {A = ℕ} 0 1 = cc in omega arith)
     go (refused x) d = refl
 
@@ -129,7 +128,7 @@ unfolding nextAbs absFrom
 abs-next bytes zero at pc line past e = absurd (let z : _≡_ {A = ℕ} 0 1 = cc in omega arith)
 abs-next bytes (suc n) at pc line past e = go (readAbs bytes at) refl e
   where
-    go : (X : Result AbsLine) → readAbs bytes at ≡ X → nextBy X ≡ next.At pc line past → Next bytes (suc n) at pc line past
+    go : (X : Result AbsLine) → readAbs bytes at ≡ X → nextAbsRead X ≡ next.At pc line past → Next bytes (suc n) at pc line past
     go (refused x) h d = absurd (let z : _≡_ {A = ℕ} 0 1 = cc in omega arith)
     go (done a p) h d =
         let x : a .pc ≡ pc = cc in
@@ -146,7 +145,7 @@ zero-line : (m line i : ℕ) (xs : List AbsLine) → linesFrom (suc m) line i xs
 unfolding linesFrom
 zero-line m line i xs = refl
 
-last-line : (m line i b : ℕ) (bs : List ℕ) → linesFrom (suc m) line i [] (b ∷ bs) ≡ moved line b ∷ linesFrom m (moved line b) (i + 1) [] bs
+last-line : (m line i b : ℕ) (bs : List ℕ) → linesFrom (suc m) line i [] (b ∷ bs) ≡ lineMoved line b ∷ linesFrom m (lineMoved line b) (i + 1) [] bs
 unfolding linesFrom
 last-line m line i b bs = refl
 
@@ -156,7 +155,7 @@ unfolding linesFrom
 own-line m line i pc own xs b bs z = rw (eq-eqb pc i z)
 
 moved-line : (m line i pc own : ℕ) (xs : List AbsLine) (b : ℕ) (bs : List ℕ) → (pc ≡ i → ⊥)
-    → linesFrom (suc m) line i (record { pc = pc; line = own } ∷ xs) (b ∷ bs) ≡ moved line b ∷ linesFrom m (moved line b) (i + 1) (record { pc = pc; line = own } ∷ xs) bs
+    → linesFrom (suc m) line i (record { pc = pc; line = own } ∷ xs) (b ∷ bs) ≡ lineMoved line b ∷ linesFrom m (lineMoved line b) (i + 1) (record { pc = pc; line = own } ∷ xs) bs
 unfolding linesFrom
 moved-line m line i pc own xs b bs z = rw (ne-eqb pc i z)
 
@@ -168,7 +167,7 @@ module _ (bytes : List ℕ) (start count : ℕ) (inside : start + count ≤ leng
   part-length = length-take-le count (drop start bytes) (omega (arith, length-drop start bytes))
 
   -- no byte is there
-  pub turn-past : count ≤ i → Turns bytes part line i left at (record { shown = 0; line = line; at = at; left = left })
+  pub turn-past : count ≤ i → LineTurns bytes part line i left at (record { shown = 0; line = line; at = at; left = left })
   turn-past h =
       record {
         each = λ m. each m;
@@ -191,7 +190,7 @@ module _ (bytes : List ℕ) (start count : ℕ) (inside : start + count ≤ leng
         ∙ ap (λ (x : ℕ). x ∷ drop (i + 1) part) (getD-take count (drop start bytes) i 0 h ∙ getD-drop start bytes i 0 ∙ sym eb)
 
     pub turn-own : (pc own past : ℕ) (a : AbsRead) → a ≡ nextAbs left bytes at → a ≡ next.At pc own past → pc ≡ i
-        → Turns bytes part line i left at (record { shown = own; line = own; at = past; left = left - 1 })
+        → LineTurns bytes part line i left at (record { shown = own; line = own; at = past; left = left - 1 })
     turn-own pc own past a ea e z =
         let x = abs-next bytes left at pc own past (sym ea ∙ e) in
         record {
@@ -199,11 +198,11 @@ module _ (bytes : List ℕ) (start count : ℕ) (inside : start + count ≤ leng
           low = λ most u v. (omega (arith, x .low), omega (arith, x .low));
         }
 
-    moved-low : (mv : ℕ) → mv ≡ moved line b → (most : ℕ) → intMax ≤ most → line ≤ most → (mv ≤ most + 127) × (mv ≤ most + 127)
+    moved-low : (mv : ℕ) → mv ≡ lineMoved line b → (most : ℕ) → intMax ≤ most → line ≤ most → (mv ≤ most + 127) × (mv ≤ most + 127)
     moved-low mv e most u v = let k = moved-most line b in (omega (arith, e, k), omega (arith, e, k))
 
-    pub turn-move : (pc own past : ℕ) (a : AbsRead) → a ≡ nextAbs left bytes at → a ≡ next.At pc own past → (pc ≡ i → ⊥) → (mv : ℕ) → mv ≡ moved line b
-        → Turns bytes part line i left at (record { shown = mv; line = mv; at = at; left = left })
+    pub turn-move : (pc own past : ℕ) (a : AbsRead) → a ≡ nextAbs left bytes at → a ≡ next.At pc own past → (pc ≡ i → ⊥) → (mv : ℕ) → mv ≡ lineMoved line b
+        → LineTurns bytes part line i left at (record { shown = mv; line = mv; at = at; left = left })
     turn-move pc own past a ea e z mv em =
         let x = abs-next bytes left at pc own past (sym ea ∙ e) in
         record {
@@ -211,8 +210,8 @@ module _ (bytes : List ℕ) (start count : ℕ) (inside : start + count ≤ leng
           low = moved-low mv em;
         }
 
-    pub turn-end : (a : AbsRead) → a ≡ nextAbs left bytes at → a ≡ next.Ends → (mv : ℕ) → mv ≡ moved line b
-        → Turns bytes part line i left at (record { shown = mv; line = mv; at = at; left = left })
+    pub turn-end : (a : AbsRead) → a ≡ nextAbs left bytes at → a ≡ next.Ends → (mv : ℕ) → mv ≡ lineMoved line b
+        → LineTurns bytes part line i left at (record { shown = mv; line = mv; at = at; left = left })
     turn-end a ea e mv em =
         record {
           each = λ m. rw (byte-there, abs-ends bytes left at (sym ea ∙ e), em) (last-line m line i b (drop (i + 1) part));
@@ -251,7 +250,7 @@ module _ (bytes part : List ℕ) (defined n left₀ abs₀ : ℕ) (out₀ : List
     pub storing-low : line ≤ 4294967295
     storing-low = omega (arith, s .low, s .upto, s .few)
 
-    module _ (h : i < n) (shown line′ at′ left′ : ℕ) (t : Turns bytes part line i left at (record { shown = shown; line = line′; at = at′; left = left′ })) where
+    module _ (h : i < n) (shown line′ at′ left′ : ℕ) (t : LineTurns bytes part line i left at (record { shown = shown; line = line′; at = at′; left = left′ })) where
       pub shown-low : shown < 4294967296
       shown-low = let k = t .low (intMax + 127 * i) (omega arith) (s .low) in omega (arith, k .0, s .few)
 
@@ -308,15 +307,15 @@ module _ (bytes : List ℕ) (d at : ℕ) where
       placed-all abs left l = record { info = rw (h, k, l); inside = block-inside n start bytes behind k }
 
 -- ---- linedefined
-value-none : (X : Result ℕ) → valueOf (cursorOf same X) ≡ orNone X
+value-none : (X : Result ℕ) → cursorValue (cursorOf same X) ≡ orNone X
 value-none (done v at) = refl
 value-none (refused e) = refl
 
 module _ (bytes : List ℕ) (at : ℕ) where
-  pub defined-is : (d x : Cursor) (v : ℕ) → d ≡ step none loadStringN bytes (At at 0) → x ≡ step same loadInt bytes d → v ≡ valueOf x → v ≡ definedAt bytes at
+  pub defined-is : (d x : Cursor) (v : ℕ) → d ≡ step none loadStringN bytes (At at 0) → x ≡ step same loadInt bytes d → v ≡ cursorValue x → v ≡ definedAt bytes at
   unfolding definedAt
   defined-is d x v h k e =
-      e ∙ ap valueOf (follows none same loadStringN loadInt bytes (At at 0) d x h k ∙ seen same (andThen loadStringN loadInt) bytes at 0)
+      e ∙ ap cursorValue (follows none same loadStringN loadInt bytes (At at 0) d x h k ∙ seen same (andThen loadStringN loadInt) bytes at 0)
       ∙ value-none (andThen loadStringN loadInt bytes at)
 
   pub defined-low : definedAt bytes at ≤ intMax

@@ -11,7 +11,7 @@ use lib.ListN.{length, getD, drop}
 use lib.Seq.{drop-cons, getD-drop}
 use borrow.Author.Tests.{lt-ltb, le-ltb, le-leb, lt-leb, leb-true, leb-false, ltb-true, ltb-false, eqb-true, eqb-false, eq-eqb, ne-eqb}
 use Rattle.common.proofs.Order.{split, same-or-not}
-use Rattle.lines.specs.Ldebug.{AbsLine, LineInfo, moved, mostWithoutAbs, Base, baseAt, noAbs, climb, getbaseline, walked, upTo, funcline, linesFrom, linesOf, Rises, Estimated, Lines}
+use Rattle.lines.specs.Ldebug.{AbsLine, LineInfo, lineMoved, mostWithoutAbs, Base, baseAt, noAbs, climb, getbaseline, walked, upTo, funcline, linesFrom, linesOf, Rises, Estimated, Lines}
 
 -- the last base that is not past pc, of those in a list that rises
 abbrev baseBy : ℕ → List AbsLine → Base → Base
@@ -95,16 +95,16 @@ base pc line = record { from = pc; line = line }
 
 module _ (info : List ℕ) where
   -- the walk, a step further
-  walk-on : (t pc line : ℕ) → pc ≤ t → upTo info t (base pc line) ≡ upTo info t (base (pc + 1) (moved line (getD info pc 0)))
+  walk-on : (t pc line : ℕ) → pc ≤ t → upTo info t (base pc line) ≡ upTo info t (base (pc + 1) (lineMoved line (getD info pc 0)))
   unfolding walked
   walk-on t pc line h = let z : t + 1 - pc ≡ suc (t + 1 - (pc + 1)) = omega arith in ap (λ (k : ℕ). walked k info pc line) z
 
   own-step : (t pc line : ℕ) (xs : List AbsLine) → pc ≤ t
-      → upTo info t (baseBy t xs (base pc line)) ≡ upTo info t (baseBy t xs (base (pc + 1) (moved line (getD info pc 0))))
+      → upTo info t (baseBy t xs (base pc line)) ≡ upTo info t (baseBy t xs (base (pc + 1) (lineMoved line (getD info pc 0))))
   own-step t pc line [] h = walk-on t pc line h
   own-step t pc line (a ∷ xs) h = go (leb (a .pc) t)
     where
-      go : (b : Bool) → upTo info t (cond b (baseBy t xs (baseAt a)) (base pc line)) ≡ upTo info t (cond b (baseBy t xs (baseAt a)) (base (pc + 1) (moved line (getD info pc 0))))
+      go : (b : Bool) → upTo info t (cond b (baseBy t xs (baseAt a)) (base pc line)) ≡ upTo info t (cond b (baseBy t xs (baseAt a)) (base (pc + 1) (lineMoved line (getD info pc 0))))
       go true = refl
       go false = walk-on t pc line h
 
@@ -129,8 +129,8 @@ module _ (info : List ℕ) where
 
   module _ (n pc : ℕ) (rec : Right n (pc + 1)) (line k t : ℕ) (e : pc + k ≡ t) (l : t < length info) (h : k < suc n) where
     by-byte : (xs : List AbsLine) → Rises (pc + 1) xs
-        → getD (moved line (getD info pc 0) ∷ linesFrom n (moved line (getD info pc 0)) (pc + 1) xs (drop (pc + 1) info)) k 0 ≡ upTo info t (baseBy t xs (base pc line))
-    by-byte xs r = one-more n pc rec (moved line (getD info pc 0)) xs r k t e l h ∙ sym (own-step t pc line xs (omega arith))
+        → getD (lineMoved line (getD info pc 0) ∷ linesFrom n (lineMoved line (getD info pc 0)) (pc + 1) xs (drop (pc + 1) info)) k 0 ≡ upTo info t (baseBy t xs (base pc line))
+    by-byte xs r = one-more n pc rec (lineMoved line (getD info pc 0)) xs r k t e l h ∙ sym (own-step t pc line xs (omega arith))
 
     by-abs : (a : AbsLine) (xs : List AbsLine) → a .pc ≡ pc → Rises (a .pc + 1) xs
         → getD (a .line ∷ linesFrom n (a .line) (pc + 1) xs (drop (pc + 1) info)) k 0 ≡ upTo info t (baseBy t (a ∷ xs) (base pc line))
@@ -140,7 +140,7 @@ module _ (info : List ℕ) where
         ∙ ap (upTo info t) (sym (base-next t a xs (base pc line) (omega arith)))
 
     either : (a : AbsLine) (xs : List AbsLine) → Rises pc (a ∷ xs) → (b : Bool) → eqb (a .pc) pc ≡ b
-        → getD (cond b (a .line ∷ linesFrom n (a .line) (pc + 1) xs (drop (pc + 1) info)) (moved line (getD info pc 0) ∷ linesFrom n (moved line (getD info pc 0)) (pc + 1) (a ∷ xs) (drop (pc + 1) info))) k 0
+        → getD (cond b (a .line ∷ linesFrom n (a .line) (pc + 1) xs (drop (pc + 1) info)) (lineMoved line (getD info pc 0) ∷ linesFrom n (lineMoved line (getD info pc 0)) (pc + 1) (a ∷ xs) (drop (pc + 1) info))) k 0
         ≡ upTo info t (baseBy t (a ∷ xs) (base pc line))
     either a xs r true d = by-abs a xs (eqb-true (a .pc) pc d) (r .1)
     either a xs r false d = let x = eqb-false (a .pc) pc d in by-byte (a ∷ xs) (past (r .0) x, r .1)
@@ -174,13 +174,13 @@ no-line zero line pc xs bs k h = refl
 no-line (suc n) line pc xs [] zero h = refl
 no-line (suc n) line pc xs [] (suc k) h = no-line n line (pc + 1) xs [] k zero-le
 no-line (suc n) line pc [] (b ∷ bs) zero h = absurd (omega arith)
-no-line (suc n) line pc [] (b ∷ bs) (suc k) h = no-line n (moved line b) (pc + 1) [] bs k (omega arith)
+no-line (suc n) line pc [] (b ∷ bs) (suc k) h = no-line n (lineMoved line b) (pc + 1) [] bs k (omega arith)
 no-line (suc n) line pc (a ∷ xs) (b ∷ bs) zero h = absurd (omega arith)
 no-line (suc n) line pc (a ∷ xs) (b ∷ bs) (suc k) h =
-    go (eqb (a .pc) pc) (no-line n (a .line) (pc + 1) xs bs k (omega arith)) (no-line n (moved line b) (pc + 1) (a ∷ xs) bs k (omega arith))
+    go (eqb (a .pc) pc) (no-line n (a .line) (pc + 1) xs bs k (omega arith)) (no-line n (lineMoved line b) (pc + 1) (a ∷ xs) bs k (omega arith))
   where
-    go : (t : Bool) → getD (linesFrom n (a .line) (pc + 1) xs bs) k 0 ≡ 0 → getD (linesFrom n (moved line b) (pc + 1) (a ∷ xs) bs) k 0 ≡ 0
-        → getD (cond t (a .line ∷ linesFrom n (a .line) (pc + 1) xs bs) (moved line b ∷ linesFrom n (moved line b) (pc + 1) (a ∷ xs) bs)) (suc k) 0 ≡ 0
+    go : (t : Bool) → getD (linesFrom n (a .line) (pc + 1) xs bs) k 0 ≡ 0 → getD (linesFrom n (lineMoved line b) (pc + 1) (a ∷ xs) bs) k 0 ≡ 0
+        → getD (cond t (a .line ∷ linesFrom n (a .line) (pc + 1) xs bs) (lineMoved line b ∷ linesFrom n (lineMoved line b) (pc + 1) (a ∷ xs) bs)) (suc k) 0 ≡ 0
     go true x y = x
     go false x y = y
 
@@ -188,17 +188,17 @@ pub lines-count : (n line pc : ℕ) (xs : List AbsLine) (bs : List ℕ) → leng
 unfolding linesFrom
 lines-count zero line pc xs bs = refl
 lines-count (suc n) line pc xs [] = ap suc (lines-count n line (pc + 1) xs [])
-lines-count (suc n) line pc [] (b ∷ bs) = ap suc (lines-count n (moved line b) (pc + 1) [] bs)
-lines-count (suc n) line pc (a ∷ xs) (b ∷ bs) = go (eqb (a .pc) pc) (lines-count n (a .line) (pc + 1) xs bs) (lines-count n (moved line b) (pc + 1) (a ∷ xs) bs)
+lines-count (suc n) line pc [] (b ∷ bs) = ap suc (lines-count n (lineMoved line b) (pc + 1) [] bs)
+lines-count (suc n) line pc (a ∷ xs) (b ∷ bs) = go (eqb (a .pc) pc) (lines-count n (a .line) (pc + 1) xs bs) (lines-count n (lineMoved line b) (pc + 1) (a ∷ xs) bs)
   where
-    go : (t : Bool) → length (linesFrom n (a .line) (pc + 1) xs bs) ≡ n → length (linesFrom n (moved line b) (pc + 1) (a ∷ xs) bs) ≡ n
-        → length (cond t (a .line ∷ linesFrom n (a .line) (pc + 1) xs bs) (moved line b ∷ linesFrom n (moved line b) (pc + 1) (a ∷ xs) bs)) ≡ suc n
+    go : (t : Bool) → length (linesFrom n (a .line) (pc + 1) xs bs) ≡ n → length (linesFrom n (lineMoved line b) (pc + 1) (a ∷ xs) bs) ≡ n
+        → length (cond t (a .line ∷ linesFrom n (a .line) (pc + 1) xs bs) (lineMoved line b ∷ linesFrom n (lineMoved line b) (pc + 1) (a ∷ xs) bs)) ≡ suc n
     go true x y = ap suc x
     go false x y = ap suc y
 
 -- a byte adds 127 at the most
-pub moved-most : (line b : ℕ) → moved line b ≤ line + 127
-unfolding moved
+pub moved-most : (line b : ℕ) → lineMoved line b ≤ line + 127
+unfolding lineMoved
 moved-most line b = go (ltb b 128) refl
   where
     go : (t : Bool) → ltb b 128 ≡ t → cond t (line + b) (line - (256 - b)) ≤ line + 127
@@ -217,20 +217,20 @@ bounded (suc n) line pc xs [] (suc k) most i h a = let r = bounded n line (pc + 
 bounded (suc n) line pc [] (b ∷ bs) zero most i h a = let m = moved-most line b in omega arith
 bounded (suc n) line pc [] (b ∷ bs) (suc k) most i h a =
     let m = moved-most line b in
-    let r = bounded n (moved line b) (pc + 1) [] bs k most (i + 1) (omega arith) a in
+    let r = bounded n (lineMoved line b) (pc + 1) [] bs k most (i + 1) (omega arith) a in
     omega arith
 bounded (suc n) line pc (x ∷ xs) (b ∷ bs) zero most i h a = go (eqb (x .pc) pc)
   where
-    go : (t : Bool) → getD (cond t (x .line ∷ linesFrom n (x .line) (pc + 1) xs bs) (moved line b ∷ linesFrom n (moved line b) (pc + 1) (x ∷ xs) bs)) 0 0 ≤ most + 127 * (i + suc n)
+    go : (t : Bool) → getD (cond t (x .line ∷ linesFrom n (x .line) (pc + 1) xs bs) (lineMoved line b ∷ linesFrom n (lineMoved line b) (pc + 1) (x ∷ xs) bs)) 0 0 ≤ most + 127 * (i + suc n)
     go true = let u = a 0 (omega arith) in omega arith
     go false = let m = moved-most line b in omega arith
 bounded (suc n) line pc (x ∷ xs) (b ∷ bs) (suc k) most i h a =
     let m = moved-most line b in
     let u = a 0 (omega arith) in
-    go (eqb (x .pc) pc) (bounded n (x .line) (pc + 1) xs bs k most i (omega arith) (λ j l. a (suc j) (omega arith))) (bounded n (moved line b) (pc + 1) (x ∷ xs) bs k most (i + 1) (omega arith) a)
+    go (eqb (x .pc) pc) (bounded n (x .line) (pc + 1) xs bs k most i (omega arith) (λ j l. a (suc j) (omega arith))) (bounded n (lineMoved line b) (pc + 1) (x ∷ xs) bs k most (i + 1) (omega arith) a)
   where
-    go : (t : Bool) → getD (linesFrom n (x .line) (pc + 1) xs bs) k 0 ≤ most + 127 * (i + n) → getD (linesFrom n (moved line b) (pc + 1) (x ∷ xs) bs) k 0 ≤ most + 127 * (i + 1 + n)
-        → getD (cond t (x .line ∷ linesFrom n (x .line) (pc + 1) xs bs) (moved line b ∷ linesFrom n (moved line b) (pc + 1) (x ∷ xs) bs)) (suc k) 0 ≤ most + 127 * (i + suc n)
+    go : (t : Bool) → getD (linesFrom n (x .line) (pc + 1) xs bs) k 0 ≤ most + 127 * (i + n) → getD (linesFrom n (lineMoved line b) (pc + 1) (x ∷ xs) bs) k 0 ≤ most + 127 * (i + 1 + n)
+        → getD (cond t (x .line ∷ linesFrom n (x .line) (pc + 1) xs bs) (lineMoved line b ∷ linesFrom n (lineMoved line b) (pc + 1) (x ∷ xs) bs)) (suc k) 0 ≤ most + 127 * (i + suc n)
     go true p q = omega arith
     go false p q = omega arith
 

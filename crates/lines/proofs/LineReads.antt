@@ -6,7 +6,7 @@ use Prim.Native.Nat.{ℕ, zero, suc, _+_, _*_}
 use native.Mathlib.Omega.{arith}
 use lib.Dec.{leb}
 use lib.ListN.{length}
-use Rattle.chunk.specs.Limits.{intMax}
+use Rattle.common.specs.Limits.{intMax}
 use Rattle.chunk.specs.Reading.{Result, done, refused, bind, only, repeat}
 use Rattle.chunk.specs.Lundump.{Vector, Function, loadInt, loadBlock, loadVector, loadItems, loadAbsLine, loadLocVar, loadLines}
 use Rattle.chunk.specs.Stands.{Stands, OneRead}

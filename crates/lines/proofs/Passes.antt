@@ -7,6 +7,7 @@ use native.Mathlib.Omega.{arith}
 use lib.Dec.{leb}
 use lib.ListN.{length, drop}
 use borrow.Author.Tests.{leb-true, le-leb, lt-leb}
+use Rattle.common.specs.Limits.{mostBytes, levelsBelow}
 use Rattle.chunk.specs.declared.reading.Refusal.{Refusal}
 use Rattle.chunk.specs.declared.reading.Refusal.the-variants.{Malformed, Short}
 use Rattle.chunk.specs.declared.reading.Cursor.the-variants.{At}
@@ -16,14 +17,13 @@ use Rattle.chunk.specs.declared.functions.Walk.{Walk}
 use Rattle.chunk.specs.declared.locating.Located.{Located}
 use Rattle.chunk.specs.declared.locating.Located.the-variants.{Here, Not}
 use Rattle.chunk.specs.declared.counts.Counts.{Counts}
-use Rattle.chunk.specs.Limits.{mostBytes, levelsBelow}
 use Rattle.chunk.specs.Reading.{Result, done, refused, bind, only}
 use Rattle.chunk.specs.Lundump.{Function, loadCode, loadFunction, undump}
 use Rattle.chunk.specs.Chunk.{pick, chosen, valuesOf, wordsOf, countsOf, Rooms, fits, roomFor, after}
 use Rattle.chunk.specs.Stands.{Stands, AllStand, AllRead, OneRead}
 use Rattle.chunk.specs.Cursors.{same}
 use Rattle.chunk.specs.Search.{search, walkOf, walk, layoutOf, locatedOf, foundOf, locatedBy, reported, roomed}
-use Rattle.chunk.specs.Filling.{Read, valuesAfter, Bounded}
+use Rattle.chunk.specs.Filling.{Read, valuesAfter, BytesBounded}
 use Rattle.chunk.proofs.Laws.{laws}
 use Rattle.lines.specs.declared.choosing.Choice.{Choice}
 use Rattle.lines.specs.declared.choosing.Choice.the-variants.{Number, Place}
@@ -87,17 +87,17 @@ module _ (bytes : List ℕ) where
     pub is : filledBy k bytes rooms ≡ done function next
     pub layout : l ≡ layoutOf function
     pub stands : Stands bytes function
-    pub bounded : Bounded bytes
+    pub bounded : BytesBounded bytes
     pub words : length (function .words) ≤ rooms .words
     pub tags : length (function .constants) ≤ rooms .tags
     pub payloads : length (function .constants) ≤ rooms .payloads
     pub names : length (function .names) ≤ rooms .names
 
-  within : (f : Function) (at : ℕ) (b : Bool) (X : Result Function) → leb (length bytes) mostBytes ≡ b → only b X ≡ done f at → Bounded bytes
+  within : (f : Function) (at : ℕ) (b : Bool) (X : Result Function) → leb (length bytes) mostBytes ≡ b → only b X ≡ done f at → BytesBounded bytes
   within f at true X e h = leb-true _ _ e
   within f at false X e h = absurd (let z : _≡_ {A = ℕ} 0 1 = cc in omega arith)
 
-  pub short-enough : (c : Choice) (f : Function) (at : ℕ) → chosenBy c bytes ≡ done f at → Bounded bytes
+  pub short-enough : (c : Choice) (f : Function) (at : ℕ) → chosenBy c bytes ≡ done f at → BytesBounded bytes
   unfolding chosen functionAt
   short-enough (Number k) f at h = within f at (leb (length bytes) mostBytes) (bind (undump bytes 0) (pick k)) refl h
   short-enough (Place p) f at h = within f at (leb (length bytes) mostBytes) (bind (loadFunction levelsBelow bytes p) (pick 0)) refl h
@@ -122,7 +122,7 @@ module _ (bytes : List ℕ) where
   fit f rooms h = all-fit f rooms _ _ _ _ refl refl refl refl h
 
   module _ (k : Choice) (rooms : Rooms) (l : Layout) where
-    with-room : (f : Function) (at : ℕ) (b : Bool) → fits f rooms ≡ b → filledBy k bytes rooms ≡ cond b (done f at) (refused Short) → Stands bytes f → Bounded bytes
+    with-room : (f : Function) (at : ℕ) (b : Bool) → fits f rooms ≡ b → filledBy k bytes rooms ≡ cond b (done f at) (refused Short) → Stands bytes f → BytesBounded bytes
         → Here l ≡ locatedOf (cond b (done f at) (refused Short)) → Filled k rooms l
     with-room f at true b e s o h =
         let a = fit f rooms b in

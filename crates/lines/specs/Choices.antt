@@ -6,7 +6,7 @@ use mathlib.Core.List.{List}
 use Prim.Native.Nat.{ℕ}
 use lib.Dec.{leb}
 use lib.ListN.{length}
-use Rattle.chunk.specs.Limits.{mostBytes, levelsBelow}
+use Rattle.common.specs.Limits.{mostBytes, levelsBelow}
 use Rattle.chunk.specs.Reading.{Result, bind, only}
 use Rattle.chunk.specs.Lundump.{Function, loadFunction}
 use Rattle.chunk.specs.Chunk.{pick, chosen, Rooms, roomFor}

@@ -5,12 +5,12 @@ use mathlib.Core.Path.{_≡_}
 use mathlib.Core.List.{List}
 use Prim.Native.Nat.{ℕ}
 use Rattle.common.specs.Numbers.{«ACCEPTED»}
+use Rattle.common.specs.Limits.{mostBytes}
 use Rattle.chunk.specs.declared.reading.Refusal.{Refusal}
 use Rattle.lines.specs.declared.heads.FlatHead.{FlatHead}
-use Rattle.chunk.specs.Numbers.{numberOf, placeOf}
+use Rattle.chunk.specs.Numbers.{refusalNumber, refusalPlace}
 use lib.Dec.{leb}
 use lib.ListN.{length}
-use Rattle.chunk.specs.Limits.{mostBytes}
 use Rattle.chunk.specs.Reading.{Result, done, refused, Reader, bind, only}
 use Rattle.chunk.specs.Lundump.{Text, Function, loadByte, loadInt, loadStringN, loadHead}
 use Rattle.chunk.specs.Chunk.{nameNumber}
@@ -56,8 +56,8 @@ headFrom at bytes = only (leb (length bytes) mostBytes) (readHead bytes at)
 abbrev pub headRefused : Refusal → FlatHead
 headRefused e =
     record {
-      number = numberOf e;
-      place = placeOf e;
+      number = refusalNumber e;
+      place = refusalPlace e;
       source = 0;
       linedefined = 0;
       lastlinedefined = 0;

@@ -5,12 +5,11 @@ use mathlib.Core.Path.{_≡_}
 use mathlib.Core.List.{List, [], _∷_}
 use Prim.Native.Nat.{ℕ, zero, suc, _+_, _/_, _≤_, _<_}
 use lib.ListN.{length, getD, take, drop}
-use Rattle.common.specs.Limits.{mostWords}
+use Rattle.common.specs.Limits.{mostWords, intMax}
 use Rattle.lines.specs.declared.lines.AbsRead.{AbsRead}
 use Rattle.lines.specs.declared.lines.AbsRead.the-variants as next
 use Rattle.lines.specs.declared.lines.LinePlaces.{LinePlaces}
 use Rattle.lines.specs.declared.lines.LineTurn.{LineTurn}
-use Rattle.chunk.specs.Limits.{intMax}
 use Rattle.chunk.specs.Reading.{Result, done, refused, Reader, bind, andThen}
 use Rattle.chunk.specs.Lundump.{Vector, Function, loadBlock, loadInt, loadStringN}
 use Rattle.lines.specs.declared.choosing.Choice.{Choice}
@@ -80,13 +79,13 @@ linesIn bytes f = linesOf (lineInfoAt bytes (f .firstAt) (f .linesAt)) (length (
 -- For the contracts within this crate
 
 -- the next absolute line, where so many are left
-abbrev pub nextBy : Result AbsLine → AbsRead
-nextBy (done a at) = next.At (a .pc) (a .line) at
-nextBy (refused e) = next.Ends
+abbrev pub nextAbsRead : Result AbsLine → AbsRead
+nextAbsRead (done a at) = next.At (a .pc) (a .line) at
+nextAbsRead (refused e) = next.Ends
 
 unfoldable pub nextAbs : ℕ → List ℕ → ℕ → AbsRead
 nextAbs zero bytes at = next.Ends
-nextAbs (suc n) bytes at = nextBy (readAbs bytes at)
+nextAbs (suc n) bytes at = nextAbsRead (readAbs bytes at)
 
 -- where the line information of the function at these positions stands
 pub record Placed (bytes : List ℕ) (linedefined at : ℕ) (p : LinePlaces) : Type 0 where
@@ -98,7 +97,7 @@ pub record Placed (bytes : List ℕ) (linedefined at : ℕ) (p : LinePlaces) : T
   pub inside : p .start + p .count ≤ length bytes
 
 -- one line: `part` is the lineinfo
-pub record Turns (bytes part : List ℕ) (line i left at : ℕ) (r : LineTurn) : Type 0 where
+pub record LineTurns (bytes part : List ℕ) (line i left at : ℕ) (r : LineTurn) : Type 0 where
   pub each :
       (m : ℕ) → linesFrom (suc m) line i (absFrom left bytes at) (drop i part)
       ≡ r .shown ∷ linesFrom m (r .line) (i + 1) (absFrom (r .left) bytes (r .at)) (drop (i + 1) part)

@@ -6,11 +6,11 @@ use chunk::Cursor;
 use chunk::Located;
 use chunk::Refusal;
 use chunk::Search;
-use chunk::inner::LEVELS_BELOW;
-use chunk::inner::MOST_BYTES;
-use chunk::inner::answer;
 use chunk::inner::function;
 use chunk::inner::locate;
+use chunk::inner::located_counts;
+use common::limits::LEVELS_BELOW;
+use common::limits::MOST_BYTES;
 
 pub enum Choice {
     // Counted from 0 by first byte.
@@ -27,7 +27,7 @@ fn locate_at(chunk: &[u8], at: usize) -> Located
     if MOST_BYTES < chunk.len() {
         return Located::Not(Refusal::Malformed);
     }
-    answer(function(chunk, Cursor::At(at, 0), LEVELS_BELOW, Search::Left(0)))
+    located_counts(function(chunk, Cursor::At(at, 0), LEVELS_BELOW, Search::Left(0)))
 }
 
 pub(crate) fn locate_by(chunk: &[u8], choice: Choice) -> Located

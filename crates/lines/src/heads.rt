@@ -1,6 +1,6 @@
 // What loadFunction reads ahead of a function's parts: its source, lines, parameters and stack size.
 ghost use mathlib.Core.Path.{_≡_};
-ghost use Rattle.chunk.specs.Filling.{Bounded};
+ghost use Rattle.chunk.specs.Filling.{BytesBounded};
 ghost use Rattle.lines.specs.Heads.{readHead, headTold, headRefused, headOf, headFrom};
 use crate::choosing::Choice;
 use crate::choosing::locate_by;
@@ -8,14 +8,14 @@ use chunk::Cursor;
 use chunk::Located;
 use chunk::Placed;
 use chunk::Refusal;
-use chunk::inner::MOST_BYTES;
 use chunk::inner::byte;
 use chunk::inner::int;
 use chunk::inner::name_at;
-use chunk::inner::number;
-use chunk::inner::place;
 use chunk::inner::reason;
+use chunk::inner::refusal_number;
+use chunk::inner::refusal_place;
 use chunk::inner::value;
+use common::limits::MOST_BYTES;
 
 // A refusal's number and place; or the source's place as a name's is told, and the numbers of the head.
 #[repr(C)]
@@ -34,8 +34,8 @@ fn refuse_head(e: Refusal) -> FlatHead
     ensures { λ r. ⌜ r ≡ headRefused e ⌝ }
 {
     FlatHead {
-        number: number(e) as u64,
-        place: place(e),
+        number: refusal_number(e) as u64,
+        place: refusal_place(e),
         source: 0,
         linedefined: 0,
         lastlinedefined: 0,
@@ -47,7 +47,7 @@ fn refuse_head(e: Refusal) -> FlatHead
 
 // The head at a position.
 fn head_at(chunk: &[u8], at: usize) -> FlatHead
-    requires { ⌜ Bounded (now chunk) ⌝ }
+    requires { ⌜ BytesBounded (now chunk) ⌝ }
     ensures { λ r. ⌜ r ≡ headTold (readHead (now (chunk .entry)) at) ⌝ }
 {
     let s = name_at(chunk, at);

@@ -4,10 +4,17 @@ ghost use mathlib.Core.Path.{_≡_};
 ghost use mathlib.Core.List.{_++_};
 ghost use Prim.Native.Nat.{_+_, _≤_, _<_};
 ghost use lib.ListN.{length, take, drop};
-ghost use Rattle.common.specs.Limits.{mostWords};
-ghost use Rattle.chunk.specs.Limits.{intMax};
-ghost use Rattle.lines.specs.Ldebug.{moved, linesFrom, linesOf};
-ghost use Rattle.lines.specs.Lines.{definedAt, absFrom, lineInfoAt, linesIn, nextAbs, Placed, Turns};
+ghost use Rattle.common.specs.Limits.{mostWords, intMax};
+ghost use Rattle.lines.specs.Ldebug.{lineMoved, linesFrom, linesOf};
+ghost use Rattle.lines.specs.Lines.{
+  definedAt,
+  absFrom,
+  lineInfoAt,
+  linesIn,
+  nextAbs,
+  Placed,
+  LineTurns,
+};
 ghost use Rattle.chunk.specs.Chunk.{countsOf, after, wordsRoom};
 ghost use Rattle.lines.specs.Choices.{filledBy};
 use crate::choosing::Choice;
@@ -56,7 +63,7 @@ fn byte_of(x: u8) -> usize
 // A line moved by a signed byte, 0 where it would go below.
 fn move_line(line: usize, b: usize) -> usize
     requires { ⌜ (line ≤ 4294967295) × (b < 256) ⌝ }
-    ensures { λ r. ⌜ r ≡ moved line b ⌝ }
+    ensures { λ r. ⌜ r ≡ lineMoved line b ⌝ }
 {
     if b < 128 {
         return line + b;
@@ -98,7 +105,7 @@ fn line_at(
 ) -> LineTurn
     requires { ⌜ (start + count ≤ length (now chunk)) × (line ≤ 4294967295) ⌝ }
     ensures { λ r. ⌜
-        Turns (now (chunk .entry)) (take count (drop start (now (chunk .entry)))) line i left at r ⌝ }
+        LineTurns (now (chunk .entry)) (take count (drop start (now (chunk .entry)))) line i left at r ⌝ }
 {
     if count <= i {
         return LineTurn {

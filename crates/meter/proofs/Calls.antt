@@ -7,12 +7,12 @@ use mathlib.Core.List.{List, [], _∷_, _++_}
 use native.Mathlib.Omega.{arith}
 use lib.Dec.{ltb, eqb}
 use borrow.Author.Tests.{ltb-true, ltb-false, eqb-true, le-ltb, lt-leb, le-leb, ne-eqb}
-use Rattle.common.specs.Limits.{mostWords, mostServices}
+use Rattle.common.specs.Limits.{mostWords, mostServices, heaviestWeight}
 use Rattle.graph.specs.Graph.{Graph, Lawful}
 use Rattle.graph.proofs.Laws.{laws}
 use Rattle.meter.specs.declared.step.Meter.{Meter}
 use Rattle.meter.specs.declared.step.Fed.{Fed}
-use Rattle.runs.specs.Weights.{heaviestWeight, refusesWeights}
+use Rattle.runs.specs.Weights.{refusesWeights}
 use Rattle.meter.specs.Feed.{Scale, follows, oneService, showing, movedTo, isForeign, isStray, beginOf, resetOf, feedOf}
 use Rattle.meter.specs.Model.{Call, begin, feed, reset, Model, emptyModel, lastFrom, writes, fed, called, answerTo, modelAfter, modelAnswers, hasWord, lastOr0, weightSince}
 use Rattle.meter.specs.Calls.{meterAfter, meterAnswers, FollowsModel}

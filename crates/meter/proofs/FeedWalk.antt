@@ -50,7 +50,7 @@ use Rattle.common.proofs.c.FlatAnswer.Laws as N′
 use Rattle.meter.proofs.step.Fed as F
 use Rattle.meter.proofs.step.Fed.Laws as F′
 use Rattle.meter.proofs.step.feed_step as step
-use Rattle.meter.proofs.lent.lawendeb_feed_4 as f
+use Rattle.meter.proofs.c.lawendeb_feed_4 as f
 
 abbrev stayed : Stays (f.ended .signature .params) (f.ended .kept)
 stayed = (stay-none-slice (0 ∷ []) tt (plain (λ _. u32)) yes, (stay-none-slice (1 ∷ []) tt (plain (λ _. u8)) yes, (stay-ref (2 ∷ []) tt (plain (λ _. T.the-row)), (stay-none (λ _. usize) yes, tt))))

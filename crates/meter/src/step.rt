@@ -1,9 +1,8 @@
 // Begin, feed and reset by value: a meter goes in, a meter comes out.
 ghost use mathlib.Core.Path.{_≡_};
 ghost use Prim.Native.Nat.{_*_, _<_, _≤_};
-ghost use Rattle.common.specs.Limits.{mostWords};
+ghost use Rattle.common.specs.Limits.{mostWords, heaviestWeight};
 ghost use Rattle.runs.specs.Script.{scriptOf, lua54, graphOf};
-ghost use Rattle.runs.specs.Weights.{heaviestWeight};
 ghost use Rattle.meter.specs.Feed.{
   scaleOf,
   beginOf,
@@ -17,6 +16,7 @@ ghost use Rattle.meter.specs.Feed.{
   feedOf,
 };
 use common::c::FlatAnswer;
+use common::limits::HEAVIEST_WEIGHT;
 use common::limits::MOST_SERVICES;
 use common::limits::MOST_WORDS;
 use common::widths::larger;
@@ -34,9 +34,6 @@ const NO_STEP: u64 = common::numbers::NO_STEP as u64;
 const FOREIGN_METER: u64 = common::numbers::FOREIGN_METER as u64;
 
 const WEIGHTS_REFUSED: u64 = common::numbers::WEIGHTS_REFUSED as u64;
-
-// A meter's count is at most so much for each word up to the last (request C-17).
-const HEAVIEST: usize = 255;
 
 // Four numbers in the order of document 01 and the highest of request C-19, laid out as C lays them out.
 // A number for `begun`, not a bool: a bool of 2 from a C caller would have no meaning, while a number does:
@@ -115,7 +112,7 @@ fn is_foreign(n: usize, m: Meter) -> bool
     if count == 0 {
         return true;
     }
-    HEAVIEST * (last + 1) < count
+    HEAVIEST_WEIGHT * (last + 1) < count
 }
 
 // Number 10: no word that can follow.

@@ -2,7 +2,7 @@
 ghost use mathlib.Core.Path.{_≡_};
 ghost use Prim.Native.Nat.{_≤_};
 ghost use mathlib.Core.Bool.{cond};
-ghost use Rattle.rehearsal.specs.Running.{tallyAt, withTally, notedTally, noted, newTally};
+ghost use Rattle.rehearsal.specs.Running.{tallyAt, withTally, notedTally, notedTallies, newTally};
 use crate::machine::Tallies;
 use crate::machine::Tally;
 use common::widths::larger;
@@ -73,7 +73,7 @@ fn noted_tally(t: Tally, left: u32, ran: u32) -> Tally
 
 pub(crate) fn note(t: Tallies, script: usize, left: u32, ran: u32) -> Tallies
     requires { ⌜ (left ≤ tallyAt t script .ended) × (ran ≤ left) ⌝ }
-    ensures { λ r. ⌜ r ≡ noted t script left ran ⌝ }
+    ensures { λ r. ⌜ r ≡ notedTallies t script left ran ⌝ }
 {
     with_tally(t, script, noted_tally(tally_at(t, script), left, ran))
 }

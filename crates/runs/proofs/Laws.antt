@@ -4,9 +4,9 @@ use mathlib.Core.List.{List}
 use Prim.Native.Nat.{ℕ, _%_, _≤_}
 use native.Mathlib.Omega.{arith}
 use lib.ListN.{getD}
+use Rattle.common.specs.Limits.{heaviestWeight}
 use Rattle.fields.specs.declared.version.Version.the-variants.{Lua54, Lua53}
 use Rattle.runs.specs.Script.{Script, slotOf, scriptOf, Sound}
-use Rattle.runs.specs.Weights.{heaviestWeight}
 use Rattle.runs.specs.Run.{runOf}
 use Rattle.runs.specs.Demand.{Demand}
 use Rattle.runs.specs.Laws.{Enough, Laws}

@@ -6,7 +6,7 @@ use mathlib.Core.Logic.{_↔_}
 use mathlib.Core.Bool.{true, false}
 use mathlib.Core.List.{List}
 use lib.ListN.{length, getD}
-use Rattle.common.specs.Limits.{mostWords}
+use Rattle.common.specs.Limits.{mostWords, heaviestWeight}
 use Rattle.common.specs.Numbers.{«ACCEPTED»}
 use Rattle.graph.specs.Graph.{Lawful, weigh}
 use Rattle.fields.specs.declared.version.Version.{Version}
@@ -14,10 +14,10 @@ use Rattle.fields.specs.declared.version.Version.the-variants.{Lua54, Lua53}
 use Rattle.sweep.specs.Steps.{servesOf, unitWeight}
 use Rattle.runs.specs.Script.{Script, scriptOf, graphOf, weightOf, Sound}
 use Rattle.runs.specs.Run.{runOf, numberOf, longestOf}
-use Rattle.runs.specs.Weights.{weightCount, heaviestWeight, refusesWeights}
+use Rattle.runs.specs.Weights.{weightCount, refusesWeights}
 use Rattle.runs.specs.Counted.{ones, EarlierRun}
 use Rattle.runs.specs.Range.{refusesRange}
-use Rattle.runs.specs.Between.{Ends, TableRefused}
+use Rattle.runs.specs.Between.{RangeEnds, TableRefused}
 use Rattle.runs.specs.Demand.{Demand}
 use Rattle.runs.specs.Order.{Order, WeightsRefused, RangeOrder, RangeKept}
 use Rattle.runs.specs.Slices.{Slices}
@@ -77,7 +77,7 @@ pub record Laws : Type 0 where
   -- request C-18: every table between two gives a run between theirs, and both ends are reached
   pub ends :
       (ws : Script) → Sound ws → (low high : List ℕ) (marks lengths : ℕ) → refusesRange low high ≡ false
-      → Ends ws low high marks lengths
+      → RangeEnds ws low high marks lengths
   pub table-refused :
       (ws : Script) (low high : List ℕ) (marks lengths : ℕ) → TableRefused ws low high marks lengths
   -- "Checks run in this order", and what number 18 is
@@ -113,7 +113,7 @@ pub record Laws : Type 0 where
       → (p : ℕ) → 0 < weightOf (scriptOf version ws) weights p
   pub ends-of :
       (version : Version) (ws low high : List ℕ) (marks lengths : ℕ) → refusesRange low high ≡ false
-      → Ends (scriptOf version ws) low high marks lengths
+      → RangeEnds (scriptOf version ws) low high marks lengths
   pub table-refused-of :
       (version : Version) (ws low high : List ℕ) (marks lengths : ℕ)
       → TableRefused (scriptOf version ws) low high marks lengths

@@ -1,5 +1,5 @@
 // Layer 2, over steps: scripts of either version, and the longest run without a service.
-pub mod flat;
+pub mod c;
 pub mod inner;
 pub mod longest;
 pub mod range;

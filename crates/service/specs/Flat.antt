@@ -5,8 +5,8 @@ use Rattle.service.specs.declared.distance.Nearest.{Nearest}
 use Rattle.service.specs.declared.distance.Nearest.the-variants as Nearest
 use Rattle.service.specs.declared.crossing.Crossed.{Crossed}
 use Rattle.service.specs.declared.crossing.Crossed.the-variants as Crossed
-use Rattle.service.specs.declared.exported.FlatNearest.{FlatNearest}
-use Rattle.service.specs.declared.exported.FlatCrossed.{FlatCrossed}
+use Rattle.service.specs.declared.c.FlatNearest.{FlatNearest}
+use Rattle.service.specs.declared.c.FlatCrossed.{FlatCrossed}
 
 -- found is 1 where there is a fewest, so that none is told from any number
 abbrev pub flatNearest : Nearest → FlatNearest

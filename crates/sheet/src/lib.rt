@@ -7,9 +7,9 @@ mod reading;
 mod writing;
 
 pub use reading::Sheet;
-pub use reading::number;
-pub use reading::place;
 pub use reading::read;
+pub use reading::sheet_number;
+pub use reading::sheet_place;
 pub use writing::Cell;
 pub use writing::column;
 pub use writing::last_line;

@@ -16,7 +16,7 @@ pub fn buffer() -> [u8; 262144]
 }
 
 // Room for a line.
-pub fn page() -> [u8; LINE]
+pub fn line_page() -> [u8; LINE]
     ensures { λ r. ⌜ lineLength ≡ length r ⌝ }
 {
     [0; LINE]

@@ -10,10 +10,10 @@ ghost use lib.Bits.{bitAnd};
 ghost use lib.Dec.{eqb};
 ghost use lib.ListN.{length, getD, drop, replicate};
 ghost use Rattle.common.specs.Lowest.{lowest};
+ghost use Rattle.common.specs.Limits.{heaviestWeight};
 ghost use Rattle.graph.specs.Longest.{most};
 ghost use Rattle.sweep.specs.Steps.{servesOf};
 ghost use Rattle.sweep.specs.PassInvariants.{
-  heaviest,
   mostWeight,
   weightBy,
   FillAsks,
@@ -35,7 +35,7 @@ use common::widths::larger;
 // What a word weighs: a byte of the table, at the place that a mask leaves of the word.
 pub(crate) fn weigh(mask: u32, weights: &[u8], word: u32) -> u32
     requires { ⌜ mask < length (now weights) ⌝ }
-    ensures { λ r. ⌜ (r ≡ getD (now (weights .entry)) (bitAnd word mask) 0) × (r ≤ heaviest) ⌝ }
+    ensures { λ r. ⌜ (r ≡ getD (now (weights .entry)) (bitAnd word mask) 0) × (r ≤ heaviestWeight) ⌝ }
 {
     weights[(word & mask) as usize] as u32
 }
@@ -77,7 +77,7 @@ fn measure(
     above: u32,
     invalid: usize,
 ) -> Measured
-    requires { ⌜ Measuring mostWeight (now marks) (now lengths) p above × (weight ≤ heaviest) ⌝ }
+    requires { ⌜ Measuring mostWeight (now marks) (now lengths) p above × (weight ≤ heaviestWeight) ⌝ }
     ensures { λ r. ⌜ Measures (λ _. weight) (now (marks .entry)) (now (lengths .entry)) p invalid
         (r .length) (r .invalid) ⌝ }
     ensures { λ _. ⌜ SameBut p (now (lengths .entry)) (now (lengths .exit)) ⌝ }

@@ -13,7 +13,7 @@ use Rattle.fields.specs.Laws.{all}
 use Rattle.fields.proofs.Laws.{laws}
 use Rattle.touches.specs.Operands.{Operand, «R[A]», «R[A+1]», «R[A+2]», «R[A+3]», «R[A+1…A+B-1]», «R[A+1…A+B]», locationOf}
 use Rattle.touches.specs.Cases.{Edge, noEdge, «p+1», «p+2», «p+1-Bx», «p+1+sBx», Accesses}
-use Rattle.touches.specs.Table.{numberOf, operandFrom, edgeNumber, opcodesOf}
+use Rattle.touches.specs.Table.{operandNumber, operandFrom, edgeNumber, opcodesOf}
 use Rattle.steps.specs.Executions.{Access, Arm, goOf}
 use Rattle.touches.specs.Cells.{Cell, register, upToTop, names}
 use Rattle.fields.specs.declared.version.Version.{Version}
@@ -29,10 +29,10 @@ use Rattle.touches.proofs.Sorts.{bars, barred, one-kind, topsLast}
 -- Operands in lists
 
 abbrev isSame : Operand → Operand → Bool
-isSame x y = eqb (numberOf x) (numberOf y)
+isSame x y = eqb (operandNumber x) (operandNumber y)
 
 is-same : (x y : Operand) → T (isSame x y) → x ≡ y
-is-same x y t = sym (operand-back x) ∙ (ap operandFrom (eqb→eq (numberOf x) (numberOf y) t) ∙ operand-back y)
+is-same x y t = sym (operand-back x) ∙ (ap operandFrom (eqb→eq (operandNumber x) (operandNumber y) t) ∙ operand-back y)
 
 abbrev has : List Operand → Operand → Bool
 has xs x = some (isSame x) xs

@@ -131,8 +131,8 @@ pub record Exact (v : Version) (ws : List ℕ) (p : ℕ) : Type 0 where
   pub edge : 0 < touchesFor v ws p .«edge_writes» .count → isStep v ws p (touchesFor v ws p .edge) ≡ true
 
 -- register q is in a range up to the top, when that is t
-abbrev pub Below : Top → ℕ → ℕ → Type 0
-Below top t q = (top .count ≡ 1) × ((top .first ≤ q) × (q < t))
+abbrev pub BelowTop : Top → ℕ → ℕ → Type 0
+BelowTop top t q = (top .count ≡ 1) × ((top .first ≤ q) × (q < t))
 
 -- "a range up to the stack top is given apart, by its first register past those touched at every top"
 pub record Tops (v : Version) (ws : List ℕ) (p : ℕ) : Type 0 where
@@ -143,10 +143,10 @@ pub record Tops (v : Version) (ws : List ℕ) (p : ℕ) : Type 0 where
       → NamedWritten (touchesFor v ws p) (register q) ↔ ((t : ℕ) → TopAfter v ws p t → WrittenAt v ws p t q)
   -- with the range up to the top they are what is touched at a top
   pub reads : (t q : ℕ)
-      → (NamedRead (touchesFor v ws p) (register q) ⊎ Below (touchesFor v ws p .«reads_to_top») t q)
+      → (NamedRead (touchesFor v ws p) (register q) ⊎ BelowTop (touchesFor v ws p .«reads_to_top») t q)
       ↔ ReadsAt v ws p t q
   pub writes : (t q : ℕ)
-      → (NamedWritten (touchesFor v ws p) (register q) ⊎ Below (touchesFor v ws p .«writes_to_top») t q)
+      → (NamedWritten (touchesFor v ws p) (register q) ⊎ BelowTop (touchesFor v ws p .«writes_to_top») t q)
       ↔ WrittenAt v ws p t q
   -- and it starts past them
   pub «past-reads» : (q : ℕ) → NamedRead (touchesFor v ws p) (register q)

@@ -27,9 +27,9 @@ abbrev pub All : {X : Type 0} → (X → Type 0) → List X → Type 0
 All P [] = Unit {0}
 All P (x ∷ xs) = P x × All P xs
 
-abbrev pub readsOf : List Execution → List Access
-readsOf [] = []
-readsOf (run reads stores ∷ runs) = reads ++ readsOf runs
+abbrev pub executionReads : List Execution → List Access
+executionReads [] = []
+executionReads (run reads stores ∷ runs) = reads ++ executionReads runs
 
 abbrev pub storesOf : List Execution → List Access
 storesOf [] = []
@@ -37,7 +37,7 @@ storesOf (run reads stores ∷ runs) = stores ++ storesOf runs
 
 -- on a way, by some execution that takes it
 abbrev pub wayReads : {Go : Type 0} → Arm Go → List Access
-wayReads (arm go runs) = readsOf runs
+wayReads (arm go runs) = executionReads runs
 
 abbrev pub wayStores : {Go : Type 0} → Arm Go → List Access
 wayStores (arm go runs) = storesOf runs

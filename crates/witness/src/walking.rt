@@ -2,11 +2,12 @@
 // way from there. A walk for each version, so that none asks of a word which version it is of.
 ghost use mathlib.Core.Path.{_≡_};
 ghost use lib.ListN.{length};
+ghost use Rattle.sweep.specs.PassInvariants.{at};
 ghost use Rattle.fields.specs.declared.version.Version.the-variants.{Lua53};
 ghost use Rattle.sweep.specs.Steps.{listOf, servesOf, Below};
 ghost use Rattle.runs.specs.Script.{scriptOf, lua54};
 ghost use Rattle.witness.specs.Following.{onwards};
-ghost use Rattle.witness.specs.Walking.{at, Walks, Walked};
+ghost use Rattle.witness.specs.Walking.{Walks, Walked};
 use steps::successors::successors;
 use sweep::edges::Successors;
 use sweep::edges::serves;

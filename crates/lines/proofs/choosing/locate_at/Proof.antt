@@ -10,4 +10,4 @@ locate-at-spec =
     (λ c. place-too-long _ _ (c .if1 .taken))
     (λ c κs. search needs)
     (λ c κs. search needs)
-    (λ c. place-there _ _ _ _ (c .before .before .if1 .left) (c .before .function .ensures) (c .answer .ensures)))
+    (λ c. place-there _ _ _ _ (c .before .before .if1 .left) (c .before .function .ensures) (c .located-counts .ensures)))
