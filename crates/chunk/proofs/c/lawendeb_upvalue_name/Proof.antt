@@ -12,10 +12,10 @@ returns c =
       c .check2 .ensures,
       c .before .check .ensures,
       found-in .or-else2 .ensures,
-      found-in .before .lent-name2 .ensures,
+      found-in .before .upvalue-name2 .ensures,
       listed .or-else .ensures,
       listed .before .no-name .ensures,
-      listed .before .before .lent-name .ensures,
+      listed .before .before .upvalue-name .ensures,
     )
 
 pub lawendeb-upvalue-name-spec : {M : Type 1} → statement M
