@@ -8,7 +8,6 @@ mod usage;
 use asking::Asked;
 use asking::Wish;
 use asking::read_all;
-use index::Listed;
 use libc::STDERR_FILENO;
 use owner::Options;
 use pages::PageState;
@@ -20,27 +19,45 @@ use usage::put_unclear;
 use usage::put_usage;
 use usage::put_version;
 
+// What came of a script: all is told, or it is refused, by number and place.
+pub enum Outcome {
+    Told(PageState),
+    Refused(u64, u64),
+}
+
+// Tells of a script's bytes, unless they are refused.
+fn tell_listed(
+    bytes: &[u8],
+    file: &[u8],
+    o: Options,
+    weights: &[u8],
+    page: &mut [u8],
+    s: PageState,
+) -> Outcome {
+    let mut places = rooms::places();
+    let mut keys = rooms::places();
+    let listed = index::list_functions(bytes, &mut places, &mut keys);
+    if listed.number != 0 {
+        return Outcome::Refused(listed.number, listed.place);
+    }
+    let n = listed.functions as usize;
+    let t = owner::tell(bytes, file, o, weights, &places, &mut keys, n, page, s);
+    Outcome::Told(t)
+}
+
 // Tells why a script of n bytes in the room for them is refused.
 fn tell_refused(
     room: &mut [u8],
     n: usize,
     file: &[u8],
     o: Options,
-    listed: Listed,
+    number: u64,
+    place: u64,
     page: &mut [u8],
     s: PageState,
 ) -> PageState {
     let is_cut = index::ends_early(room, n);
-    owner::put_refused(
-        page,
-        s,
-        file,
-        o,
-        first(room, n),
-        listed.number,
-        listed.place,
-        is_cut,
-    )
+    owner::put_refused(page, s, file, o, first(room, n), number, place, is_cut)
 }
 
 // Tells of a script of n bytes in the room for them.
@@ -53,23 +70,15 @@ fn tell_bytes(
     page: &mut [u8],
     s: PageState,
 ) -> PageState {
-    let mut places = rooms::places();
-    let mut keys = rooms::places();
-    let listed = index::list_functions(first(room, n), &mut places, &mut keys);
-    if listed.number != 0 {
-        return tell_refused(room, n, file, o, listed, page, s);
+    let r = tell_listed(first(room, n), file, o, weights, page, s);
+    match r {
+        Outcome::Told(t) => {
+            return t;
+        }
+        Outcome::Refused(number, place) => {
+            return tell_refused(room, n, file, o, number, place, page, s);
+        }
     }
-    owner::tell(
-        first(room, n),
-        file,
-        o,
-        weights,
-        &places,
-        &mut keys,
-        listed.functions as usize,
-        page,
-        s,
-    )
 }
 
 // Tells of an open script.
