@@ -1,11 +1,21 @@
-/* Every function of include/lawendeb.h, called with cases of documents 01 and 02; a line and status
-   1 if an answer, or anything lent, is not what they say. It compiles as C and as C++. */
+/* Every function of include/lawendeb.h, called as C and as C++. The cases are those of the test
+   programs: each line of crates/NAME_cases/stdin is asked here, too, and what is printed is held to
+   the stdout that is stored beside it. Here stands what C alone can show, guards round all that is
+   lent, structs, the header's names and null, and what those files have no question for. It is run
+   in the repository's root: a line and status 1 if an answer, or anything lent, is not as it should
+   be. */
 #include <stdio.h>
+#include <stdlib.h>
 #include <string.h>
 
 #include "lawendeb.h"
 
-enum { N = LAWENDEB_RECORD_NUMBERS, MANY = LAWENDEB_MOST_WORDS + 1, ROOM = 12 };
+enum {
+    N = LAWENDEB_RECORD_NUMBERS,
+    W = LAWENDEB_WEIGHTS,
+    MANY = LAWENDEB_MOST_WORDS + 1,
+    ROOM = 12
+};
 
 static int checks, wrong;
 
@@ -18,1657 +28,8 @@ static void check(int holds, int line, const char *text) {
 }
 #define CHECK(holds) check(holds, __LINE__, #holds)
 
-/* Words by their fields. */
-static uint32_t word_abc(uint32_t op, uint32_t a, uint32_t b, uint32_t c) {
-    return op + 128 * a + 65536 * b + 16777216 * c;
-}
-static uint32_t word_abx(uint32_t op, uint32_t a, uint32_t bx) {
-    return op + 128 * a + 32768 * bx;
-}
-static uint32_t word_jump(int offset) {
-    return 56 + 128 * (uint32_t)(16777215 + offset);
-}
-
-enum { LOADK = 3, GETUPVAL = 9, RETURN0 = 71, TAILCALL = 69, FORLOOP = 73 };
-
-/* Document 01's sheet: LOADI, ADDI, MMBINI, a JMP back to the ADDI. */
-static const uint32_t sheet[4] = {2147483649u, 2147483669u, 109051951u, 2147483192u};
-
-/* The P cases' words. */
-static const uint32_t jump_back[1] = {2147483192u};
-static const uint32_t call[2] = {16940996u, RETURN0};
-static const uint32_t unknown[1] = {83};
-
-/* MOVE after MOVE. */
-static uint32_t many[MANY];
-
-/* ---- fields */
-
-/* Every field of these bits, by masks and shifts; the mode apart. */
-static int decoded(uint32_t word) {
-    struct lawendeb_fields f = lawendeb_decode(word);
-    return f.opcode == (word & 127) && f.a == (word >> 7 & 255) && f.k == (word >> 15 & 1) &&
-           f.b == (word >> 16 & 255) && f.c == word >> 24 && f.bx == word >> 15 &&
-           f.ax == word >> 7 && f.sb == (int32_t)f.b - 127 && f.sc == (int32_t)f.c - 127 &&
-           f.sbx == (int32_t)f.bx - 65535 && f.sj == (int32_t)f.ax - 16777215;
-}
-
-static void fields(void) {
-    const uint32_t modes[6][2] = {{83, LAWENDEB_MODE_NONE}, {0, LAWENDEB_MODE_ABC},
-                                  {LOADK, LAWENDEB_MODE_ABX}, {1, LAWENDEB_MODE_ASBX},
-                                  {82, LAWENDEB_MODE_AX}, {56, LAWENDEB_MODE_SJ}};
-    struct lawendeb_fields f = lawendeb_decode(sheet[0]);
-    uint32_t i;
-    CHECK(f.mode == LAWENDEB_MODE_ASBX && f.opcode == 1 && f.a == 0 && f.k == 0 && f.b == 0);
-    CHECK(f.c == 128 && f.bx == 65536 && f.ax == 16777216);
-    CHECK(f.sb == -127 && f.sc == 1 && f.sbx == 1 && f.sj == 1);
-    CHECK(decoded(0) && decoded(UINT32_MAX));
-    for (i = 0; i < 32; i++)
-        CHECK(decoded((uint32_t)1 << i) && decoded(~((uint32_t)1 << i)));
-    for (i = 0; i < 6; i++)
-        CHECK(lawendeb_decode(modes[i][0]).mode == modes[i][1]);
-}
-
-/* ---- steps */
-
-static int has(struct lawendeb_steps s, uint64_t kind, uint64_t first, uint64_t second) {
-    return s.kind == kind && s.first == first && s.second == second;
-}
-
-static void steps(void) {
-    const uint32_t tail[1] = {TAILCALL};
-    const uint32_t back[2] = {RETURN0, 163913};
-    const uint32_t prepare[3] = {74, RETURN0, RETURN0};
-    const uint32_t loop0[2] = {word_abx(FORLOOP, 0, 0), RETURN0};
-    const uint32_t loop1[2] = {word_abx(FORLOOP, 0, 1), RETURN0};
-    CHECK(has(lawendeb_successors(sheet, 4, 0), LAWENDEB_KIND_ONE, 1, 0));
-    CHECK(has(lawendeb_successors(sheet, 4, 1), LAWENDEB_KIND_TWO, 2, 3));
-    CHECK(has(lawendeb_successors(sheet, 4, 2), LAWENDEB_KIND_ONE, 3, 0));
-    CHECK(has(lawendeb_successors(sheet, 4, 3), LAWENDEB_KIND_ONE, 1, 0));
-    CHECK(has(lawendeb_successors(sheet, 4, 4), LAWENDEB_KIND_INVALID, 0, 0));
-    CHECK(has(lawendeb_successors(sheet, 4, SIZE_MAX), LAWENDEB_KIND_INVALID, 0, 0));
-    CHECK(has(lawendeb_successors(sheet, 0, 0), LAWENDEB_KIND_INVALID, 0, 0));
-    /* the ADDI's metamethod word is past the end */
-    CHECK(has(lawendeb_successors(sheet, 2, 1), LAWENDEB_KIND_INVALID, 0, 0));
-    CHECK(has(lawendeb_successors(jump_back, 1, 0), LAWENDEB_KIND_INVALID, 0, 0));
-    CHECK(has(lawendeb_successors(unknown, 1, 0), LAWENDEB_KIND_INVALID, 0, 0));
-    CHECK(has(lawendeb_successors(tail, 1, 0), LAWENDEB_KIND_STOP, 0, 0));
-    CHECK(has(lawendeb_successors(back, 2, 1), LAWENDEB_KIND_INVALID, 0, 0));
-    CHECK(has(lawendeb_successors(prepare, 3, 0), LAWENDEB_KIND_TWO, 1, 2));
-    CHECK(has(lawendeb_successors(loop0, 2, 0), LAWENDEB_KIND_ONE, 1, 0));
-    CHECK(has(lawendeb_successors(loop1, 2, 0), LAWENDEB_KIND_TWO, 0, 1));
-}
-
-/* ---- the longest run */
-
-static uint8_t marks[MANY];
-static uint32_t lengths[MANY];
-
-static void lend(void) {
-    memset(marks, 165, sizeof marks);
-    memset(lengths, 165, sizeof lengths);
-}
-
-/* Whether the slices are as lent from an index on. */
-static int lent_from(size_t i) {
-    for (; i < MANY; i++)
-        if (marks[i] != 165 || lengths[i] != 2779096485u)
-            return 0;
-    return 1;
-}
-
-static int ran(struct lawendeb_run r, uint64_t number, uint64_t place, uint64_t longest,
-               uint64_t first) {
-    return r.number == number && r.place == place && r.longest == longest && r.first == first;
-}
-
-static int answered(struct lawendeb_answer a, uint64_t number, uint64_t place) {
-    return a.number == number && a.place == place;
-}
-
-/* Weights of 1, and others: LOADI 10, ADDI 20, MMBINI 30, JMP 40, the unknown 83 50, the rest 255;
-   with a place more, to lend one too many. */
-static uint8_t ones[LAWENDEB_WEIGHTS], others[LAWENDEB_WEIGHTS + 1];
-
-static void weigh(void) {
-    memset(ones, 1, sizeof ones);
-    memset(others, 255, sizeof others);
-    others[1] = 10, others[21] = 20, others[47] = 30, others[56] = 40, others[83] = 50;
-}
-
-/* A run with so many of these weights, and slices of these lengths. */
-static struct lawendeb_run run_by(const uint8_t *weights, size_t weights_n, const uint32_t *words,
-                                  size_t n, size_t marks_n, size_t lengths_n) {
-    return lawendeb_longest_run(words, n, weights, weights_n, marks, marks_n, lengths, lengths_n);
-}
-
-static struct lawendeb_run run(const uint32_t *words, size_t n, size_t marks_n, size_t lengths_n) {
-    return run_by(ones, LAWENDEB_WEIGHTS, words, n, marks_n, lengths_n);
-}
-
-static void runs(void) {
-    const uint32_t skips[3] = {word_jump(1), 0, RETURN0};
-    const uint32_t two_bad[4] = {57, word_jump(1), 83, 83};
-    size_t i;
-    lend();
-    CHECK(ran(run(sheet, 4, 6, 5), LAWENDEB_ACCEPTED, 0, 4, 0));
-    for (i = 0; i < 4; i++)
-        CHECK(marks[i] == 1 && lengths[i] == 4 - i);
-    CHECK(lent_from(4));
-
-    lend();
-    CHECK(ran(run(skips, 3, 3, 3), LAWENDEB_ACCEPTED, 0, 2, 0));
-    CHECK(marks[0] == 1 && marks[1] == 0 && marks[2] == 1);
-    CHECK(lengths[0] == 2 && lengths[1] == 0 && lengths[2] == 1);
-    CHECK(lent_from(3));
-
-    lend();
-    many[LAWENDEB_MOST_WORDS - 1] = word_jump(-LAWENDEB_MOST_WORDS);
-    CHECK(ran(run(many, LAWENDEB_MOST_WORDS, MANY, MANY), LAWENDEB_ACCEPTED, 0,
-              LAWENDEB_MOST_WORDS, 0));
-    CHECK(lengths[0] == LAWENDEB_MOST_WORDS && lengths[LAWENDEB_MOST_WORDS - 1] == 1);
-    CHECK(lent_from(LAWENDEB_MOST_WORDS));
-    many[LAWENDEB_MOST_WORDS - 1] = 0;
-
-    lend();
-    CHECK(ran(run(many, MANY, 0, 0), LAWENDEB_TOO_MANY_WORDS, 0, 0, 0));
-    CHECK(ran(run(sheet, 4, 3, 4), LAWENDEB_SHORT_SLICE, 0, 0, 0));
-    CHECK(ran(run(sheet, 4, 4, 3), LAWENDEB_SHORT_SLICE, 0, 0, 0));
-    CHECK(ran(run(sheet, 0, 4, 4), LAWENDEB_NO_WORDS, 0, 0, 0));
-    CHECK(lent_from(0));
-
-    CHECK(ran(run(unknown, 1, 2, 2), LAWENDEB_REACHES_INVALID, 0, 0, 0));
-    CHECK(marks[0] == 1 && lengths[0] == 0 && lent_from(1));
-    CHECK(ran(run(two_bad, 4, 4, 4), LAWENDEB_REACHES_INVALID, 2, 0, 0));
-    for (i = 0; i < 4; i++)
-        CHECK(marks[i] == 1 && lengths[i] == 0);
-    CHECK(lent_from(4));
-}
-
-/* Runs by other weights than 1, and weights that are refused. */
-static void weighed_runs(void) {
-    const uint32_t sums[4] = {100, 90, 70, 40};
-    size_t i;
-    lend();
-    CHECK(ran(run_by(others, LAWENDEB_WEIGHTS, sheet, 4, 4, 4), LAWENDEB_ACCEPTED, 0, 100, 0));
-    for (i = 0; i < 4; i++)
-        CHECK(marks[i] == 1 && lengths[i] == sums[i]);
-    CHECK(lent_from(4));
-
-    lend();
-    many[LAWENDEB_MOST_WORDS - 1] = RETURN0;
-    CHECK(ran(run_by(others, LAWENDEB_WEIGHTS, many, LAWENDEB_MOST_WORDS, MANY, MANY),
-              LAWENDEB_ACCEPTED, 0, 255 * LAWENDEB_MOST_WORDS, 0));
-    CHECK(lengths[0] == 255 * LAWENDEB_MOST_WORDS && lent_from(LAWENDEB_MOST_WORDS));
-    many[LAWENDEB_MOST_WORDS - 1] = 0;
-
-    lend();
-    for (i = 0; i <= LAWENDEB_WEIGHTS + 1; i++)
-        if (i != LAWENDEB_WEIGHTS)
-            CHECK(ran(run_by(others, i, sheet, 4, 4, 4), LAWENDEB_WEIGHTS_REFUSED, 0, 0, 0));
-    others[82] = others[127] = 0;
-    CHECK(ran(run_by(others, LAWENDEB_WEIGHTS, sheet, 4, 4, 4), LAWENDEB_WEIGHTS_REFUSED, 82, 0,
-              0));
-    CHECK(ran(run_by(others, LAWENDEB_WEIGHTS + 1, sheet, 4, 4, 4), LAWENDEB_WEIGHTS_REFUSED, 0, 0,
-              0));
-    /* 1 and 6 before 18, 18 before 7 and 8 */
-    CHECK(ran(run_by(others, LAWENDEB_WEIGHTS, many, MANY, 4, 4), LAWENDEB_TOO_MANY_WORDS, 0, 0,
-              0));
-    CHECK(ran(run_by(others, LAWENDEB_WEIGHTS, sheet, 4, 3, 4), LAWENDEB_SHORT_SLICE, 0, 0, 0));
-    CHECK(ran(run_by(others, LAWENDEB_WEIGHTS, sheet, 0, 4, 4), LAWENDEB_WEIGHTS_REFUSED, 82, 0,
-              0));
-    CHECK(ran(run_by(others, LAWENDEB_WEIGHTS, unknown, 1, 4, 4), LAWENDEB_WEIGHTS_REFUSED, 82, 0,
-              0));
-    CHECK(lent_from(0));
-    others[82] = others[127] = 255;
-}
-
-/* Both runs, with so many weights of each table, and slices of 4 elements. */
-static struct lawendeb_run_range runs_by(const uint8_t *low, size_t low_n, const uint8_t *high,
-                                         size_t high_n, const uint32_t *words, size_t n) {
-    return lawendeb_longest_runs(words, n, low, low_n, high, high_n, marks, 4, lengths, 4);
-}
-
-static int ran_both(struct lawendeb_run_range r, uint64_t low_longest, uint64_t low_first,
-                    uint64_t high_longest, uint64_t high_first) {
-    return r.number == LAWENDEB_ACCEPTED && r.place == 0 && r.low_longest == low_longest &&
-           r.low_first == low_first && r.high_longest == high_longest && r.high_first == high_first;
-}
-
-static int refused_both(struct lawendeb_run_range r, uint64_t number, uint64_t place) {
-    return r.number == number && r.place == place && r.low_longest == 0 && r.low_first == 0 &&
-           r.high_longest == 0 && r.high_first == 0;
-}
-
-/* Runs by a low and by a high table: request C-18. */
-static void ranges(void) {
-    enum { W = LAWENDEB_WEIGHTS };
-    const uint32_t sums[4] = {100, 90, 70, 40};
-    /* a jump to a jump back to word 1, a MOVE and a return */
-    const uint32_t elsewhere[4] = {word_jump(2), 0, RETURN0, word_jump(-3)};
-    uint8_t low[W], high[W];
-    size_t i;
-    lend();
-    CHECK(ran_both(runs_by(ones, W, others, W, sheet, 4), 4, 0, 100, 0));
-    for (i = 0; i < 4; i++)
-        CHECK(marks[i] == 1 && lengths[i] == sums[i]);
-    CHECK(lent_from(4));
-    CHECK(ran_both(runs_by(others, W, others, W, sheet, 4), 100, 0, 100, 0));
-    memset(low, 1, W), memset(high, 3, W);
-    low[56] = 3, high[0] = 8;
-    CHECK(ran_both(runs_by(low, W, high, W, elsewhere, 4), 6, 0, 11, 1));
-
-    lend();
-    for (i = 0; i < W; i++) {
-        high[i] = 0;
-        CHECK(refused_both(runs_by(ones, W, high, W, sheet, 4), LAWENDEB_WEIGHTS_REFUSED, i));
-        high[i] = 1, low[i] = 4;
-        CHECK(refused_both(runs_by(low, W, high, W, sheet, 4), LAWENDEB_LOW_ABOVE_HIGH, i));
-        high[i] = 4;
-    }
-    /* 1 and 6 before 18, 18 of the low table before that of the high one, both before 19 */
-    high[3] = 1, high[9] = 0;
-    CHECK(refused_both(runs_by(low, W - 1, high, W, many, MANY), LAWENDEB_TOO_MANY_WORDS, 0));
-    CHECK(refused_both(runs_by(low, W - 1, high, W, many, 5), LAWENDEB_SHORT_SLICE, 0));
-    CHECK(refused_both(runs_by(low, W - 1, high, W, sheet, 4), LAWENDEB_WEIGHTS_REFUSED, 0));
-    CHECK(refused_both(runs_by(low, W, high, W, sheet, 4), LAWENDEB_WEIGHTS_REFUSED, 9));
-    CHECK(refused_both(runs_by(low, W, high, W - 1, sheet, 4), LAWENDEB_WEIGHTS_REFUSED, 0));
-    /* 19 before 7 and 8 */
-    high[9] = 4;
-    CHECK(refused_both(runs_by(low, W, high, W, sheet, 4), LAWENDEB_LOW_ABOVE_HIGH, 3));
-    CHECK(refused_both(runs_by(low, W, high, W, sheet, 0), LAWENDEB_LOW_ABOVE_HIGH, 3));
-    CHECK(refused_both(runs_by(low, W, high, W, unknown, 1), LAWENDEB_LOW_ABOVE_HIGH, 3));
-    CHECK(refused_both(runs_by(ones, W, others, W, sheet, 0), LAWENDEB_NO_WORDS, 0));
-    CHECK(lent_from(0));
-    CHECK(refused_both(runs_by(ones, W, others, W, unknown, 1), LAWENDEB_REACHES_INVALID, 0));
-    CHECK(marks[0] == 1 && lengths[0] == 0 && lent_from(1));
-}
-
-/* ---- nearest service and crossing steps */
-
-static uint8_t list[MANY];
-
-static int nearest_is(struct lawendeb_nearest a, uint64_t number, uint64_t place, uint64_t found,
-                      uint64_t fewest) {
-    return a.number == number && a.place == place && a.found == found && a.fewest == fewest;
-}
-
-static int crossed_is(struct lawendeb_crossed a, uint64_t number, uint64_t place, uint64_t count) {
-    return a.number == number && a.place == place && a.count == count;
-}
-
-static struct lawendeb_nearest nearest(const uint32_t *words, size_t n, size_t w) {
-    return lawendeb_distance_to_service(words, n, w, marks, n, lengths, n);
-}
-
-static struct lawendeb_crossed crossed(const uint32_t *words, size_t n, size_t w) {
-    return lawendeb_crossing_edges(words, n, w, marks, n, lengths, n);
-}
-
-/* The list of the first four words within d, lent anew, as a number of four bits, the first highest;
-   99 if it is not of 0s and 1s with its rest as lent. */
-static unsigned listed(const uint32_t *words, size_t n, size_t d) {
-    unsigned bits = 0;
-    size_t i;
-    memset(list, 165, sizeof list);
-    if (!answered(lawendeb_list_within(words, n, d, marks, n, lengths, n, list, n + 1), 0, 0))
-        return 99;
-    for (i = 0; i < 4; i++) {
-        if (i < n ? list[i] > 1 : list[i] != 165)
-            return 99;
-        bits = 2 * bits + (i < n ? list[i] : 0);
-    }
-    return list[n] == 165 ? bits : 99;
-}
-
-static void services(void) {
-    const uint32_t skips[4] = {word_jump(1), 83, 0, RETURN0};
-    const uint64_t fewest[4] = {3, 2, 2, 1};
-    size_t i;
-    lend();
-    for (i = 0; i < 4; i++)
-        CHECK(nearest_is(nearest(sheet, 4, i), LAWENDEB_ACCEPTED, 0, 1, fewest[i]));
-    CHECK(nearest_is(nearest(sheet, 4, 4), LAWENDEB_ACCEPTED, 0, 0, 0));
-    CHECK(nearest_is(nearest(sheet, 4, SIZE_MAX), LAWENDEB_ACCEPTED, 0, 0, 0));
-    CHECK(crossed_is(crossed(sheet, 4, 2), LAWENDEB_ACCEPTED, 0, 2));
-    CHECK(crossed_is(crossed(sheet, 4, 1), LAWENDEB_ACCEPTED, 0, 0));
-    CHECK(crossed_is(crossed(sheet, 4, 4), LAWENDEB_ACCEPTED, 0, 0));
-    CHECK(listed(sheet, 4, 0) == 0 && listed(sheet, 4, 1) == 1 && listed(sheet, 4, 2) == 7);
-    CHECK(listed(sheet, 4, 3) == 15 && listed(sheet, 4, SIZE_MAX) == 15);
-    /* the slices are the run's */
-    for (i = 0; i < 4; i++)
-        CHECK(marks[i] == 1 && lengths[i] == 4 - i);
-    CHECK(lent_from(4));
-
-    /* an unreachable word has none, and steps over it count */
-    CHECK(nearest_is(nearest(skips, 4, 0), LAWENDEB_ACCEPTED, 0, 1, 3));
-    CHECK(nearest_is(nearest(skips, 4, 1), LAWENDEB_ACCEPTED, 0, 0, 0));
-    CHECK(crossed_is(crossed(skips, 4, 1), LAWENDEB_ACCEPTED, 0, 1));
-    CHECK(listed(skips, 4, SIZE_MAX) == 11);
-    CHECK(marks[1] == 0 && lengths[0] == 3 && lengths[1] == 0 && lent_from(4));
-
-    /* refusals: 1, 6, 7, 8 in this order, the list under 6 */
-    lend();
-    memset(list, 165, sizeof list);
-    CHECK(nearest_is(lawendeb_distance_to_service(many, MANY, 0, marks, 0, lengths, 0),
-                     LAWENDEB_TOO_MANY_WORDS, 0, 0, 0));
-    CHECK(crossed_is(lawendeb_crossing_edges(sheet, 4, 0, marks, 3, lengths, 4),
-                     LAWENDEB_SHORT_SLICE, 0, 0));
-    CHECK(crossed_is(crossed(sheet, 0, 0), LAWENDEB_NO_WORDS, 0, 0));
-    CHECK(answered(lawendeb_list_within(many, MANY, 1, marks, 0, lengths, 0, list, 0),
-                   LAWENDEB_TOO_MANY_WORDS, 0));
-    CHECK(answered(lawendeb_list_within(unknown, 1, 1, marks, 1, lengths, 1, list, 0),
-                   LAWENDEB_SHORT_SLICE, 0));
-    CHECK(lent_from(0) && list[0] == 165);
-    CHECK(answered(lawendeb_list_within(unknown, 1, 1, marks, 1, lengths, 1, list, 1),
-                   LAWENDEB_REACHES_INVALID, 0));
-    CHECK(marks[0] == 1 && lengths[0] == 0 && lent_from(1) && list[0] == 165);
-    lend();
-    CHECK(nearest_is(nearest(unknown, 1, 0), LAWENDEB_REACHES_INVALID, 0, 0, 0));
-    CHECK(marks[0] == 1 && lengths[0] == 0 && lent_from(1));
-}
-
-/* ---- the meter */
-
-static int shows(struct lawendeb_meter m, uint32_t begun, uint32_t last, uint32_t count,
-                 uint32_t services) {
-    return m.begun == begun && m.last == last && m.count == count && m.services == services;
-}
-
-/* A feed by weights of 1, or by these, that is accepted. */
-static int feeds_by(const uint8_t *weights, struct lawendeb_meter *m, const uint32_t *words,
-                    size_t n, size_t q) {
-    return answered(lawendeb_feed(words, n, weights, LAWENDEB_WEIGHTS, m, q), LAWENDEB_ACCEPTED, 0);
-}
-
-static int feeds(struct lawendeb_meter *m, const uint32_t *words, size_t n, size_t q) {
-    return feeds_by(ones, m, words, n, q);
-}
-
-/* A feed of any meter: the answer, and the meter as it was. */
-static int refuses_by(const uint8_t *weights, size_t weights_n, struct lawendeb_meter m,
-                      const uint32_t *words, size_t n, size_t q, uint64_t number, uint64_t place) {
-    struct lawendeb_meter before = m;
-    return answered(lawendeb_feed(words, n, weights, weights_n, &m, q), number, place) &&
-           memcmp(&m, &before, sizeof m) == 0;
-}
-
-static int refuses(struct lawendeb_meter m, const uint32_t *words, size_t n, size_t q,
-                   uint64_t number) {
-    return refuses_by(ones, LAWENDEB_WEIGHTS, m, words, n, q, number, 0);
-}
-
-static struct lawendeb_meter meter_of(uint32_t begun, uint32_t last, uint32_t count,
-                                      uint32_t services, uint32_t highest) {
-    struct lawendeb_meter m = {begun, last, count, services, highest};
-    return m;
-}
-
-/* As a reset leaves it. */
-static struct lawendeb_meter meter(uint32_t begun, uint32_t last, uint32_t count,
-                                   uint32_t services) {
-    return meter_of(begun, last, count, services, count);
-}
-
-static void meters(void) {
-    struct lawendeb_meter m = meter(7, 7, 7, 40);
-    lawendeb_begin(&m);
-    CHECK(shows(m, 0, 0, 0, 40));
-    CHECK(refuses(m, sheet, 4, 1, LAWENDEB_NO_STEP));
-    CHECK(feeds(&m, sheet, 4, 0) && shows(m, 1, 0, 1, 40));
-    CHECK(feeds(&m, sheet, 4, 1) && shows(m, 1, 1, 2, 40));
-    CHECK(refuses(m, sheet, 4, 1, LAWENDEB_NO_STEP));
-    CHECK(refuses(m, sheet, 4, 4, LAWENDEB_NO_STEP));
-    CHECK(refuses(m, sheet, 4, SIZE_MAX, LAWENDEB_NO_STEP));
-    CHECK(feeds(&m, sheet, 4, 3) && shows(m, 1, 3, 3, 40));
-    CHECK(feeds(&m, sheet, 4, 1) && shows(m, 1, 1, 1, 41));
-    lawendeb_begin(&m);
-    CHECK(shows(m, 0, 0, 0, 41));
-    /* the first word, bad or not; nothing follows a bad one */
-    CHECK(feeds(&m, unknown, 1, 0) && shows(m, 1, 0, 1, 41));
-    CHECK(refuses(m, unknown, 1, 0, LAWENDEB_NO_STEP));
-    /* a call does not serve; services stay at their ceiling; any begun but 0 is begun */
-    m = meter(1, 0, 1, 4294967294u);
-    CHECK(feeds(&m, call, 2, 1) && shows(m, 1, 1, 2, 4294967294u));
-    m = meter(1, 3, 4, 4294967294u);
-    CHECK(feeds(&m, sheet, 4, 1) && shows(m, 1, 1, 1, 4294967295u));
-    m = meter(2, 3, 1, 4294967295u);
-    CHECK(feeds(&m, sheet, 4, 1) && shows(m, 1, 1, 1, 4294967295u));
-
-    CHECK(refuses(meter(0, 0, 0, 5), sheet, 0, 0, LAWENDEB_NO_STEP));
-    CHECK(refuses(meter(1, 4, 1, 5), sheet, 4, 1, LAWENDEB_FOREIGN_METER));
-    CHECK(refuses(meter(1, 3, 0, 5), sheet, 4, 1, LAWENDEB_FOREIGN_METER));
-    CHECK(refuses(meter(1, 3, 255 * 4 + 1, 5), sheet, 4, 1, LAWENDEB_FOREIGN_METER));
-    CHECK(refuses(meter(0, 1, 0, 5), sheet, 4, 0, LAWENDEB_FOREIGN_METER));
-    CHECK(refuses(meter(0, 0, 1, 5), sheet, 4, 0, LAWENDEB_FOREIGN_METER));
-    /* 11 before 10, 1 before both */
-    CHECK(refuses(meter(1, 3, 255 * 4 + 1, 5), sheet, 4, 9, LAWENDEB_FOREIGN_METER));
-    CHECK(refuses(meter(1, 3, 255 * 4, 5), sheet, 4, 9, LAWENDEB_NO_STEP));
-    CHECK(refuses(meter(1, 3, 0, 5), many, MANY, 9, LAWENDEB_TOO_MANY_WORDS));
-    m = meter(1, LAWENDEB_MOST_WORDS - 2, LAWENDEB_MOST_WORDS - 1, 5);
-    CHECK(refuses(m, many, LAWENDEB_MOST_WORDS, LAWENDEB_MOST_WORDS - 2, LAWENDEB_NO_STEP));
-    CHECK(feeds(&m, many, LAWENDEB_MOST_WORDS, LAWENDEB_MOST_WORDS - 1) &&
-          shows(m, 1, LAWENDEB_MOST_WORDS - 1, LAWENDEB_MOST_WORDS, 5));
-}
-
-/* Feeds by other weights than 1, by changing ones, and weights that are refused. */
-static void weighed_meters(void) {
-    struct lawendeb_meter m = meter(0, 0, 0, 40);
-    size_t i;
-    CHECK(feeds_by(others, &m, sheet, 4, 0) && shows(m, 1, 0, 10, 40));
-    CHECK(feeds_by(others, &m, sheet, 4, 1) && shows(m, 1, 1, 30, 40));
-    CHECK(feeds_by(others, &m, sheet, 4, 2) && shows(m, 1, 2, 60, 40));
-    CHECK(feeds_by(others, &m, sheet, 4, 3) && shows(m, 1, 3, 100, 40));
-    CHECK(feeds_by(others, &m, sheet, 4, 1) && shows(m, 1, 1, 20, 41));
-    CHECK(feeds(&m, sheet, 4, 2) && shows(m, 1, 2, 21, 41));
-    CHECK(feeds_by(others, &m, sheet, 4, 3) && shows(m, 1, 3, 61, 41));
-    CHECK(feeds(&m, sheet, 4, 1) && shows(m, 1, 1, 1, 42));
-    lawendeb_begin(&m);
-    CHECK(feeds_by(others, &m, unknown, 1, 0) && shows(m, 1, 0, 50, 42));
-    m = meter(1, LAWENDEB_MOST_WORDS - 2, 255 * (LAWENDEB_MOST_WORDS - 1), 5);
-    CHECK(feeds_by(others, &m, many, LAWENDEB_MOST_WORDS, LAWENDEB_MOST_WORDS - 1) &&
-          shows(m, 1, LAWENDEB_MOST_WORDS - 1, 255 * LAWENDEB_MOST_WORDS, 5));
-
-    m = meter(1, 1, 2, 5);
-    for (i = 0; i <= LAWENDEB_WEIGHTS + 1; i++)
-        if (i != LAWENDEB_WEIGHTS)
-            CHECK(refuses_by(others, i, m, sheet, 4, 3, LAWENDEB_WEIGHTS_REFUSED, 0));
-    for (i = 0; i < LAWENDEB_WEIGHTS; i++) {
-        ones[i] = 0;
-        CHECK(refuses_by(ones, LAWENDEB_WEIGHTS, m, sheet, 4, 3, LAWENDEB_WEIGHTS_REFUSED, i));
-        ones[i] = 1;
-    }
-    /* 1 before 18, 18 before 11 and 10 */
-    CHECK(refuses_by(ones, 0, m, many, MANY, 3, LAWENDEB_TOO_MANY_WORDS, 0));
-    CHECK(refuses_by(ones, 127, meter(1, 3, 0, 5), sheet, 4, 1, LAWENDEB_WEIGHTS_REFUSED, 0));
-    CHECK(refuses_by(ones, 127, m, sheet, 4, 0, LAWENDEB_WEIGHTS_REFUSED, 0));
-}
-
-/* A reset of this meter sets its highest to its count, and nothing else. */
-static int resets(struct lawendeb_meter m) {
-    struct lawendeb_meter before = m;
-    lawendeb_reset(&m);
-    return shows(m, before.begun, before.last, before.count, before.services) &&
-           m.highest == before.count;
-}
-
-/* The highest: raised by feeds, kept by begins and refused feeds, set by resets, below the count. */
-static void worst(void) {
-    struct lawendeb_meter m = meter_of(7, 7, 7, 40, 7777);
-    lawendeb_begin(&m);
-    CHECK(shows(m, 0, 0, 0, 40) && m.highest == 7777);
-    CHECK(feeds(&m, sheet, 4, 0) && shows(m, 1, 0, 1, 40) && m.highest == 7777);
-    lawendeb_begin(&m);
-    lawendeb_reset(&m);
-    CHECK(shows(m, 0, 0, 0, 40) && m.highest == 0);
-    CHECK(feeds_by(others, &m, sheet, 4, 0) && m.highest == 10);
-    CHECK(feeds_by(others, &m, sheet, 4, 1) && m.highest == 30);
-    CHECK(feeds_by(others, &m, sheet, 4, 3) && m.count == 70 && m.highest == 70);
-    CHECK(feeds_by(others, &m, sheet, 4, 1) && m.count == 20 && m.highest == 70);
-    CHECK(refuses(m, sheet, 4, 1, LAWENDEB_NO_STEP));
-    lawendeb_reset(&m);
-    CHECK(shows(m, 1, 1, 20, 41) && m.highest == 20);
-    CHECK(feeds(&m, sheet, 4, 2) && m.highest == 21);
-    lawendeb_begin(&m);
-    CHECK(shows(m, 0, 0, 0, 41) && m.highest == 21);
-    CHECK(feeds(&m, sheet, 4, 0) && m.count == 1 && m.highest == 21);
-    /* any meter whatsoever */
-    CHECK(resets(meter_of(0, 0, 0, 5, UINT32_MAX)));
-    CHECK(resets(meter_of(0, 9, UINT32_MAX, 5, 3)));
-    CHECK(resets(meter_of(UINT32_MAX, UINT32_MAX, UINT32_MAX - 1, UINT32_MAX, UINT32_MAX)));
-    /* 11, after 1 and 18, before 10, begun or not; at the count it passes */
-    CHECK(refuses(meter_of(1, 1, 2, 5, 1), sheet, 4, 3, LAWENDEB_FOREIGN_METER));
-    CHECK(refuses(meter_of(1, 1, 2, 5, 1), sheet, 4, 9, LAWENDEB_FOREIGN_METER));
-    CHECK(refuses(meter_of(0, 0, 2, 5, 1), sheet, 4, 0, LAWENDEB_FOREIGN_METER));
-    CHECK(refuses(meter_of(1, 1, 2, 5, 1), many, MANY, 2, LAWENDEB_TOO_MANY_WORDS));
-    m = meter_of(1, 1, 2, 5, 1);
-    CHECK(refuses_by(ones, 127, m, sheet, 4, 3, LAWENDEB_WEIGHTS_REFUSED, 0));
-    m.highest = 2;
-    CHECK(feeds(&m, sheet, 4, 3) && shows(m, 1, 3, 3, 5) && m.highest == 3);
-}
-
-/* ---- records */
-
-static uint64_t numbers[ROOM * N];
-
-static uint64_t lent_number(size_t i) {
-    return 12345678901234567890u + i;
-}
-
-static int numbers_from(size_t i) {
-    for (; i < ROOM * N; i++)
-        if (numbers[i] != lent_number(i))
-            return 0;
-    return 1;
-}
-
-struct tables {
-    const uint8_t *tags;
-    size_t tags_n;
-    const uint64_t *payloads;
-    size_t payloads_n;
-    const uint64_t *names;
-    size_t names_n;
-    const uint8_t *bytes;
-    size_t bytes_n;
-};
-
-/* Lifts into so many numbers, which are lent anew; the answer. */
-static struct lawendeb_answer lift(const uint32_t *words, size_t n, const struct tables *t,
-                                   size_t room) {
-    size_t i;
-    for (i = 0; i < ROOM * N; i++)
-        numbers[i] = lent_number(i);
-    return lawendeb_lift(words, n, t->tags, t->tags_n, t->payloads, t->payloads_n, t->names,
-                         t->names_n, t->bytes, t->bytes_n, numbers, room);
-}
-
-/* Refused, with every number as it was lent. */
-static int lift_refuses(const uint32_t *words, size_t n, const struct tables *t, size_t room,
-                        uint64_t number, uint64_t place) {
-    return answered(lift(words, n, t, room), number, place) && numbers_from(0);
-}
-
-/* A kind and its three numbers, from an index of record i on. */
-static int part(size_t i, size_t at, uint64_t kind, uint64_t x, uint64_t y, uint64_t z) {
-    const uint64_t *p = numbers + i * N + at;
-    return p[0] == kind && p[1] == x && p[2] == y && p[3] == z;
-}
-
-static uint64_t number(size_t i, size_t at) {
-    return numbers[i * N + at];
-}
-
-enum { PC = LAWENDEB_RECORD_PC, SURE = LAWENDEB_RECORD_CONFIDENCE, TARGET = LAWENDEB_RECORD_JUMP };
-enum { COMPANION = LAWENDEB_RECORD_COMPANION, FALLBACK = LAWENDEB_RECORD_FALLBACK };
-enum { EFFECT = LAWENDEB_RECORD_EFFECT, SECOND = LAWENDEB_RECORD_OPERAND(1) };
-enum { READS = LAWENDEB_RECORD_READS, WRITES = LAWENDEB_RECORD_WRITES };
-
-static const struct tables empty = {NULL, 0, NULL, 0, NULL, 0, NULL, 0};
-
-/* The P cases on records. */
-static void records(void) {
-    const uint64_t loadi[N] = {0, 2147483649u, 1, 1, 0, 0, 0, 0, 0, 0, 0, 0, 0, 0,
-                               2, 0, 0, 0, 0, 4, 1, 0, 0, 0, 0, 0, 0, 0, 0, 0, 0,
-                               0, 0, 0, 0, 0, 0, 0, 0, 0, 0, 0, 0, 0,
-                               1, 0, 0, 0, 0, 0, 0, 0, 0};
-    const uint64_t blank[N] = {0, 83, 83};
-    const uint32_t two[2] = {82, 163913};
-    const uint32_t loadkx[1] = {4}, mmbin[1] = {46};
-    const uint32_t prepare[3] = {74, 0, 0};
-    CHECK(answered(lift(sheet, 4, &empty, 4 * N + 52), LAWENDEB_ACCEPTED, 0));
-    CHECK(memcmp(numbers, loadi, sizeof loadi) == 0);
-    CHECK(number(3, PC) == 3 && number(3, TARGET) == 1 && number(3, TARGET + 1) == 1);
-    CHECK(numbers_from(4 * N));
-    CHECK(answered(lift(jump_back, 1, &empty, N), LAWENDEB_ACCEPTED, 0));
-    CHECK(number(0, TARGET) == 1 && number(0, TARGET + 1) == 18446744073709551614u);
-    CHECK(answered(lift(call, 2, &empty, 2 * N), LAWENDEB_ACCEPTED, 0));
-    CHECK(number(0, READS) == 2 && number(0, WRITES) == 0);
-    CHECK(part(0, LAWENDEB_RECORD_READ(0), LAWENDEB_TARGET_REGISTER, 255, 0, 0));
-    CHECK(part(0, LAWENDEB_RECORD_READ(1), LAWENDEB_TARGET_REGISTER_RANGE, 255, 254, 0));
-    CHECK(answered(lift(loadkx, 1, &empty, N), LAWENDEB_ACCEPTED, 0));
-    CHECK(number(0, COMPANION) == 1 && number(0, COMPANION + 1) == 1);
-    CHECK(part(0, SECOND, LAWENDEB_OPERAND_CONSTANT, 0, 0, 0));
-    CHECK(answered(lift(mmbin, 1, &empty, N), LAWENDEB_ACCEPTED, 0));
-    CHECK(part(0, EFFECT, LAWENDEB_EFFECT_COMPANION_PAIR, 0, 1, 6));
-    CHECK(number(0, FALLBACK) == 1 && number(0, FALLBACK + 1) == 6);
-    CHECK(number(0, COMPANION) == 0);
-    CHECK(answered(lift(unknown, 1, &empty, N), LAWENDEB_ACCEPTED, 0));
-    CHECK(memcmp(numbers, blank, sizeof blank) == 0 && numbers_from(N));
-    CHECK(answered(lift(two, 2, &empty, 2 * N), LAWENDEB_ACCEPTED, 0));
-    CHECK(number(0, SURE) == 1 && number(1, TARGET) == 1 && number(1, TARGET + 1) == 0);
-    CHECK(answered(lift(prepare, 3, &empty, 3 * N), LAWENDEB_ACCEPTED, 0));
-    CHECK(number(0, TARGET) == 1 && number(0, TARGET + 1) == 1);
-    CHECK(answered(lift(sheet, 0, &empty, 0), LAWENDEB_ACCEPTED, 0) && numbers_from(0));
-}
-
-static uint64_t place_of(uint64_t start, uint64_t length) {
-    return start + (length << 32);
-}
-
-/* Constants of every tag, an index past them, names: as they were lent. */
-static void values(void) {
-    const uint8_t tags[8] = {LAWENDEB_TAG_NIL,   LAWENDEB_TAG_FALSE,        LAWENDEB_TAG_TRUE,
-                             LAWENDEB_TAG_INTEGER, LAWENDEB_TAG_FLOAT,      LAWENDEB_TAG_FLOAT,
-                             LAWENDEB_TAG_SHORT_STRING, LAWENDEB_TAG_LONG_STRING};
-    const uint64_t nan_bits = 9221120237041090561u, minus_zero = 9223372036854775808u;
-    const uint64_t payloads[8] = {7, 7, 7, UINT64_MAX, minus_zero, nan_bits, place_of(0, 4),
-                                  place_of(4, 5)};
-    const uint64_t kinds[9] = {0, 1, 1, 2, 3, 3, 4, 5, 0};
-    const uint64_t shown[9] = {0, 0, 1, UINT64_MAX, minus_zero, nan_bits, place_of(0, 4),
-                               place_of(4, 5), 0};
-    const uint64_t names[2] = {place_of(9, 0), LAWENDEB_UNNAMED};
-    const struct tables t = {tags, 8, payloads, 8, names, 2, (const uint8_t *)"_ENVprint", 9};
-    uint32_t words[ROOM];
-    uint32_t i;
-    for (i = 0; i < 9; i++)
-        words[i] = word_abx(LOADK, 1, i);
-    for (i = 0; i < 3; i++)
-        words[9 + i] = word_abc(GETUPVAL, 1, i, 0);
-    CHECK(answered(lift(words, ROOM, &t, ROOM * N), LAWENDEB_ACCEPTED, 0));
-    for (i = 0; i < 9; i++)
-        CHECK(part(i, SECOND, LAWENDEB_OPERAND_CONSTANT, i, kinds[i], shown[i]));
-    CHECK(part(9, SECOND, LAWENDEB_OPERAND_UPVALUE, 0, 1, place_of(9, 0)));
-    CHECK(part(10, SECOND, LAWENDEB_OPERAND_UPVALUE, 1, 0, 0));
-    CHECK(part(11, SECOND, LAWENDEB_OPERAND_UPVALUE, 2, 0, 0));
-}
-
-static uint8_t many_tags[LAWENDEB_MOST_CONSTANTS + 1];
-static uint64_t many_payloads[LAWENDEB_MOST_CONSTANTS + 1];
-static uint64_t many_names[LAWENDEB_MOST_NAMES + 1];
-
-/* Document 01's table of refusals, 1 to 6. */
-static void refusals(void) {
-    const uint8_t tags[3] = {3, 2, 2}, strings[3] = {0, 4, 20};
-    const uint64_t payloads[3] = {place_of(9, 9), place_of(3, 2), place_of(3, 2)};
-    const uint8_t bytes[4] = {'a', 'b', 'c', 'd'};
-    const uint64_t names[3] = {place_of(4, 0), LAWENDEB_UNNAMED, place_of(4, 1)};
-    struct tables t = empty;
-    size_t i;
-    CHECK(lift_refuses(many, MANY, &empty, 0, LAWENDEB_TOO_MANY_WORDS, 0));
-    CHECK(lift_refuses(many, LAWENDEB_MOST_WORDS, &empty, 0, LAWENDEB_SHORT_SLICE, 0));
-    t.tags = tags, t.tags_n = 3, t.payloads = payloads, t.payloads_n = 2;
-    CHECK(lift_refuses(sheet, 4, &t, 4 * N, LAWENDEB_CONSTANT_COUNT, 0));
-    t.payloads_n = 3;
-    CHECK(lift_refuses(sheet, 4, &t, 4 * N, LAWENDEB_UNKNOWN_TAG, 1));
-    t.tags = strings, t.bytes = bytes, t.bytes_n = 4;
-    CHECK(lift_refuses(sheet, 4, &t, 4 * N, LAWENDEB_STRING_PAST_BYTES, 1));
-    t = empty;
-    t.tags = many_tags, t.tags_n = LAWENDEB_MOST_CONSTANTS + 1;
-    t.payloads = many_payloads, t.payloads_n = LAWENDEB_MOST_CONSTANTS + 1;
-    CHECK(lift_refuses(sheet, 4, &t, 4 * N, LAWENDEB_CONSTANT_COUNT, 0));
-    t.tags_n = t.payloads_n = LAWENDEB_MOST_CONSTANTS;
-    CHECK(answered(lift(sheet, 4, &t, 4 * N), LAWENDEB_ACCEPTED, 0));
-    t = empty;
-    t.names = names, t.names_n = 3, t.bytes = bytes, t.bytes_n = 4;
-    CHECK(lift_refuses(sheet, 4, &t, 4 * N, LAWENDEB_NAMES, 2));
-    for (i = 0; i < LAWENDEB_MOST_NAMES + 1; i++)
-        many_names[i] = LAWENDEB_UNNAMED;
-    t.names = many_names, t.names_n = LAWENDEB_MOST_NAMES + 1;
-    CHECK(lift_refuses(sheet, 4, &t, 4 * N, LAWENDEB_NAMES, 0));
-    t.names_n = LAWENDEB_MOST_NAMES;
-    CHECK(answered(lift(sheet, 4, &t, 4 * N), LAWENDEB_ACCEPTED, 0));
-    CHECK(lift_refuses(sheet, 4, &t, 4 * N - 1, LAWENDEB_SHORT_SLICE, 0));
-    CHECK(lift_refuses(sheet, 4, &t, 3 * N, LAWENDEB_SHORT_SLICE, 0));
-}
-
-/* ---- what a word touches */
-
-static int ranged(struct lawendeb_ranges r, unsigned count, unsigned first, unsigned last) {
-    return r.count == count && r.items[0].first == first && r.items[0].last == last &&
-           !(r.items[1].first | r.items[1].last | r.items[2].first | r.items[2].last);
-}
-
-static int topped(struct lawendeb_top t, unsigned count, unsigned first) {
-    return t.count == count && t.first == first;
-}
-
-static int indexed(struct lawendeb_indices r, unsigned count, uint32_t first, uint32_t second) {
-    return r.count == count && r.items[0] == first && r.items[1] == second && r.items[2] == 0;
-}
-
-/* What a test does not name is empty. */
-static int nothing_else(struct lawendeb_touched t, int reads, int tops, int indices, int writes,
-                        int on_edge) {
-    return (reads || ranged(t.reads, 0, 0, 0)) &&
-           (tops || (topped(t.reads_to_top, 0, 0) && topped(t.writes_to_top, 0, 0))) &&
-           (indices || (indexed(t.constants, 0, 0, 0) && indexed(t.upvalues, 0, 0, 0) &&
-                        indexed(t.upvalue_writes, 0, 0, 0))) &&
-           (writes || ranged(t.writes, 0, 0, 0)) &&
-           (on_edge || (ranged(t.edge_writes, 0, 0, 0) && t.edge == 0));
-}
-
-static void touches(void) {
-    enum { MOVE = 0, LOADKX = 4, LOADNIL = 8, SETUPVAL = 10, GETTABLE = 12, SETTABUP = 15 };
-    enum { ADD = 34, MMBIN = 46, CALL = 68, RETURN = 70, FORPREP = 74, EXTRAARG = 82 };
-    const uint32_t k = 32768;
-    const uint32_t words[14] = {
-        word_abc(MOVE, 1, 2, 0),         word_abc(ADD, 3, 4, 5),
-        word_abc(MMBIN, 4, 5, 6),        word_abc(CALL, 7, 0, 0),
-        word_abc(LOADNIL, 255, 1, 0),    word_abc(GETTABLE, 9, 5, 4),
-        word_abc(SETTABUP, 2, 6, 6) + k, word_abc(LOADKX, 3, 0, 0),
-        EXTRAARG + 128 * 33554431u,      word_abc(SETUPVAL, 8, 2, 0),
-        word_abx(FORPREP, 10, 0),        word_abx(FORLOOP, 10, 0),
-        word_abc(ADD, 1, 2, 3),          word_abc(RETURN, 7, 0, 0)};
-    struct lawendeb_touched t;
-    size_t p;
-    t = lawendeb_touches(words, 14, 0);
-    CHECK(ranged(t.reads, 1, 2, 2) && ranged(t.writes, 1, 1, 1) && nothing_else(t, 1, 0, 0, 1, 0));
-    /* the sum goes to p + 2, past its metamethod word, which writes the A of the word before */
-    t = lawendeb_touches(words, 14, 1);
-    CHECK(ranged(t.reads, 1, 4, 5) && ranged(t.edge_writes, 1, 3, 3) && t.edge == 3);
-    CHECK(nothing_else(t, 1, 0, 0, 0, 1));
-    t = lawendeb_touches(words, 14, 2);
-    CHECK(ranged(t.reads, 1, 4, 5) && ranged(t.writes, 1, 3, 3) && nothing_else(t, 1, 0, 0, 1, 0));
-    /* the function called is read at every top */
-    t = lawendeb_touches(words, 14, 3);
-    CHECK(topped(t.reads_to_top, 1, 8) && topped(t.writes_to_top, 1, 7));
-    CHECK(ranged(t.reads, 1, 7, 7) && nothing_else(t, 1, 1, 0, 0, 0));
-    t = lawendeb_touches(words, 14, 4);
-    CHECK(ranged(t.writes, 1, 255, 256) && nothing_else(t, 0, 0, 0, 1, 0));
-    t = lawendeb_touches(words, 14, 5);
-    CHECK(ranged(t.reads, 1, 4, 5) && ranged(t.writes, 1, 9, 9) && nothing_else(t, 1, 0, 0, 1, 0));
-    /* key and value are one constant */
-    t = lawendeb_touches(words, 14, 6);
-    CHECK(indexed(t.constants, 1, 6, 0) && indexed(t.upvalues, 1, 2, 0));
-    CHECK(indexed(t.upvalue_writes, 0, 0, 0) && nothing_else(t, 0, 0, 1, 0, 0));
-    t = lawendeb_touches(words, 14, 7);
-    CHECK(indexed(t.constants, 1, 33554431, 0) && indexed(t.upvalues, 0, 0, 0));
-    CHECK(ranged(t.writes, 1, 3, 3) && nothing_else(t, 0, 0, 1, 1, 0));
-    t = lawendeb_touches(words, 14, 9);
-    CHECK(indexed(t.upvalue_writes, 1, 2, 0) && indexed(t.constants, 0, 0, 0));
-    CHECK(indexed(t.upvalues, 0, 0, 0));
-    CHECK(ranged(t.reads, 1, 8, 8) && nothing_else(t, 1, 0, 1, 0, 0));
-    /* the control variable is set before the loop is found not to run */
-    t = lawendeb_touches(words, 14, 10);
-    CHECK(ranged(t.reads, 1, 10, 12) && ranged(t.writes, 1, 13, 13));
-    CHECK(ranged(t.edge_writes, 1, 10, 12) && t.edge == 11 && nothing_else(t, 1, 0, 0, 1, 1));
-    /* with Bx 0 both ways lead to one word, and on one of them is written */
-    t = lawendeb_touches(words, 14, 11);
-    CHECK(ranged(t.reads, 1, 10, 12) && t.edge == 12 && t.edge_writes.count == 2);
-    CHECK(t.edge_writes.items[0].first == 10 && t.edge_writes.items[0].last == 11);
-    CHECK(t.edge_writes.items[1].first == 13 && t.edge_writes.items[1].last == 13);
-    CHECK(nothing_else(t, 1, 0, 0, 0, 1));
-    t = lawendeb_touches(words, 14, 13);
-    CHECK(topped(t.reads_to_top, 1, 7) && topped(t.writes_to_top, 0, 0));
-    CHECK(nothing_else(t, 0, 1, 0, 0, 0));
-    /* bad: an EXTRAARG, an ADD without its metamethod word, the last word, none */
-    for (p = 8; p < 16; p++)
-        if (p == 8 || p == 12 || p > 13)
-            CHECK(nothing_else(lawendeb_touches(words, 14, p), 0, 0, 0, 0, 0));
-    CHECK(nothing_else(lawendeb_touches(words, 1, 0), 0, 0, 0, 0, 0));
-    CHECK(nothing_else(lawendeb_touches(words, 14, SIZE_MAX), 0, 0, 0, 0, 0));
-    CHECK(nothing_else(lawendeb_touches(words, 0, 0), 0, 0, 0, 0, 0));
-}
-
-/* ---- four scripts */
-
-static struct lawendeb_meters four(struct lawendeb_meter axis, struct lawendeb_meter focuser,
-                                   struct lawendeb_meter dome, struct lawendeb_meter guider) {
-    struct lawendeb_meters ms;
-    ms.of[LAWENDEB_AXIS] = axis, ms.of[LAWENDEB_FOCUSER] = focuser;
-    ms.of[LAWENDEB_DOME] = dome, ms.of[LAWENDEB_GUIDER] = guider;
-    return ms;
-}
-
-static int same_four(struct lawendeb_meters a, struct lawendeb_meters b) {
-    return memcmp(&a, &b, sizeof a) == 0;
-}
-
-/* A feed of the sheet that is accepted. */
-static int feeds_four(struct lawendeb_meters *ms, uint32_t script, uint32_t budget, size_t q) {
-    return answered(
-        lawendeb_feed_four(sheet, 4, ones, LAWENDEB_WEIGHTS, ms, script, budget, q),
-        LAWENDEB_ACCEPTED, 0);
-}
-
-/* A feed of any four: the answer, and all four as they were. */
-static int four_refuse_by(const uint8_t *weights, size_t weights_n, struct lawendeb_meters ms,
-                          size_t n, uint32_t script, uint32_t budget, size_t q, uint64_t number,
-                          uint64_t place) {
-    struct lawendeb_meters before = ms;
-    const uint32_t *words = n > 4 ? many : sheet;
-    return answered(lawendeb_feed_four(words, n, weights, weights_n, &ms, script, budget, q),
-                    number, place) &&
-           same_four(ms, before);
-}
-
-static int four_refuse(struct lawendeb_meters ms, uint32_t script, uint32_t budget, size_t q,
-                       uint64_t number) {
-    return four_refuse_by(ones, LAWENDEB_WEIGHTS, ms, 4, script, budget, q, number, 0);
-}
-
-/* Begin and reset of no script. */
-static int no_script(struct lawendeb_meters ms, uint32_t script) {
-    struct lawendeb_meters before = ms;
-    return answered(lawendeb_begin_four(&ms, script), LAWENDEB_NO_SCRIPT, 0) &&
-           answered(lawendeb_reset_four(&ms, script), LAWENDEB_NO_SCRIPT, 0) &&
-           same_four(ms, before);
-}
-
-static void fours(void) {
-    const uint32_t most = LAWENDEB_MOST_BUDGET;
-    const struct lawendeb_meter full = meter_of(7, UINT32_MAX, UINT32_MAX, 6, 0);
-    struct lawendeb_meters ms = four(meter(7, 7, 7, 40), meter_of(7, 7, 7, 50, 3), full, full);
-    uint32_t script;
-    uint8_t zero[LAWENDEB_WEIGHTS];
-    memset(zero, 1, sizeof zero);
-    zero[90] = 0;
-    CHECK(no_script(ms, 4) && no_script(ms, UINT32_MAX));
-    for (script = LAWENDEB_AXIS; script <= LAWENDEB_GUIDER; script++)
-        CHECK(answered(lawendeb_begin_four(&ms, script), LAWENDEB_ACCEPTED, 0));
-    CHECK(same_four(ms, four(meter_of(0, 0, 0, 40, 7), meter_of(0, 0, 0, 50, 3),
-                             meter_of(0, 0, 0, 6, 0), meter_of(0, 0, 0, 6, 0))));
-    /* within the budget, at it, above it; a step that serves is at it */
-    CHECK(feeds_four(&ms, LAWENDEB_AXIS, 1, 0) && shows(ms.of[LAWENDEB_AXIS], 1, 0, 1, 40));
-    CHECK(four_refuse(ms, LAWENDEB_FOCUSER, 1, 0, LAWENDEB_OVER_BUDGET));
-    CHECK(feeds_four(&ms, LAWENDEB_FOCUSER, 2, 0) && shows(ms.of[LAWENDEB_FOCUSER], 1, 0, 1, 50));
-    CHECK(feeds_four(&ms, LAWENDEB_AXIS, 3, 1) && feeds_four(&ms, LAWENDEB_AXIS, 4, 3));
-    CHECK(four_refuse(ms, LAWENDEB_DOME, 4, 0, LAWENDEB_OVER_BUDGET));
-    CHECK(four_refuse(ms, LAWENDEB_AXIS, 1, 1, LAWENDEB_OVER_BUDGET));
-    CHECK(feeds_four(&ms, LAWENDEB_AXIS, 2, 1) && shows(ms.of[LAWENDEB_AXIS], 1, 1, 1, 41));
-    CHECK(ms.of[LAWENDEB_AXIS].highest == 7 && shows(ms.of[LAWENDEB_FOCUSER], 1, 0, 1, 50));
-    CHECK(answered(lawendeb_reset_four(&ms, LAWENDEB_AXIS), LAWENDEB_ACCEPTED, 0));
-    CHECK(ms.of[LAWENDEB_AXIS].highest == 1 && shows(ms.of[LAWENDEB_AXIS], 1, 1, 1, 41));
-    CHECK(ms.of[LAWENDEB_FOCUSER].highest == 3);
-    /* the order: 20, 21, 1, 18, 11, 10, 22 */
-    ms = four(meter_of(1, 0, 2, 40, 1), full, full, full);
-    CHECK(four_refuse_by(zero, 128, ms, MANY, 4, 0, 9, LAWENDEB_NO_SCRIPT, 0));
-    CHECK(four_refuse_by(zero, 128, ms, MANY, 0, 0, 9, LAWENDEB_BUDGET_RANGE, 0));
-    CHECK(four_refuse_by(zero, 128, ms, MANY, 0, most + 1, 9, LAWENDEB_BUDGET_RANGE, 0));
-    CHECK(four_refuse_by(zero, 128, ms, MANY, 0, UINT32_MAX, 9, LAWENDEB_BUDGET_RANGE, 0));
-    CHECK(four_refuse_by(zero, 128, ms, MANY, 0, most, 9, LAWENDEB_TOO_MANY_WORDS, 0));
-    CHECK(four_refuse_by(zero, 128, ms, 4, 0, 1, 9, LAWENDEB_WEIGHTS_REFUSED, 90));
-    CHECK(four_refuse_by(ones, 127, ms, 4, 0, 1, 9, LAWENDEB_WEIGHTS_REFUSED, 0));
-    CHECK(four_refuse(ms, 0, 1, 9, LAWENDEB_FOREIGN_METER));
-    ms.of[LAWENDEB_AXIS].highest = 2;
-    CHECK(four_refuse(ms, 0, 1, 9, LAWENDEB_NO_STEP));
-    CHECK(four_refuse(ms, 0, most, 1, LAWENDEB_OVER_BUDGET));
-    /* the others are asked for nothing but their counts, whose sum does not wrap */
-    ms = four(meter(0, 0, 0, 40), full, meter(0, 0, 0, 6), meter_of(0, 9, 1, 6, 0));
-    CHECK(four_refuse(ms, 0, most, 0, LAWENDEB_OVER_BUDGET));
-    ms.of[LAWENDEB_FOCUSER].count = most - 2;
-    CHECK(feeds_four(&ms, 0, most, 0) && four_refuse(ms, 0, most, 1, LAWENDEB_OVER_BUDGET));
-}
-
-/* ---- registers set before use */
-
-/* The answer, and n marks with the rest as lent: bits, the first mark highest; 99 else. */
-static unsigned assigned(const uint32_t *words, size_t n, uint8_t parameters, uint64_t number,
-                         uint64_t place) {
-    unsigned bits = 0;
-    size_t i;
-    lend();
-    if (!answered(lawendeb_definite_assignment(words, n, parameters, marks, n + 1), number, place))
-        return 99;
-    for (i = 0; i < n; i++) {
-        if (marks[i] > 1)
-            return 99;
-        bits = 2 * bits + marks[i];
-    }
-    return lent_from(n) ? bits : 99;
-}
-
-static void assignments(void) {
-    enum {
-        MOVE = 0,
-        LOADTRUE = 7,
-        LOADNIL = 8,
-        ADD = 34,
-        MMBIN = 46,
-        TESTSET = 67,
-        CALL = 68,
-        RETURN1 = 72,
-        TFORPREP = 75,
-        TFORCALL = 76,
-        TFORLOOP = 77
-    };
-    const uint32_t same[2] = {word_abc(MOVE, 3, 3, 0), RETURN0};
-    const uint32_t high[3] = {word_abc(LOADNIL, 255, 2, 0), word_abc(CALL, 255, 3, 1), RETURN0};
-    const uint32_t top[4] = {word_abc(LOADTRUE, 0, 0, 0), word_abc(CALL, 0, 1, 0),
-                             word_abc(MOVE, 2, 1, 0), RETURN0};
-    const uint32_t sum[4] = {word_abc(LOADTRUE, 1, 0, 0), word_abc(ADD, 0, 1, 1),
-                             word_abc(MMBIN, 0, 1, 6), word_abc(RETURN1, 0, 0, 0)};
-    const uint32_t copy[5] = {word_abc(LOADTRUE, 1, 0, 0), word_abc(TESTSET, 0, 1, 0), word_jump(1),
-                              RETURN0, word_abc(RETURN1, 0, 0, 0)};
-    const uint32_t before[5] = {word_jump(2), word_abc(MOVE, 1, 6, 0), RETURN0,
-                                word_abc(MOVE, 0, 5, 0), word_jump(-4)};
-    const uint32_t both[2] = {word_abc(MOVE, 0, 9, 0), 83};
-    uint32_t loop[5] = {word_abc(LOADNIL, 0, 3, 0), word_abx(TFORPREP, 0, 0),
-                        word_abc(TFORCALL, 0, 0, 0), word_abx(TFORLOOP, 0, 2), RETURN0};
-    CHECK(assigned(same, 2, 3, LAWENDEB_UNSET_REGISTER, 0) == 3);
-    CHECK(assigned(same, 2, 4, LAWENDEB_ACCEPTED, 0) == 3);
-    CHECK(assigned(high, 3, 255, LAWENDEB_ACCEPTED, 0) == 7);
-    CHECK(assigned(high + 1, 2, 255, LAWENDEB_UNSET_REGISTER, 0) == 3);
-    CHECK(assigned(top, 4, 0, LAWENDEB_UNSET_REGISTER, 2) == 15);
-    CHECK(assigned(sum, 4, 0, LAWENDEB_UNSET_REGISTER, 2) == 15);
-    CHECK(assigned(copy, 5, 0, LAWENDEB_ACCEPTED, 0) == 31);
-    CHECK(assigned(loop, 5, 0, LAWENDEB_UNSET_REGISTER, 3) == 31);
-    loop[2] = word_abc(TFORCALL, 0, 0, 1);
-    CHECK(assigned(loop, 5, 0, LAWENDEB_ACCEPTED, 0) == 31);
-    loop[0] = word_abc(LOADNIL, 0, 2, 0);
-    CHECK(assigned(loop, 5, 0, LAWENDEB_UNSET_REGISTER, 1) == 31);
-    /* the lowest, though every path to it was broken before; a word that no path meets */
-    CHECK(assigned(before, 5, 0, LAWENDEB_UNSET_REGISTER, 1) == 31);
-    CHECK(assigned(before, 3, 0, LAWENDEB_REACHES_INVALID, 0) == 4);
-    CHECK(assigned(before + 2, 2, 0, LAWENDEB_ACCEPTED, 0) == 2);
-
-    /* refusals: 1, 6, 7, 8, 17 in this order */
-    CHECK(assigned(both, 2, 0, LAWENDEB_REACHES_INVALID, 1) == 3);
-    lend();
-    CHECK(answered(lawendeb_definite_assignment(many, MANY, 0, marks, 0), LAWENDEB_TOO_MANY_WORDS, 0));
-    CHECK(answered(lawendeb_definite_assignment(both, 2, 0, marks, 1), LAWENDEB_SHORT_SLICE, 0));
-    CHECK(answered(lawendeb_definite_assignment(both, 0, 0, marks, 0), LAWENDEB_NO_WORDS, 0));
-    CHECK(lent_from(0));
-    CHECK(answered(lawendeb_definite_assignment(many, MANY - 1, 1, marks, MANY),
-                   LAWENDEB_REACHES_INVALID, MANY - 2));
-    CHECK(marks[0] == 1 && marks[MANY - 2] == 1 && lent_from(MANY - 1));
-}
-
-/* ---- rehearsals */
-
-enum { SCRIPTS = LAWENDEB_MOST_SCRIPTS, PLACES = 8 };
-
-/* What is lent to a rehearsal; marks and lengths of 9 before it. */
-struct slices {
-    const uint32_t *words[SCRIPTS];
-    size_t n[SCRIPTS];
-    uint8_t choices[4];
-    size_t choices_n;
-    uint8_t marks[PLACES];
-    uint32_t lengths[PLACES];
-};
-
-static struct slices lent(const uint32_t *first, size_t n, const uint32_t *rest, size_t m) {
-    struct slices l;
-    int i;
-    memset(&l, 0, sizeof l);
-    for (i = 0; i < SCRIPTS; i++) {
-        l.words[i] = i == 0 ? first : rest;
-        l.n[i] = i == 0 ? n : m;
-    }
-    for (i = 0; i < PLACES; i++) {
-        l.marks[i] = 9;
-        l.lengths[i] = 9;
-    }
-    return l;
-}
-
-/* By seventeen parameters, and by a struct, which must answer and leave the same. */
-static struct lawendeb_rehearsal rehearse(struct slices *l, size_t count, uint32_t q,
-                                          uint32_t limit) {
-    struct slices again = *l;
-    struct lawendeb_rotation r;
-    struct lawendeb_rehearsal a, b;
-    int i;
-    for (i = 0; i < SCRIPTS; i++)
-        r.scripts[i].at = l->words[i], r.scripts[i].n = l->n[i];
-    r.count = count, r.q = q, r.limit = limit;
-    r.choices = again.choices, r.choices_n = again.choices_n;
-    r.marks = again.marks, r.marks_n = PLACES, r.lengths = again.lengths, r.lengths_n = PLACES;
-    b = lawendeb_rehearse_rotation(&r);
-    a = lawendeb_rehearse(l->words[0], l->n[0], l->words[1], l->n[1], l->words[2], l->n[2],
-                          l->words[3], l->n[3], count, q, l->choices, l->choices_n, limit,
-                          l->marks, PLACES, l->lengths, PLACES);
-    CHECK(memcmp(&a, &b, sizeof a) == 0 && memcmp(l->marks, again.marks, sizeof l->marks) == 0 &&
-          memcmp(l->lengths, again.lengths, sizeof l->lengths) == 0);
-    return a;
-}
-
-static int waits(struct lawendeb_rehearsal r, uint64_t a, uint64_t b, uint64_t c, uint64_t d) {
-    return r.number == LAWENDEB_ACCEPTED && r.place == 0 && r.waits[0] == a && r.waits[1] == b &&
-           r.waits[2] == c && r.waits[3] == d;
-}
-
-static int turned_away(struct lawendeb_rehearsal r, uint64_t number, uint64_t place) {
-    return r.number == number && r.place == place &&
-           !(r.waits[0] | r.waits[1] | r.waits[2] | r.waits[3]);
-}
-
-/* The places after a run of n words in a row that ends with a return; those past n are 9. */
-static int left_by(const struct slices *l, uint32_t n) {
-    uint32_t i;
-    for (i = 0; i < PLACES; i++)
-        if (l->marks[i] != (i < n ? 1 : 9) || l->lengths[i] != (i < n ? n - i : 9))
-            return 0;
-    return 1;
-}
-
-static void rehearsals(void) {
-    const uint32_t three[3] = {0, 0, RETURN0};
-    const uint32_t six[6] = {0, 0, 0, 0, 0, RETURN0};
-    const uint32_t loop0[2] = {word_abx(FORLOOP, 0, 0), RETURN0};
-    const uint32_t loop1[4] = {word_abx(FORLOOP, 0, 1), 0, 0, RETURN0};
-    struct slices l = lent(three, 3, three, 3);
-    CHECK(waits(rehearse(&l, 2, 1, 100), 1, 1, 0, 0) && left_by(&l, 3));
-    CHECK(waits(rehearse(&l, 2, 2, UINT32_MAX), 2, 1, 0, 0));
-    CHECK(waits(rehearse(&l, 2, 3, 100), 0, 0, 0, 0));
-    CHECK(waits(rehearse(&l, 1, 1, 100), 0, 0, 0, 0));
-    CHECK(waits(rehearse(&l, 2, 1, 2), 0, 0, 0, 0) && waits(rehearse(&l, 2, 1, 0), 0, 0, 0, 0));
-    CHECK(waits(rehearse(&l, 2, 1, 3), 1, 0, 0, 0));
-    l = lent(six, 6, six, 6);
-    CHECK(waits(rehearse(&l, 4, 2, 100), 6, 6, 6, 6) && left_by(&l, 6));
-    CHECK(waits(rehearse(&l, 4, LAWENDEB_MOST_TURN, 100), 0, 0, 0, 0));
-    /* choices: none for a loop with Bx 0; 0 is the lower step, which serves; without one no turn */
-    l = lent(loop0, 2, three, 3);
-    CHECK(waits(rehearse(&l, 2, 1, 100), 1, 1, 0, 0));
-    l = lent(loop1, 4, three, 3);
-    CHECK(waits(rehearse(&l, 2, 9, 100), 0, 0, 0, 0));
-    l.choices_n = 2;
-    l.choices[1] = 1;
-    CHECK(waits(rehearse(&l, 2, 9, 100), 3, 0, 0, 0));
-    l.choices[0] = 1;
-    CHECK(waits(rehearse(&l, 2, 9, 100), 0, 0, 0, 0));
-    l.choices_n = 1;
-    l.choices[0] = 0;
-    CHECK(waits(rehearse(&l, 2, 9, 100), 0, 0, 0, 0));
-    /* 23, before anything is touched; a choice that is not used counts, too */
-    l = lent(three, 3, unknown, 1);
-    CHECK(turned_away(rehearse(&l, 0, 1, 100), LAWENDEB_OUT_OF_RANGE, 0) && left_by(&l, 0));
-    CHECK(turned_away(rehearse(&l, 5, 1, 100), LAWENDEB_OUT_OF_RANGE, 0) && left_by(&l, 0));
-    CHECK(turned_away(rehearse(&l, 2, 0, 100), LAWENDEB_OUT_OF_RANGE, 0) && left_by(&l, 0));
-    CHECK(turned_away(rehearse(&l, 2, 1001, 100), LAWENDEB_OUT_OF_RANGE, 0) && left_by(&l, 0));
-    l.choices_n = 4;
-    l.choices[3] = 2;
-    CHECK(turned_away(rehearse(&l, 1, 1, 100), LAWENDEB_OUT_OF_RANGE, 0) && left_by(&l, 0));
-    l.choices[3] = 1;
-    CHECK(waits(rehearse(&l, 1, 1, 100), 0, 0, 0, 0) && left_by(&l, 3));
-    /* the lowest script refused; what the last run tried left, over what the one before it did */
-    CHECK(turned_away(rehearse(&l, 2, 1, 100), LAWENDEB_REACHES_INVALID, 0));
-    CHECK(l.marks[0] == 1 && l.lengths[0] == 0 && l.lengths[1] == 2 && l.lengths[2] == 1);
-    l = lent(three, 3, many, MANY);
-    CHECK(turned_away(rehearse(&l, 4, 1, 100), LAWENDEB_TOO_MANY_WORDS, 0) && left_by(&l, 3));
-    l.n[1] = 0;
-    CHECK(turned_away(rehearse(&l, 3, 1, 100), LAWENDEB_NO_WORDS, 0) && left_by(&l, 3));
-    l.n[1] = PLACES + 1;
-    CHECK(turned_away(rehearse(&l, 3, 1, 100), LAWENDEB_SHORT_SLICE, 0) && left_by(&l, 3));
-}
-
-/* ---- compiled scripts */
-
-/* A chunk of one function: a word, RETURN0 with a B of 1; the constant "x" (byte 46), the upvalue
-   _ENV (four bytes from 57 on). */
-static const uint8_t chunk[] = {
-    27,  76, 117, 97, 84, 0,   25, 147, 13,  10,  26,  10,  4,   8,   8,   120, 86, 0,  0,  0, 0,
-    0,   0,  0,   0,  0,  0,   0,  40,  119, 64,  1,   128, 128, 128, 0,   1,   2,  129, 71, 0, 1,
-    0,   129, 4,  130, 120, 129, 1, 0,   0,   128, 128, 128, 128, 129, 133, 95, 69, 78, 86};
-enum { SIZE = sizeof chunk };
-
-static int counted(struct lawendeb_counts c, uint64_t number, uint64_t place, uint64_t words,
-                   uint64_t constants, uint64_t names) {
-    return c.number == number && c.place == place && c.words == words &&
-           c.constants == constants && c.names == names;
-}
-
-static uint32_t chunk_words[2];
-static uint8_t chunk_tags[2];
-static uint64_t chunk_payloads[2], chunk_names[2];
-
-static void lend_chunk(void) {
-    memset(chunk_words, 165, sizeof chunk_words);
-    memset(chunk_tags, 165, sizeof chunk_tags);
-    memset(chunk_payloads, 165, sizeof chunk_payloads);
-    memset(chunk_names, 165, sizeof chunk_names);
-}
-
-static int chunk_lent_from(size_t i) {
-    for (; i < 2; i++)
-        if (chunk_words[i] != 2779096485u || chunk_tags[i] != 165 ||
-            chunk_payloads[i] != 11936128518282651045u || chunk_names[i] != 11936128518282651045u)
-            return 0;
-    return 1;
-}
-
-/* By eleven parameters, and by a struct, which must answer the same and fill as much. */
-static struct lawendeb_counts fill(const uint8_t *bytes, size_t n, size_t k, size_t words,
-                                   size_t tags, size_t payloads, size_t names) {
-    struct lawendeb_room r;
-    struct lawendeb_counts a, b;
-    r.words = chunk_words, r.words_n = words, r.tags = chunk_tags, r.tags_n = tags;
-    r.payloads = chunk_payloads, r.payloads_n = payloads;
-    r.names = chunk_names, r.names_n = names;
-    b = lawendeb_chunk_fill_room(bytes, n, k, &r);
-    CHECK(chunk_lent_from(b.words) && (b.words == 0 || !chunk_lent_from(0)));
-    lend_chunk();
-    a = lawendeb_chunk_fill(bytes, n, k, chunk_words, words, chunk_tags, tags, chunk_payloads,
-                            payloads, chunk_names, names);
-    CHECK(memcmp(&a, &b, sizeof a) == 0);
-    return a;
-}
-
-/* A chunk with the byte at an index changed. */
-static struct lawendeb_counts count_changed(size_t at, uint8_t to, size_t n) {
-    uint8_t bytes[SIZE];
-    memcpy(bytes, chunk, SIZE);
-    bytes[at] = to;
-    return lawendeb_chunk_count(bytes, n, 0);
-}
-
-static void chunks(void) {
-    CHECK(counted(lawendeb_chunk_count(chunk, SIZE, 0), LAWENDEB_ACCEPTED, 0, 1, 1, 1));
-    CHECK(counted(lawendeb_chunk_count(chunk, SIZE, 1), LAWENDEB_MALFORMED_CHUNK, 0, 0, 0, 0));
-    CHECK(counted(lawendeb_chunk_count(chunk, SIZE - 1, 0), LAWENDEB_MALFORMED_CHUNK, 0, 0, 0, 0));
-    CHECK(counted(lawendeb_chunk_count(chunk, 0, 0), LAWENDEB_MALFORMED_CHUNK, 0, 0, 0, 0));
-    CHECK(counted(count_changed(0, 28, SIZE), LAWENDEB_HEADER_DIFFERS, 0, 0, 0, 0));
-    CHECK(counted(count_changed(0, 28, 1), LAWENDEB_HEADER_DIFFERS, 0, 0, 0, 0));
-    CHECK(counted(count_changed(31, 99, SIZE), LAWENDEB_ACCEPTED, 0, 1, 1, 1));
-    CHECK(counted(count_changed(44, 5, SIZE), LAWENDEB_UNKNOWN_TAG, 0, 0, 0, 0));
-    CHECK(counted(count_changed(45, 128, SIZE), LAWENDEB_MALFORMED_CHUNK, 0, 0, 0, 0));
-    /* a count of names that is not 0 stands for one of each upvalue */
-    CHECK(counted(count_changed(55, 133, SIZE), LAWENDEB_ACCEPTED, 0, 1, 1, 1));
-
-    lend_chunk();
-    CHECK(counted(fill(chunk, SIZE, 0, 0, 2, 2, 2), LAWENDEB_SHORT_SLICE, 0, 0, 0, 0));
-    CHECK(counted(fill(chunk, SIZE, 0, 2, 0, 2, 2), LAWENDEB_SHORT_SLICE, 0, 0, 0, 0));
-    CHECK(counted(fill(chunk, SIZE, 0, 2, 2, 0, 2), LAWENDEB_SHORT_SLICE, 0, 0, 0, 0));
-    CHECK(counted(fill(chunk, SIZE, 0, 2, 2, 2, 0), LAWENDEB_SHORT_SLICE, 0, 0, 0, 0));
-    CHECK(counted(fill(chunk, SIZE, 1, 0, 0, 0, 0), LAWENDEB_MALFORMED_CHUNK, 0, 0, 0, 0));
-    CHECK(chunk_lent_from(0));
-    CHECK(counted(fill(chunk, SIZE, 0, 2, 2, 2, 2), LAWENDEB_ACCEPTED, 0, 1, 1, 1));
-    CHECK(chunk_words[0] == 65607 && chunk_tags[0] == LAWENDEB_TAG_SHORT_STRING);
-    CHECK(chunk_payloads[0] == place_of(46, 1) && chunk_names[0] == place_of(57, 4));
-    CHECK(chunk_lent_from(1));
-}
-
-/* ---- levels: functions within functions, each with nothing else */
-
-static size_t levels(uint8_t *bytes, size_t n) {
-    static const uint8_t start[10] = {128, 128, 128, 0, 0, 2, 128, 128, 128, 129};
-    size_t i, at = 32;
-    memcpy(bytes, chunk, 32);
-    for (i = 0; i < n; i++, at += 10)
-        memcpy(bytes + at, start, 10);
-    bytes[at - 1] = 128;
-    memset(bytes + at, 128, 4 * n);
-    return at + 4 * n;
-}
-
-static void deep(void) {
-    static uint8_t bytes[32 + 14 * 33];
-    CHECK(counted(lawendeb_chunk_count(bytes, levels(bytes, 32), 31), 0, 0, 0, 0, 0));
-    CHECK(counted(lawendeb_chunk_count(bytes, levels(bytes, 33), 0), LAWENDEB_TOO_DEEP, 0, 0, 0,
-                  0));
-}
-
-/* ---- names shown */
-
-static int named(struct lawendeb_name s, uint64_t number, uint64_t place, uint64_t in_chunk,
-                 uint64_t start, uint64_t size) {
-    return s.number == number && s.place == place && s.in_chunk == in_chunk && s.start == start &&
-           s.size == size;
-}
-
-static void shown(void) {
-    const uint8_t ours[8] = {'o', 'u', 'r', ' ', 'l', 'i', 's', 't'};
-    const uint64_t own[3] = {place_of(57, 4), place_of(3, 0), LAWENDEB_UNNAMED};
-    const uint64_t other[3] = {place_of(0, 3), place_of(0, 3), place_of(4, 4)};
-    const uint64_t past[2] = {LAWENDEB_UNNAMED, place_of(8, 1)};
-    uint64_t full[LAWENDEB_MOST_NAMES + 1];
-    size_t i;
-    for (i = 0; i <= LAWENDEB_MOST_NAMES; i++)
-        full[i] = LAWENDEB_UNNAMED;
-#define NAME(own, own_n, other, other_n, i)                                                        \
-    lawendeb_upvalue_name(chunk, SIZE, own, own_n, ours, sizeof ours, other, other_n, i)
-    CHECK(named(NAME(own, 3, other, 3, 0), LAWENDEB_ACCEPTED, 0, 1, 57, 4));
-    /* a name that is there and empty is a name */
-    CHECK(named(NAME(own, 3, other, 3, 1), LAWENDEB_ACCEPTED, 0, 1, 3, 0));
-    CHECK(named(NAME(own, 3, other, 3, 2), LAWENDEB_ACCEPTED, 0, 0, 4, 4));
-    CHECK(named(NAME(own, 3, other, 3, 3), LAWENDEB_ACCEPTED, 0, 0, 0, 0));
-    CHECK(named(NAME(own, 3, past, 2, 0), LAWENDEB_NAMES, 1, 0, 0, 0));
-    CHECK(named(NAME(full, LAWENDEB_MOST_NAMES, other, 3, 0), LAWENDEB_ACCEPTED, 0, 0, 0, 3));
-    CHECK(named(NAME(full, LAWENDEB_MOST_NAMES + 1, past, 2, 0), LAWENDEB_NAMES, 0, 0, 0, 0));
-#undef NAME
-}
-
-/* ---- scripts of Lua 5.3: request C-24 */
-
-enum {
-    LOADKX_53 = 2,
-    LOADBOOL_53 = 3,
-    LOADNIL_53 = 4,
-    GETTABUP_53 = 6,
-    SETTABUP_53 = 8,
-    ADD_53 = 13,
-    JMP_53 = 30,
-    EQ_53 = 31,
-    TEST_53 = 34,
-    CALL_53 = 36,
-    TAILCALL_53 = 37,
-    RETURN_53 = 38,
-    FORLOOP_53 = 39,
-    FORPREP_53 = 40,
-    TFORCALL_53 = 41,
-    TFORLOOP_53 = 42,
-    SETLIST_53 = 43,
-    EXTRAARG_53 = 46
-};
-
-static uint32_t abc_53(uint32_t op, uint32_t a, uint32_t b, uint32_t c) {
-    return op + 64 * a + 16384 * c + 8388608 * b;
-}
-static uint32_t jump_53(uint32_t op, uint32_t a, int offset) {
-    return op + 64 * a + 16384 * (uint32_t)(131071 + offset);
-}
-
-/* FORPREP to a FORLOOP, which goes back to a MOVE or on to a RETURN. */
-static const uint32_t loop_53[4] = {2147483688u, 0, 2147434535u, RETURN_53};
-
-/* EQ with A 2, a bad JMP, a RETURN: nothing equals 2, so that the JMP is never taken along. */
-static const uint32_t above_53[3] = {16543, 30, 8388646};
-static const uint32_t unknown_53[1] = {47};
-
-/* Every field of these bits, by masks and shifts; the mode apart. */
-static int decoded_53(uint32_t word) {
-    struct lawendeb_fields_53 f = lawendeb_decode_53(word);
-    return f.opcode == (word & 63) && f.a == (word >> 6 & 255) && f.c == (word >> 14 & 511) &&
-           f.b == word >> 23 && f.bx == word >> 14 && f.ax == word >> 6 &&
-           f.sbx == (int32_t)f.bx - 131071;
-}
-
-static void fields_53(void) {
-    const uint32_t modes[6][2] = {{47, LAWENDEB_MODE_NONE}, {63, LAWENDEB_MODE_NONE},
-                                  {0, LAWENDEB_MODE_ABC}, {1, LAWENDEB_MODE_ABX},
-                                  {JMP_53, LAWENDEB_MODE_ASBX}, {EXTRAARG_53, LAWENDEB_MODE_AX}};
-    struct lawendeb_fields_53 f = lawendeb_decode_53(loop_53[2]);
-    uint32_t i;
-    CHECK(f.mode == LAWENDEB_MODE_ASBX && f.opcode == FORLOOP_53 && f.a == 0 && f.b == 255);
-    CHECK(f.c == 509 && f.bx == 131069 && f.ax == 33553664 && f.sbx == -2);
-    CHECK(decoded_53(0) && decoded_53(UINT32_MAX));
-    for (i = 0; i < 32; i++)
-        CHECK(decoded_53((uint32_t)1 << i) && decoded_53(~((uint32_t)1 << i)));
-    for (i = 0; i < 6; i++)
-        CHECK(lawendeb_decode_53(modes[i][0]).mode == modes[i][1]);
-}
-
-/* The steps of the second of four words, the others MOVE but for the one after it. */
-static struct lawendeb_steps second_53(uint32_t word, uint32_t after) {
-    const uint32_t words[4] = {0, word, after, 0};
-    return lawendeb_successors_53(words, 4, 1);
-}
-
-static void steps_53(void) {
-    const uint32_t tail[2] = {TAILCALL_53, TAILCALL_53};
-    const uint32_t skip[2] = {abc_53(LOADBOOL_53, 0, 0, 1), RETURN_53};
-    CHECK(has(lawendeb_successors_53(loop_53, 4, 0), LAWENDEB_KIND_ONE, 2, 0));
-    CHECK(has(lawendeb_successors_53(loop_53, 4, 1), LAWENDEB_KIND_ONE, 2, 0));
-    CHECK(has(lawendeb_successors_53(loop_53, 4, 2), LAWENDEB_KIND_TWO, 1, 3));
-    CHECK(has(lawendeb_successors_53(loop_53, 4, 3), LAWENDEB_KIND_STOP, 0, 0));
-    CHECK(has(lawendeb_successors_53(loop_53, 4, 4), LAWENDEB_KIND_INVALID, 0, 0));
-    CHECK(has(lawendeb_successors_53(loop_53, 4, SIZE_MAX), LAWENDEB_KIND_INVALID, 0, 0));
-    CHECK(has(lawendeb_successors_53(loop_53, 0, 0), LAWENDEB_KIND_INVALID, 0, 0));
-    /* the word after a FORLOOP is past the end */
-    CHECK(has(lawendeb_successors_53(loop_53, 3, 2), LAWENDEB_KIND_INVALID, 0, 0));
-    CHECK(has(second_53(jump_53(FORLOOP_53, 0, 1), 0), LAWENDEB_KIND_TWO, 2, 3));
-    CHECK(has(second_53(jump_53(FORLOOP_53, 0, 0), 0), LAWENDEB_KIND_ONE, 2, 0));
-    CHECK(has(second_53(jump_53(FORLOOP_53, 0, -1), 0), LAWENDEB_KIND_TWO, 1, 2));
-    CHECK(has(second_53(jump_53(FORLOOP_53, 0, -3), 0), LAWENDEB_KIND_INVALID, 0, 0));
-    CHECK(has(second_53(jump_53(FORLOOP_53, 0, 2), 0), LAWENDEB_KIND_INVALID, 0, 0));
-    CHECK(has(second_53(jump_53(FORPREP_53, 0, -1), 0), LAWENDEB_KIND_ONE, 1, 0));
-    CHECK(has(second_53(jump_53(FORPREP_53, 0, -2), 0), LAWENDEB_KIND_ONE, 0, 0));
-    CHECK(has(second_53(jump_53(JMP_53, 9, 1), 0), LAWENDEB_KIND_ONE, 3, 0));
-    CHECK(has(second_53(TEST_53, jump_53(JMP_53, 0, 0)), LAWENDEB_KIND_TWO, 2, 3));
-    CHECK(has(second_53(TEST_53, 0), LAWENDEB_KIND_INVALID, 0, 0));
-    CHECK(has(second_53(abc_53(EQ_53, 1, 0, 0), JMP_53), LAWENDEB_KIND_TWO, 2, 3));
-    CHECK(has(second_53(abc_53(EQ_53, 2, 0, 0), JMP_53), LAWENDEB_KIND_ONE, 3, 0));
-    CHECK(has(second_53(abc_53(EQ_53, 2, 0, 0), 0), LAWENDEB_KIND_INVALID, 0, 0));
-    CHECK(has(second_53(LOADKX_53, EXTRAARG_53), LAWENDEB_KIND_ONE, 3, 0));
-    CHECK(has(second_53(LOADKX_53, 0), LAWENDEB_KIND_INVALID, 0, 0));
-    CHECK(has(second_53(SETLIST_53, EXTRAARG_53), LAWENDEB_KIND_ONE, 3, 0));
-    CHECK(has(second_53(SETLIST_53, 0), LAWENDEB_KIND_INVALID, 0, 0));
-    CHECK(has(second_53(abc_53(SETLIST_53, 0, 0, 1), EXTRAARG_53), LAWENDEB_KIND_ONE, 2, 0));
-    CHECK(has(second_53(TFORCALL_53, TFORLOOP_53), LAWENDEB_KIND_ONE, 2, 0));
-    CHECK(has(second_53(TFORCALL_53, 0), LAWENDEB_KIND_INVALID, 0, 0));
-    CHECK(has(second_53(EXTRAARG_53, 0), LAWENDEB_KIND_INVALID, 0, 0));
-    CHECK(has(second_53(47, 0), LAWENDEB_KIND_INVALID, 0, 0));
-    CHECK(has(second_53(63, 0), LAWENDEB_KIND_INVALID, 0, 0));
-    /* where a C function returns; after the last word there is nothing */
-    CHECK(has(lawendeb_successors_53(tail, 2, 0), LAWENDEB_KIND_ONE, 1, 0));
-    CHECK(has(lawendeb_successors_53(tail, 2, 1), LAWENDEB_KIND_INVALID, 0, 0));
-    CHECK(has(lawendeb_successors_53(skip, 2, 0), LAWENDEB_KIND_INVALID, 0, 0));
-    CHECK(has(second_53(skip[0], 0), LAWENDEB_KIND_ONE, 3, 0));
-    CHECK(has(second_53(LOADBOOL_53, 0), LAWENDEB_KIND_ONE, 2, 0));
-    /* the other version's words: 38 is POW there, and the ADDI is a BOR here */
-    CHECK(has(lawendeb_successors(loop_53, 4, 3), LAWENDEB_KIND_INVALID, 0, 0));
-    CHECK(has(lawendeb_successors_53(sheet, 4, 1), LAWENDEB_KIND_ONE, 2, 0));
-}
-
-/* Weights for the loop: MOVE 20, RETURN 40, FORLOOP 30, FORPREP 10; 200 at all that no word of 5.3
-   weighs by. */
-static uint8_t weights_53[LAWENDEB_WEIGHTS];
-
-static struct lawendeb_run run_53(const uint8_t *weights, size_t weights_n, const uint32_t *words,
-                                  size_t n, size_t marks_n, size_t lengths_n) {
-    return lawendeb_longest_run_53(words, n, weights, weights_n, marks, marks_n, lengths,
-                                   lengths_n);
-}
-
-static void runs_53(void) {
-    enum { W = LAWENDEB_WEIGHTS };
-    const uint32_t sums[4] = {80, 90, 70, 40}, plain[4] = {3, 3, 2, 1};
-    uint8_t zero[W];
-    size_t i;
-    memset(weights_53, 1, sizeof weights_53);
-    memset(weights_53 + 64, 200, sizeof weights_53 - 64);
-    weights_53[0] = 20, weights_53[RETURN_53] = 40;
-    weights_53[FORLOOP_53] = 30, weights_53[FORPREP_53] = 10;
-    memset(zero, 1, sizeof zero);
-    zero[100] = 0;
-
-    lend();
-    CHECK(ran(run_53(ones, W, loop_53, 4, 6, 5), LAWENDEB_ACCEPTED, 0, 3, 0));
-    for (i = 0; i < 4; i++)
-        CHECK(marks[i] == 1 && lengths[i] == plain[i]);
-    CHECK(lent_from(4));
-    CHECK(ran(run_53(weights_53, W, loop_53, 4, 4, 4), LAWENDEB_ACCEPTED, 0, 90, 1));
-    for (i = 0; i < 4; i++)
-        CHECK(marks[i] == 1 && lengths[i] == sums[i]);
-    /* bit 6 is A's, and does not change what a word weighs */
-    {
-        uint32_t words[4];
-        for (i = 0; i < 4; i++)
-            words[i] = loop_53[i] | 64;
-        CHECK(ran(run_53(weights_53, W, words, 4, 4, 4), LAWENDEB_ACCEPTED, 0, 90, 1));
-    }
-    CHECK(ran(run_53(ones, W, above_53, 3, 4, 4), LAWENDEB_ACCEPTED, 0, 2, 0));
-    CHECK(marks[0] == 1 && marks[1] == 0 && marks[2] == 1);
-
-    lend();
-    many[LAWENDEB_MOST_WORDS - 1] = RETURN_53;
-    CHECK(ran(run_53(others, W, many, LAWENDEB_MOST_WORDS, MANY, MANY), LAWENDEB_ACCEPTED, 0,
-              255 * LAWENDEB_MOST_WORDS, 0));
-    CHECK(lent_from(LAWENDEB_MOST_WORDS));
-    many[LAWENDEB_MOST_WORDS - 1] = 0;
-
-    /* 1, 6, 18, 7 and 8, in this order; 18 looks at all the weights */
-    lend();
-    CHECK(ran(run_53(zero, W, many, MANY, 0, 0), LAWENDEB_TOO_MANY_WORDS, 0, 0, 0));
-    CHECK(ran(run_53(zero, W, loop_53, 4, 3, 4), LAWENDEB_SHORT_SLICE, 0, 0, 0));
-    CHECK(ran(run_53(zero, W, loop_53, 4, 4, 3), LAWENDEB_SHORT_SLICE, 0, 0, 0));
-    CHECK(ran(run_53(zero, W, loop_53, 4, 4, 4), LAWENDEB_WEIGHTS_REFUSED, 100, 0, 0));
-    CHECK(ran(run_53(zero, W, loop_53, 0, 4, 4), LAWENDEB_WEIGHTS_REFUSED, 100, 0, 0));
-    CHECK(ran(run_53(zero, W, unknown_53, 1, 4, 4), LAWENDEB_WEIGHTS_REFUSED, 100, 0, 0));
-    CHECK(ran(run_53(ones, 64, loop_53, 4, 4, 4), LAWENDEB_WEIGHTS_REFUSED, 0, 0, 0));
-    CHECK(ran(run_53(ones, W, loop_53, 0, 4, 4), LAWENDEB_NO_WORDS, 0, 0, 0));
-    CHECK(lent_from(0));
-    CHECK(ran(run_53(ones, W, unknown_53, 1, 4, 4), LAWENDEB_REACHES_INVALID, 0, 0, 0));
-    CHECK(marks[0] == 1 && lengths[0] == 0 && lent_from(1));
-    CHECK(ran(run_53(ones, W, loop_53, 3, 4, 4), LAWENDEB_REACHES_INVALID, 2, 0, 0));
-}
-
-static int feeds_53(struct lawendeb_meter *m, const uint32_t *words, size_t n, size_t q) {
-    return answered(lawendeb_feed_53(words, n, weights_53, LAWENDEB_WEIGHTS, m, q),
-                    LAWENDEB_ACCEPTED, 0);
-}
-
-static int refuses_53(const uint8_t *weights, size_t weights_n, struct lawendeb_meter m,
-                      const uint32_t *words, size_t n, size_t q, uint64_t number, uint64_t place) {
-    struct lawendeb_meter before = m;
-    return answered(lawendeb_feed_53(words, n, weights, weights_n, &m, q), number, place) &&
-           memcmp(&m, &before, sizeof m) == 0;
-}
-
-static void meters_53(void) {
-    enum { W = LAWENDEB_WEIGHTS };
-    const uint32_t odd[1] = {64};
-    const uint32_t back[2] = {0, jump_53(FORPREP_53, 0, -2)};
-    uint8_t zero[W];
-    struct lawendeb_meter m = meter_of(7, 7, 7, 40, 7777);
-    memset(zero, 1, sizeof zero);
-    zero[100] = 0;
-    lawendeb_begin(&m);
-    lawendeb_reset(&m);
-    CHECK(refuses_53(ones, W, m, loop_53, 4, 1, LAWENDEB_NO_STEP, 0));
-    CHECK(feeds_53(&m, loop_53, 4, 0) && shows(m, 1, 0, 10, 40));
-    CHECK(refuses_53(ones, W, m, loop_53, 4, 1, LAWENDEB_NO_STEP, 0));
-    CHECK(feeds_53(&m, loop_53, 4, 2) && shows(m, 1, 2, 40, 40) && m.highest == 40);
-    CHECK(feeds_53(&m, loop_53, 4, 1) && shows(m, 1, 1, 20, 41) && m.highest == 40);
-    CHECK(feeds_53(&m, loop_53, 4, 2) && shows(m, 1, 2, 50, 41));
-    CHECK(feeds_53(&m, loop_53, 4, 3) && shows(m, 1, 3, 90, 41) && m.highest == 90);
-    CHECK(refuses_53(ones, W, m, loop_53, 4, 0, LAWENDEB_NO_STEP, 0));
-    /* a MOVE with A 1 weighs what a MOVE weighs; FORPREP back serves */
-    m = meter(0, 0, 0, 0);
-    CHECK(feeds_53(&m, odd, 1, 0) && shows(m, 1, 0, 20, 0));
-    m = meter(1, 1, 30, 0);
-    CHECK(feeds_53(&m, back, 2, 0) && shows(m, 1, 0, 20, 1));
-    m = meter(0, 0, 0, 0);
-    CHECK(feeds_53(&m, above_53, 3, 0));
-    CHECK(refuses_53(ones, W, m, above_53, 3, 1, LAWENDEB_NO_STEP, 0));
-    CHECK(feeds_53(&m, above_53, 3, 2) && shows(m, 1, 2, 41, 0));
-    /* 1, 18, 11 and 10, in this order */
-    m = meter(1, 4, 1, 5);
-    CHECK(refuses_53(zero, W, m, many, MANY, 9, LAWENDEB_TOO_MANY_WORDS, 0));
-    CHECK(refuses_53(zero, W, m, loop_53, 4, 9, LAWENDEB_WEIGHTS_REFUSED, 100));
-    CHECK(refuses_53(ones, 64, m, loop_53, 4, 9, LAWENDEB_WEIGHTS_REFUSED, 0));
-    CHECK(refuses_53(ones, W, m, loop_53, 4, 9, LAWENDEB_FOREIGN_METER, 0));
-    CHECK(refuses_53(ones, W, meter_of(1, 3, 2, 5, 1), loop_53, 4, 9, LAWENDEB_FOREIGN_METER, 0));
-    CHECK(refuses_53(ones, W, meter(1, 3, 1, 5), loop_53, 4, 9, LAWENDEB_NO_STEP, 0));
-}
-
-static struct lawendeb_nearest nearest_53(const uint32_t *words, size_t n, size_t w) {
-    return lawendeb_distance_to_service_53(words, n, w, marks, n, lengths, n);
-}
-
-static struct lawendeb_crossed crossed_53(const uint32_t *words, size_t n, size_t w) {
-    return lawendeb_crossing_edges_53(words, n, w, marks, n, lengths, n);
-}
-
-static void services_53(void) {
-    const uint64_t fewest[4] = {2, 2, 1, 1}, over[4] = {0, 1, 0, 0};
-    const uint32_t left[4] = {3, 3, 2, 1};
-    size_t w;
-    for (w = 0; w < 4; w++) {
-        lend();
-        CHECK(nearest_is(nearest_53(loop_53, 4, w), LAWENDEB_ACCEPTED, 0, 1, fewest[w]));
-        CHECK(marks[w] == 1 && lengths[w] == left[w] && lent_from(4));
-        CHECK(crossed_is(crossed_53(loop_53, 4, w), LAWENDEB_ACCEPTED, 0, over[w]));
-    }
-    CHECK(nearest_is(nearest_53(loop_53, 4, 4), LAWENDEB_ACCEPTED, 0, 0, 0));
-    CHECK(crossed_is(crossed_53(loop_53, 4, SIZE_MAX), LAWENDEB_ACCEPTED, 0, 0));
-    CHECK(nearest_is(nearest_53(above_53, 3, 1), LAWENDEB_ACCEPTED, 0, 0, 0));
-    CHECK(crossed_is(crossed_53(above_53, 3, 1), LAWENDEB_ACCEPTED, 0, 1));
-    memset(list, 165, sizeof list);
-    CHECK(answered(lawendeb_list_within_53(loop_53, 4, 1, marks, 4, lengths, 4, list, 5),
-                   LAWENDEB_ACCEPTED, 0));
-    CHECK(list[0] == 0 && list[1] == 0 && list[2] == 1 && list[3] == 1 && list[4] == 165);
-
-    lend();
-    CHECK(nearest_is(nearest_53(many, MANY, 0), LAWENDEB_TOO_MANY_WORDS, 0, 0, 0));
-    CHECK(answered(lawendeb_list_within_53(loop_53, 4, 1, marks, 4, lengths, 4, list, 3),
-                   LAWENDEB_SHORT_SLICE, 0));
-    CHECK(crossed_is(crossed_53(loop_53, 0, 0), LAWENDEB_NO_WORDS, 0, 0));
-    CHECK(lent_from(0));
-    CHECK(crossed_is(crossed_53(unknown_53, 1, 0), LAWENDEB_REACHES_INVALID, 0, 0));
-    CHECK(nearest_is(nearest_53(loop_53, 3, 0), LAWENDEB_REACHES_INVALID, 2, 0, 0));
-}
-
-static void touches_53(void) {
-    const uint32_t k = 256;
-    const uint32_t words[14] = {
-        abc_53(0, 1, 300, 0),           abc_53(ADD_53, 3, k + 7, 5),
-        abc_53(GETTABUP_53, 9, 2, k),   abc_53(SETTABUP_53, 2, k + 6, k + 6),
-        abc_53(CALL_53, 7, 0, 0),       abc_53(LOADNIL_53, 255, 1, 0),
-        abc_53(LOADKX_53, 3, 0, 0),     EXTRAARG_53 + 64 * 67108863u,
-        jump_53(FORLOOP_53, 10, 2),     abc_53(SETLIST_53, 4, 0, 1),
-        abc_53(EQ_53, 1, 6, k + 255),   jump_53(JMP_53, 3, 0),
-        abc_53(EQ_53, 1, 6, k + 255),   abc_53(RETURN_53, 7, 3, 0)};
-    struct lawendeb_touched t;
-    t = lawendeb_touches_53(words, 14, 0);
-    CHECK(ranged(t.reads, 1, 300, 300) && ranged(t.writes, 1, 1, 1));
-    CHECK(nothing_else(t, 1, 0, 0, 1, 0));
-    /* RK: a constant above 255, else a register */
-    t = lawendeb_touches_53(words, 14, 1);
-    CHECK(ranged(t.reads, 1, 5, 5) && indexed(t.constants, 1, 7, 0) && ranged(t.writes, 1, 3, 3));
-    CHECK(indexed(t.upvalues, 0, 0, 0) && nothing_else(t, 1, 0, 1, 1, 0));
-    t = lawendeb_touches_53(words, 14, 2);
-    CHECK(indexed(t.constants, 1, 0, 0) && indexed(t.upvalues, 1, 2, 0));
-    CHECK(ranged(t.writes, 1, 9, 9) && nothing_else(t, 0, 0, 1, 1, 0));
-    t = lawendeb_touches_53(words, 14, 3);
-    CHECK(indexed(t.constants, 1, 6, 0) && indexed(t.upvalues, 1, 2, 0));
-    CHECK(indexed(t.upvalue_writes, 0, 0, 0) && nothing_else(t, 0, 0, 1, 0, 0));
-    t = lawendeb_touches_53(words, 14, 4);
-    CHECK(topped(t.reads_to_top, 1, 8) && topped(t.writes_to_top, 1, 7));
-    CHECK(ranged(t.reads, 1, 7, 7) && nothing_else(t, 1, 1, 0, 0, 0));
-    t = lawendeb_touches_53(words, 14, 5);
-    CHECK(ranged(t.writes, 1, 255, 256) && nothing_else(t, 0, 0, 0, 1, 0));
-    t = lawendeb_touches_53(words, 14, 6);
-    CHECK(indexed(t.constants, 1, 67108863, 0) && indexed(t.upvalues, 0, 0, 0));
-    CHECK(ranged(t.writes, 1, 3, 3) && nothing_else(t, 0, 0, 1, 1, 0));
-    /* the loop goes forward: what it writes is listed with that step */
-    t = lawendeb_touches_53(words, 14, 8);
-    CHECK(ranged(t.reads, 1, 10, 12) && t.edge == 11 && t.edge_writes.count == 2);
-    CHECK(t.edge_writes.items[0].first == 10 && t.edge_writes.items[0].last == 10);
-    CHECK(t.edge_writes.items[1].first == 13 && t.edge_writes.items[1].last == 13);
-    CHECK(nothing_else(t, 1, 0, 0, 0, 1));
-    t = lawendeb_touches_53(words, 14, 9);
-    CHECK(ranged(t.reads, 1, 4, 4) && topped(t.reads_to_top, 1, 5));
-    CHECK(topped(t.writes_to_top, 0, 0) && nothing_else(t, 1, 1, 0, 0, 0));
-    t = lawendeb_touches_53(words, 14, 10);
-    CHECK(ranged(t.reads, 1, 6, 6) && indexed(t.constants, 1, 255, 0));
-    CHECK(indexed(t.upvalues, 0, 0, 0) && nothing_else(t, 1, 0, 1, 0, 0));
-    t = lawendeb_touches_53(words, 14, 13);
-    CHECK(ranged(t.reads, 1, 7, 8) && nothing_else(t, 1, 0, 0, 0, 0));
-    /* closing is left out; bad: an EXTRAARG, a test without its JMP, none */
-    CHECK(nothing_else(lawendeb_touches_53(words, 14, 11), 0, 0, 0, 0, 0));
-    CHECK(nothing_else(lawendeb_touches_53(words, 14, 7), 0, 0, 0, 0, 0));
-    CHECK(nothing_else(lawendeb_touches_53(words, 14, 12), 0, 0, 0, 0, 0));
-    CHECK(nothing_else(lawendeb_touches_53(words, 14, 14), 0, 0, 0, 0, 0));
-    CHECK(nothing_else(lawendeb_touches_53(words, 0, 0), 0, 0, 0, 0, 0));
-}
-
-static struct lawendeb_run_range runs_by_53(const uint8_t *low, size_t low_n, const uint8_t *high,
-                                            size_t high_n, const uint32_t *words, size_t n) {
-    return lawendeb_longest_runs_53(words, n, low, low_n, high, high_n, marks, 4, lengths, 4);
-}
-
-/* Two tables, and four meters. */
-static void siblings_53(void) {
-    enum { W = LAWENDEB_WEIGHTS };
-    const struct lawendeb_meter fresh = meter(0, 0, 0, 0);
-    struct lawendeb_meters ms = four(fresh, fresh, fresh, fresh), before;
-    uint8_t zero[W];
-    memset(zero, 1, sizeof zero);
-    zero[100] = 0;
-    lend();
-    CHECK(ran_both(runs_by_53(ones, W, weights_53, W, loop_53, 4), 3, 0, 90, 1));
-    CHECK(lengths[0] == 80 && lengths[1] == 90 && lengths[2] == 70 && lengths[3] == 40);
-    CHECK(lent_from(4));
-    lend();
-    CHECK(refused_both(runs_by_53(ones, W, ones, W, many, MANY), LAWENDEB_TOO_MANY_WORDS, 0));
-    CHECK(refused_both(runs_by_53(zero, W, ones, W, many, 5), LAWENDEB_SHORT_SLICE, 0));
-    CHECK(refused_both(runs_by_53(zero, W, ones, 64, loop_53, 4), LAWENDEB_WEIGHTS_REFUSED, 100));
-    CHECK(refused_both(runs_by_53(others, W, zero, W, loop_53, 4), LAWENDEB_WEIGHTS_REFUSED, 100));
-    /* 19 looks at all of the tables, too */
-    zero[100] = 2;
-    CHECK(refused_both(runs_by_53(zero, W, ones, W, loop_53, 0), LAWENDEB_LOW_ABOVE_HIGH, 100));
-    CHECK(refused_both(runs_by_53(ones, W, ones, W, loop_53, 0), LAWENDEB_NO_WORDS, 0));
-    CHECK(lent_from(0));
-    CHECK(refused_both(runs_by_53(ones, W, ones, W, loop_53, 3), LAWENDEB_REACHES_INVALID, 2));
-
-    /* a script of each version, within one budget */
-    CHECK(answered(lawendeb_feed_four_53(loop_53, 4, weights_53, W, &ms, LAWENDEB_DOME, 10, 0),
-                   LAWENDEB_ACCEPTED, 0));
-    CHECK(shows(ms.of[LAWENDEB_DOME], 1, 0, 10, 0) && shows(ms.of[LAWENDEB_AXIS], 0, 0, 0, 0));
-    before = ms;
-    CHECK(answered(lawendeb_feed_four(sheet, 4, ones, W, &ms, LAWENDEB_AXIS, 10, 0),
-                   LAWENDEB_OVER_BUDGET, 0));
-    CHECK(answered(lawendeb_feed_four_53(loop_53, 4, weights_53, W, &ms, LAWENDEB_DOME, 39, 2),
-                   LAWENDEB_OVER_BUDGET, 0));
-    CHECK(answered(lawendeb_feed_four_53(loop_53, 4, weights_53, W, &ms, LAWENDEB_DOME, 99, 1),
-                   LAWENDEB_NO_STEP, 0));
-    zero[100] = 0;
-    CHECK(answered(lawendeb_feed_four_53(loop_53, 4, zero, W, &ms, LAWENDEB_DOME, 99, 2),
-                   LAWENDEB_WEIGHTS_REFUSED, 100));
-    CHECK(answered(lawendeb_feed_four_53(many, MANY, zero, W, &ms, LAWENDEB_DOME, 99, 2),
-                   LAWENDEB_TOO_MANY_WORDS, 0));
-    CHECK(answered(lawendeb_feed_four_53(many, MANY, zero, W, &ms, LAWENDEB_DOME, 0, 2),
-                   LAWENDEB_BUDGET_RANGE, 0));
-    CHECK(answered(lawendeb_feed_four_53(many, MANY, zero, W, &ms, 4, 0, 2), LAWENDEB_NO_SCRIPT,
-                   0));
-    CHECK(same_four(ms, before));
-    CHECK(answered(lawendeb_feed_four(sheet, 4, ones, W, &ms, LAWENDEB_AXIS, 11, 0),
-                   LAWENDEB_ACCEPTED, 0));
-    CHECK(answered(lawendeb_feed_four_53(loop_53, 4, weights_53, W, &ms, LAWENDEB_DOME, 41, 2),
-                   LAWENDEB_ACCEPTED, 0));
-    CHECK(shows(ms.of[LAWENDEB_AXIS], 1, 0, 1, 0) && shows(ms.of[LAWENDEB_DOME], 1, 2, 40, 0));
-    ms.of[LAWENDEB_DOME].last = 4;
-    before = ms;
-    CHECK(answered(lawendeb_feed_four_53(loop_53, 4, ones, W, &ms, LAWENDEB_DOME, 1, 9),
-                   LAWENDEB_FOREIGN_METER, 0));
-    CHECK(same_four(ms, before));
-}
-
-/* ---- the words of a longest run */
-
-static void witness(void) {
-    /* a test whose two ways to the RETURN0 have a word each, a JMP and a MOVE */
-    const uint32_t even[4] = {57, word_jump(1), 0, RETURN0};
-    const uint32_t even_53[4] = {31, 2147483678u, 0, 8388646};
-    uint32_t path[5];
-    uint8_t heavy[LAWENDEB_WEIGHTS];
-    struct lawendeb_path r;
-    memset(path, 165, sizeof path);
-    r = lawendeb_longest_path(even, 4, ones, LAWENDEB_WEIGHTS, marks, 4, lengths, 4, path, 5);
-    CHECK(r.number == LAWENDEB_ACCEPTED && r.place == 0 && r.longest == 3 && r.first == 0);
-    /* of two that are equal the lower */
-    CHECK(r.count == 3 && path[0] == 0 && path[1] == 1 && path[2] == 3);
-    CHECK(path[3] == 2779096485u && path[4] == 2779096485u);
-    CHECK(lengths[0] == 3 && lengths[1] == 2 && lengths[2] == 2 && lengths[3] == 1);
-    memset(heavy, 1, sizeof heavy);
-    heavy[0] = 2;
-    r = lawendeb_longest_path(even, 4, heavy, LAWENDEB_WEIGHTS, marks, 4, lengths, 4, path, 5);
-    CHECK(r.longest == 4 && r.count == 3 && path[1] == 2);
-    memset(path, 165, sizeof path);
-    r = lawendeb_longest_path(even, 4, ones, LAWENDEB_WEIGHTS, marks, 4, lengths, 4, path, 3);
-    CHECK(r.number == LAWENDEB_SHORT_SLICE && r.count == 0 && path[0] == 2779096485u);
-    r = lawendeb_longest_path(many, MANY, ones, LAWENDEB_WEIGHTS, marks, 4, lengths, 4, path, 3);
-    CHECK(r.number == LAWENDEB_TOO_MANY_WORDS && r.count == 0 && path[0] == 2779096485u);
-    r = lawendeb_longest_path(unknown, 1, ones, LAWENDEB_WEIGHTS, marks, 4, lengths, 4, path, 5);
-    CHECK(r.number == LAWENDEB_REACHES_INVALID && r.place == 0 && path[0] == 2779096485u);
-    /* Lua 5.3: EQ, JMP over the MOVE, MOVE, RETURN */
-    r = lawendeb_longest_path_53(even_53, 4, ones, LAWENDEB_WEIGHTS, marks, 4, lengths, 4, path, 5);
-    CHECK(r.number == LAWENDEB_ACCEPTED && r.longest == 3 && r.first == 0 && r.count == 3);
-    CHECK(path[0] == 0 && path[1] == 1 && path[2] == 3 && path[3] == 2779096485u);
-}
-
-/* ---- all functions of a compiled script */
-
-static void whole_chunks(void) {
-    uint64_t places[2] = {9, 9}, parents[2] = {9, 9};
-    uint32_t words[2] = {9, 9}, lines[2] = {9, 9};
-    struct lawendeb_listed l = lawendeb_chunk_functions(chunk, SIZE);
-    struct lawendeb_head h, g;
-    CHECK(l.number == LAWENDEB_ACCEPTED && l.place == 0 && l.functions == 1);
-    l = lawendeb_chunk_index(chunk, SIZE, places, 0, parents, 2);
-    CHECK(l.number == LAWENDEB_SHORT_SLICE && l.functions == 0 && parents[0] == 9);
-    l = lawendeb_chunk_index(chunk, SIZE - 1, places, 2, parents, 2);
-    CHECK(l.number == LAWENDEB_MALFORMED_CHUNK && l.functions == 0 && places[0] == 9);
-    l = lawendeb_chunk_index(chunk, SIZE, places, 2, parents, 2);
-    CHECK(l.number == LAWENDEB_ACCEPTED && l.functions == 1);
-    CHECK(places[0] == 32 && places[1] == 9);
-    CHECK(parents[0] == LAWENDEB_NO_FUNCTION && parents[1] == 9);
-
-    CHECK(counted(lawendeb_chunk_words_at(chunk, SIZE, 32, words, 2), 0, 0, 1, 1, 1));
-    CHECK(words[0] == 65607 && words[1] == 9);
-    CHECK(counted(lawendeb_chunk_words_at(chunk, SIZE, SIZE, words, 2), LAWENDEB_MALFORMED_CHUNK,
-                  0, 0, 0, 0));
-    /* a stripped chunk has no lines and no source */
-    CHECK(counted(lawendeb_chunk_lines(chunk, SIZE, 0, lines, 2), 0, 0, 1, 1, 1));
-    CHECK(lines[0] == 0 && lines[1] == 9);
-    CHECK(counted(lawendeb_chunk_lines_at(chunk, SIZE, 32, lines, 0), LAWENDEB_SHORT_SLICE, 0, 0,
-                  0, 0));
-    h = lawendeb_chunk_head(chunk, SIZE, 0);
-    g = lawendeb_chunk_head_at(chunk, SIZE, 32);
-    CHECK(h.number == LAWENDEB_ACCEPTED && h.source == LAWENDEB_UNNAMED && h.linedefined == 0);
-    CHECK(h.numparams == 0 && h.is_vararg == 1 && h.maxstacksize == 2);
-    CHECK(memcmp(&h, &g, sizeof h) == 0);
-    CHECK(lawendeb_chunk_head(chunk, SIZE, 1).number == LAWENDEB_MALFORMED_CHUNK);
-}
-
-/* ---- null, with a length of 0
-
-   An access through null stops the program, and what the archives clear comes here first:
-   examples/calls links with --wrap=memset. */
-
-static unsigned cleared, cleared_null;
-
-#ifdef __cplusplus
-extern "C" {
-#endif
-void *__real_memset(void *at, int byte, size_t n);
-void *__wrap_memset(void *at, int byte, size_t n);
-#ifdef __cplusplus
-}
-#endif
-
-void *__wrap_memset(void *at, int byte, size_t n) {
-    cleared++;
-    cleared_null += at == NULL;
-    return __real_memset(at, byte, n);
-}
-
 /* The functions that are there for both versions. */
 struct version {
-    const uint32_t *words; /* four, accepted */
     struct lawendeb_steps (*successors)(const uint32_t *, size_t, size_t);
     struct lawendeb_touched (*touches)(const uint32_t *, size_t, size_t);
     struct lawendeb_run (*run)(const uint32_t *, size_t, const uint8_t *, size_t, uint8_t *, size_t,
@@ -1676,6 +37,8 @@ struct version {
     struct lawendeb_run_range (*runs)(const uint32_t *, size_t, const uint8_t *, size_t,
                                       const uint8_t *, size_t, uint8_t *, size_t, uint32_t *,
                                       size_t);
+    struct lawendeb_path (*path)(const uint32_t *, size_t, const uint8_t *, size_t, uint8_t *,
+                                 size_t, uint32_t *, size_t, uint32_t *, size_t);
     struct lawendeb_answer (*feed)(const uint32_t *, size_t, const uint8_t *, size_t,
                                    struct lawendeb_meter *, size_t);
     struct lawendeb_answer (*feed_four)(const uint32_t *, size_t, const uint8_t *, size_t,
@@ -1688,191 +51,1339 @@ struct version {
                                        uint32_t *, size_t);
 };
 
-static void nulls_of(const struct version *v) {
-    enum { W = LAWENDEB_WEIGHTS };
-    const uint32_t *words = v->words;
-    struct lawendeb_meter m = meter(0, 0, 0, 0);
-    struct lawendeb_meters ms = four(m, m, m, m);
-    lend();
-    memset(list, 165, sizeof list);
-    CHECK(has(v->successors(NULL, 0, 0), LAWENDEB_KIND_INVALID, 0, 0));
-    CHECK(nothing_else(v->touches(NULL, 0, 0), 0, 0, 0, 0, 0));
-    /* nothing at all; words; weights; marks; lengths; all but the weights */
-    CHECK(ran(v->run(NULL, 0, NULL, 0, NULL, 0, NULL, 0), LAWENDEB_WEIGHTS_REFUSED, 0, 0, 0));
-    CHECK(ran(v->run(NULL, 0, ones, W, marks, 4, lengths, 4), LAWENDEB_NO_WORDS, 0, 0, 0));
-    CHECK(ran(v->run(words, 4, NULL, 0, marks, 4, lengths, 4), LAWENDEB_WEIGHTS_REFUSED, 0, 0, 0));
-    CHECK(ran(v->run(words, 4, ones, W, NULL, 0, lengths, 4), LAWENDEB_SHORT_SLICE, 0, 0, 0));
-    CHECK(ran(v->run(words, 4, ones, W, marks, 4, NULL, 0), LAWENDEB_SHORT_SLICE, 0, 0, 0));
-    CHECK(ran(v->run(NULL, 0, ones, W, NULL, 0, NULL, 0), LAWENDEB_NO_WORDS, 0, 0, 0));
-    CHECK(refused_both(v->runs(NULL, 0, NULL, 0, NULL, 0, NULL, 0, NULL, 0),
-                       LAWENDEB_WEIGHTS_REFUSED, 0));
-    CHECK(refused_both(v->runs(NULL, 0, ones, W, ones, W, NULL, 0, NULL, 0), LAWENDEB_NO_WORDS, 0));
-    CHECK(refused_both(v->runs(words, 4, NULL, 0, ones, W, marks, 4, lengths, 4),
-                       LAWENDEB_WEIGHTS_REFUSED, 0));
-    CHECK(refused_both(v->runs(words, 4, ones, W, NULL, 0, marks, 4, lengths, 4),
-                       LAWENDEB_WEIGHTS_REFUSED, 0));
-    CHECK(refused_both(v->runs(words, 4, ones, W, ones, W, NULL, 0, lengths, 4),
-                       LAWENDEB_SHORT_SLICE, 0));
-    CHECK(refused_both(v->runs(words, 4, ones, W, ones, W, marks, 4, NULL, 0),
-                       LAWENDEB_SHORT_SLICE, 0));
-    CHECK(answered(v->feed(NULL, 0, ones, W, &m, 0), LAWENDEB_NO_STEP, 0));
-    CHECK(answered(v->feed(words, 4, NULL, 0, &m, 0), LAWENDEB_WEIGHTS_REFUSED, 0));
-    CHECK(answered(v->feed(NULL, 0, NULL, 0, &m, 0), LAWENDEB_WEIGHTS_REFUSED, 0));
-    CHECK(answered(v->feed_four(NULL, 0, ones, W, &ms, 0, 9, 0), LAWENDEB_NO_STEP, 0));
-    CHECK(answered(v->feed_four(words, 4, NULL, 0, &ms, 0, 9, 0), LAWENDEB_WEIGHTS_REFUSED, 0));
-    CHECK(answered(v->feed_four(NULL, 0, NULL, 0, &ms, 0, 9, 0), LAWENDEB_WEIGHTS_REFUSED, 0));
-    CHECK(nearest_is(v->nearest(NULL, 0, 0, NULL, 0, NULL, 0), LAWENDEB_NO_WORDS, 0, 0, 0));
-    CHECK(nearest_is(v->nearest(words, 4, 0, NULL, 0, lengths, 4), LAWENDEB_SHORT_SLICE, 0, 0, 0));
-    CHECK(nearest_is(v->nearest(words, 4, 0, marks, 4, NULL, 0), LAWENDEB_SHORT_SLICE, 0, 0, 0));
-    CHECK(crossed_is(v->crossed(NULL, 0, 0, NULL, 0, NULL, 0), LAWENDEB_NO_WORDS, 0, 0));
-    CHECK(crossed_is(v->crossed(words, 4, 0, NULL, 0, lengths, 4), LAWENDEB_SHORT_SLICE, 0, 0));
-    CHECK(crossed_is(v->crossed(words, 4, 0, marks, 4, NULL, 0), LAWENDEB_SHORT_SLICE, 0, 0));
-    CHECK(answered(v->within(NULL, 0, 9, NULL, 0, NULL, 0, NULL, 0), LAWENDEB_NO_WORDS, 0));
-    CHECK(answered(v->within(words, 4, 9, NULL, 0, lengths, 4, list, 4), LAWENDEB_SHORT_SLICE, 0));
-    CHECK(answered(v->within(words, 4, 9, marks, 4, NULL, 0, list, 4), LAWENDEB_SHORT_SLICE, 0));
-    CHECK(answered(v->within(words, 4, 9, marks, 4, lengths, 4, NULL, 0), LAWENDEB_SHORT_SLICE, 0));
-    CHECK(lent_from(0) && list[0] == 165);
+static const struct version lua54 = {lawendeb_successors,   lawendeb_touches,
+                                     lawendeb_longest_run,  lawendeb_longest_runs,
+                                     lawendeb_longest_path, lawendeb_feed,
+                                     lawendeb_feed_four,    lawendeb_distance_to_service,
+                                     lawendeb_list_within,  lawendeb_crossing_edges};
+static const struct version lua53 = {lawendeb_successors_53,   lawendeb_touches_53,
+                                     lawendeb_longest_run_53,  lawendeb_longest_runs_53,
+                                     lawendeb_longest_path_53, lawendeb_feed_53,
+                                     lawendeb_feed_four_53,    lawendeb_distance_to_service_53,
+                                     lawendeb_list_within_53,  lawendeb_crossing_edges_53};
+
+/* ---- a question, read as crate `vectors` reads it: parts, and lists that are lent between guards
+ */
+
+enum { PAGE = 65536, PARTS = 12, LISTS = 24, GUARD = 64, LENT = 165 };
+
+static char questions[PAGE + 1], stored[PAGE + 1], said[PAGE];
+static size_t said_n;
+static const char *parts[PARTS];
+static const struct version *v;
+
+/* What is lent, `bytes` of it behind a guard; the part of a list that nobody writes, else null. */
+static struct {
+    unsigned char *at;
+    size_t bytes, size;
+    const char *kept;
+} lists[LISTS];
+static size_t lists_n;
+
+/* Lends, everything LENT. */
+static void *lend(size_t n, size_t size, const char *kept) {
+    unsigned char *at = (unsigned char *)malloc(n * size + 2 * GUARD);
+    if (at == NULL || lists_n == LISTS) {
+        puts("calls: no memory");
+        exit(2);
+    }
+    memset(at, LENT, n * size + 2 * GUARD);
+    lists[lists_n].at = at, lists[lists_n].bytes = n * size;
+    lists[lists_n].size = size, lists[lists_n++].kept = kept;
+    return at + GUARD;
 }
 
+/* Puts a list's numbers, each of so many bytes, and counts them; none is put to null. */
+static size_t put(void *to, size_t size, const char *list) {
+    size_t n = 0;
+    while (*list != 0) {
+        char *end;
+        uint64_t times = 1, x;
+        if (*list < '0' || *list > '9') {
+            list++;
+            continue;
+        }
+        x = strtoull(list, &end, 10);
+        if (*end == '*')
+            times = x, x = strtoull(end + 1, &end, 10);
+        for (list = end; times > 0; times--, n++) {
+            if (to != NULL && size == 1)
+                ((uint8_t *)to)[n] = (uint8_t)x;
+            if (to != NULL && size == 4)
+                ((uint32_t *)to)[n] = (uint32_t)x;
+            if (to != NULL && size == 8)
+                ((uint64_t *)to)[n] = x;
+        }
+    }
+    return n;
+}
+
+static int is_lent(const unsigned char *at, size_t n) {
+    for (; n > 0; n--)
+        if (*at++ != LENT)
+            return 0;
+    return 1;
+}
+
+/* Takes back: whether the guards stand, and each list that nobody writes is as it was. */
+static int taken_back(void) {
+    int holds = 1;
+    while (lists_n > 0) {
+        const size_t i = --lists_n, bytes = lists[i].bytes;
+        unsigned char *at = lists[i].at;
+        holds &= is_lent(at, GUARD) && is_lent(at + GUARD + bytes, GUARD);
+        if (lists[i].kept != NULL) {
+            void *again = malloc(bytes + 1);
+            if (again != NULL)
+                put(again, lists[i].size, lists[i].kept);
+            holds &= again != NULL && memcmp(again, at + GUARD, bytes) == 0;
+            free(again);
+        }
+        free(at);
+    }
+    return holds;
+}
+
+struct bytes {
+    uint8_t *at;
+    size_t n;
+};
+struct words {
+    uint32_t *at;
+    size_t n;
+};
+struct numbers {
+    uint64_t *at;
+    size_t n;
+};
+#define THESE(list) (list).at, (list).n
+
+/* Part k of the line as a list, only read or written; and as a number. */
+enum { READ, WRITTEN };
+
+static void *list(int k, size_t size, int how, size_t *n) {
+    void *at;
+    *n = put(NULL, size, parts[k]);
+    at = lend(*n, size, how == READ ? parts[k] : NULL);
+    put(at, size, parts[k]);
+    return at;
+}
+static struct bytes bytes_of(int k, int how) {
+    struct bytes l;
+    l.at = (uint8_t *)list(k, 1, how, &l.n);
+    return l;
+}
+static struct words words_of(int k, int how) {
+    struct words l;
+    l.at = (uint32_t *)list(k, 4, how, &l.n);
+    return l;
+}
+static struct numbers numbers_of(int k, int how) {
+    struct numbers l;
+    l.at = (uint64_t *)list(k, 8, how, &l.n);
+    return l;
+}
+static uint64_t number(int k) {
+    return strtoull(parts[k], NULL, 10);
+}
+static uint32_t small(int k) {
+    return (uint32_t)number(k);
+}
+
+/* ---- what is printed, as the test programs print it */
+
+static void say(const char *text) {
+    const size_t n = strlen(text);
+    if (said_n + n < PAGE)
+        memcpy(said + said_n, text, n + 1), said_n += n;
+}
+static void say_number(uint64_t x) {
+    char text[24];
+    snprintf(text, sizeof text, " %llu", (unsigned long long)x);
+    say(text);
+}
+static void say_two(uint64_t x, uint64_t y) {
+    say_number(x), say_number(y);
+}
+static void refused(uint64_t k, uint64_t place) {
+    say(" refused"), say_two(k, place);
+}
+static void accepted(struct lawendeb_answer a) {
+    if (a.number != 0)
+        refused(a.number, a.place);
+    else
+        say(" accepted");
+    CHECK(a.number != 0 || a.place == 0);
+}
+
+/* Of more than 128 elements only the first and the last five. */
+static int is_shown(size_t i, size_t n) {
+    return n <= 128 || i == 0 || n - i <= 5;
+}
+static void say_bytes(const char *label, struct bytes l) {
+    size_t i;
+    say(label);
+    for (i = 0; i < l.n; i++)
+        if (is_shown(i, l.n))
+            say_number(l.at[i]);
+}
+static void say_words(const char *label, struct words l) {
+    size_t i;
+    say(label);
+    for (i = 0; i < l.n; i++)
+        if (is_shown(i, l.n))
+            say_number(l.at[i]);
+}
+static void say_numbers(const char *label, struct numbers l) {
+    size_t i;
+    say(label);
+    for (i = 0; i < l.n; i++)
+        say_number(l.at[i]);
+}
+static void slices(struct bytes marks, struct words lengths) {
+    say_bytes(" marks", marks), say_words(" lengths", lengths);
+}
+
+/* ---- steps and runs */
+
+static void step(void) {
+    struct words w = words_of(2, READ);
+    struct lawendeb_steps s = v->successors(THESE(w), number(3));
+    if (s.kind == LAWENDEB_KIND_INVALID)
+        say(" bad");
+    if (s.kind == LAWENDEB_KIND_STOP)
+        say(" none");
+    if (s.kind == LAWENDEB_KIND_ONE)
+        say_number(s.first);
+    if (s.kind == LAWENDEB_KIND_TWO)
+        say_two(s.first, s.second);
+    CHECK((s.kind >= LAWENDEB_KIND_ONE || s.first == 0) &&
+          (s.kind == LAWENDEB_KIND_TWO || s.second == 0));
+}
+
+/* Both slices of one list each, and of the same list again. */
+static int same_slices(struct bytes marks, struct words lengths, struct bytes m, struct words l) {
+    return memcmp(marks.at, m.at, m.n) == 0 && memcmp(lengths.at, l.at, 4 * l.n) == 0;
+}
+
+/* A run; by its weights as both tables, too. */
+static void run(void) {
+    struct words w = words_of(2, READ), lengths = words_of(5, WRITTEN), l = words_of(5, WRITTEN);
+    struct bytes weights = bytes_of(3, READ), marks = bytes_of(4, WRITTEN),
+                 m = bytes_of(4, WRITTEN);
+    struct lawendeb_run r = v->run(THESE(w), THESE(weights), THESE(marks), THESE(lengths));
+    struct lawendeb_run_range both =
+        v->runs(THESE(w), THESE(weights), THESE(weights), THESE(m), THESE(l));
+    if (r.number != 0)
+        refused(r.number, r.place);
+    else
+        say(" accepted"), say_two(r.longest, r.first);
+    slices(marks, lengths);
+    CHECK(r.number == 0 ? r.place == 0 : r.longest == 0 && r.first == 0);
+    CHECK(both.number == r.number && both.place == r.place && both.low_longest == r.longest &&
+          both.low_first == r.first && both.high_longest == r.longest &&
+          both.high_first == r.first && same_slices(marks, lengths, m, l));
+}
+
+static void runs(void) {
+    struct words w = words_of(2, READ), lengths = words_of(6, WRITTEN);
+    struct bytes low = bytes_of(3, READ), high = bytes_of(4, READ), marks = bytes_of(5, WRITTEN);
+    struct lawendeb_run_range r =
+        v->runs(THESE(w), THESE(low), THESE(high), THESE(marks), THESE(lengths));
+    if (r.number != 0) {
+        refused(r.number, r.place);
+        CHECK(!(r.low_longest | r.low_first | r.high_longest | r.high_first));
+    } else {
+        say(" accepted");
+        say_two(r.low_longest, r.low_first), say_two(r.high_longest, r.high_first);
+        CHECK(r.place == 0);
+    }
+    slices(marks, lengths);
+}
+
+/* A path; unless it is too short its run is that of the same slices. */
+static void path(void) {
+    struct words w = words_of(2, READ), lengths = words_of(5, WRITTEN), l = words_of(5, WRITTEN);
+    struct bytes weights = bytes_of(3, READ), marks = bytes_of(4, WRITTEN),
+                 m = bytes_of(4, WRITTEN);
+    struct words p = words_of(6, WRITTEN);
+    struct lawendeb_path r =
+        v->path(THESE(w), THESE(weights), THESE(marks), THESE(lengths), THESE(p));
+    if (r.number != 0)
+        refused(r.number, r.place);
+    else
+        say(" accepted"), say_two(r.longest, r.first), say_number(r.count);
+    say_words(" path", p);
+    CHECK(r.number == 0 ? r.place == 0 : !(r.longest | r.first | r.count));
+    if (r.number != LAWENDEB_SHORT_SLICE) {
+        struct lawendeb_run a = v->run(THESE(w), THESE(weights), THESE(m), THESE(l));
+        CHECK(a.number == r.number && a.place == r.place && a.longest == r.longest &&
+              a.first == r.first);
+    }
+    CHECK(same_slices(marks, lengths, m, l));
+}
+
+static void path_53(void) {
+    v = &lua53;
+    path();
+}
+
+/* ---- nearest service and crossing steps; of a refusal the cases of 5.3 print no number */
+
+static void turned_away(uint64_t k, uint64_t place) {
+    if (v == &lua53)
+        say(" refused");
+    else
+        refused(k, place);
+}
+
+static void nearest(struct words w, uint64_t at, struct bytes marks, struct words lengths) {
+    struct lawendeb_nearest a = v->nearest(THESE(w), at, THESE(marks), THESE(lengths));
+    if (a.number != 0)
+        turned_away(a.number, a.place);
+    else if (a.found == 1)
+        say_number(a.fewest);
+    else
+        say(" -");
+    CHECK((a.number != 0 || a.place == 0) && a.found <= (a.number == 0) &&
+          (a.found == 1 || a.fewest == 0));
+}
+
+static void crossed(struct words w, uint64_t at, struct bytes marks, struct words lengths) {
+    struct lawendeb_crossed a = v->crossed(THESE(w), at, THESE(marks), THESE(lengths));
+    if (a.number != 0)
+        turned_away(a.number, a.place);
+    else
+        say_number(a.count);
+    CHECK(a.number == 0 ? a.place == 0 : a.count == 0);
+}
+
+static void listed(struct words w, uint64_t d, struct bytes marks, struct words lengths,
+                   struct bytes l) {
+    struct lawendeb_answer a = v->within(THESE(w), d, THESE(marks), THESE(lengths), THESE(l));
+    if (v == &lua53)
+        say_number(a.number), say(":");
+    else if (a.number != 0)
+        refused(a.number, a.place);
+    else
+        say(" listed");
+    say_bytes("", l), slices(marks, lengths);
+    CHECK(a.number != 0 || a.place == 0);
+}
+
+static void distances(void) {
+    struct words w = words_of(2, READ), lengths = words_of(5, WRITTEN);
+    struct numbers at = numbers_of(3, READ);
+    struct bytes marks = bytes_of(4, WRITTEN);
+    size_t i;
+    for (i = 0; i < at.n; i++)
+        nearest(w, at.at[i], marks, lengths);
+    if (v == &lua54)
+        slices(marks, lengths);
+}
+
+static void crossings(void) {
+    struct words w = words_of(2, READ), lengths = words_of(5, WRITTEN);
+    struct numbers at = numbers_of(3, READ);
+    struct bytes marks = bytes_of(4, WRITTEN);
+    size_t i;
+    for (i = 0; i < at.n; i++)
+        crossed(w, at.at[i], marks, lengths);
+    if (v == &lua54)
+        slices(marks, lengths);
+}
+
+static void within(void) {
+    struct words w = words_of(2, READ), lengths = words_of(5, WRITTEN);
+    struct bytes marks = bytes_of(4, WRITTEN), l = bytes_of(6, WRITTEN);
+    listed(w, number(3), marks, lengths, l);
+}
+
+static void all(void) {
+    struct words w = words_of(2, READ), lengths = words_of(7, WRITTEN);
+    struct bytes marks = bytes_of(6, WRITTEN), l = bytes_of(8, WRITTEN);
+    nearest(w, number(3), marks, lengths);
+    crossed(w, number(4), marks, lengths);
+    listed(w, number(5), marks, lengths, l);
+}
+
+/* ---- meters, one and four; each list of numbers is a struct's */
+
+static struct lawendeb_meter *meter(int k) {
+    struct words l = words_of(k, WRITTEN);
+    CHECK(l.n == 5);
+    return (struct lawendeb_meter *)(void *)l.at;
+}
+static struct lawendeb_meters *meters(int k) {
+    struct words l = words_of(k, WRITTEN);
+    CHECK(l.n == 20);
+    return (struct lawendeb_meters *)(void *)l.at;
+}
+
+static void say_meter(const struct lawendeb_meter *m) {
+    say(";"), say_two(m->begun, m->last), say_two(m->count, m->services), say_number(m->highest);
+}
+static void say_four(const struct lawendeb_meters *ms) {
+    int i;
+    for (i = LAWENDEB_AXIS; i <= LAWENDEB_GUIDER; i++)
+        say_meter(&ms->of[i]);
+}
+
+/* An answer, and a place if there is one. */
+static void say_answer(struct lawendeb_answer a) {
+    say_number(a.number);
+    if (a.place != 0)
+        say(" at"), say_number(a.place);
+}
+
+/* A feed; and of this meter as one of four, within a budget that it can't be above. */
+static void feed(void) {
+    struct words w = words_of(2, READ);
+    struct bytes weights = bytes_of(3, READ);
+    struct lawendeb_meter *m = meter(4);
+    struct lawendeb_meters ms, others;
+    struct lawendeb_answer a, b;
+    memset(&others, 0, sizeof others);
+    others.of[LAWENDEB_DOME] = *m, ms = others;
+    a = v->feed(THESE(w), THESE(weights), m, number(5));
+    b = v->feed_four(THESE(w), THESE(weights), &ms, LAWENDEB_DOME, LAWENDEB_MOST_BUDGET, number(5));
+    others.of[LAWENDEB_DOME] = *m;
+    CHECK(a.number == b.number && a.place == b.place && memcmp(&ms, &others, sizeof ms) == 0);
+    if (v == &lua53)
+        accepted(a);
+    else
+        say_answer(a);
+    say_meter(m);
+}
+
+/* Words 0 to the last, with the last answer that was a refusal. */
+static void straight(void) {
+    struct words w = words_of(2, READ);
+    struct bytes weights = bytes_of(3, READ);
+    struct lawendeb_meter *m = meter(4);
+    struct lawendeb_answer a = {0, 0};
+    size_t q;
+    for (q = 0; q < w.n; q++) {
+        struct lawendeb_answer b = v->feed(THESE(w), THESE(weights), m, q);
+        if (b.number != 0)
+            a = b;
+    }
+    say_answer(a), say_meter(m);
+}
+
+static void begin(void) {
+    struct lawendeb_meter *m = meter(2);
+    lawendeb_begin(m);
+    say_meter(m);
+}
+static void reset(void) {
+    struct lawendeb_meter *m = meter(2);
+    lawendeb_reset(m);
+    say_meter(m);
+}
+
+static void feed_four(void) {
+    struct words w = words_of(2, READ);
+    struct bytes weights = bytes_of(3, READ);
+    struct lawendeb_meters *ms = meters(4);
+    say_answer(v->feed_four(THESE(w), THESE(weights), ms, small(5), small(6), number(7)));
+    say_four(ms);
+}
+static void begin_four(void) {
+    struct lawendeb_meters *ms = meters(2);
+    say_answer(lawendeb_begin_four(ms, small(3)));
+    say_four(ms);
+}
+static void reset_four(void) {
+    struct lawendeb_meters *ms = meters(2);
+    say_answer(lawendeb_reset_four(ms, small(3)));
+    say_four(ms);
+}
+
+/* ---- what a word touches; places past a count hold 0 */
+
+static void say_ranges(const char *label, struct lawendeb_ranges r) {
+    int i, rest = 0;
+    for (i = 0; i < 3; i++)
+        if (i < r.count) {
+            say(i == 0 ? label : "");
+            say_number(r.items[i].first), say(" to"), say_number(r.items[i].last);
+        } else {
+            rest |= r.items[i].first | r.items[i].last;
+        }
+    CHECK(r.count <= 3 && rest == 0);
+}
+static void say_top(const char *label, struct lawendeb_top t) {
+    if (t.count > 0)
+        say(label), say_number(t.first), say(" up to the top");
+    CHECK(t.count == 1 || (t.count | t.first) == 0);
+}
+static void say_indices(const char *label, struct lawendeb_indices r) {
+    uint32_t i, rest = 0;
+    for (i = 0; i < 3; i++)
+        if (i < r.count)
+            say(i == 0 ? label : ""), say_number(r.items[i]);
+        else
+            rest |= r.items[i];
+    CHECK(r.count <= 3 && rest == 0);
+}
+
+static void touches(void) {
+    struct words w = words_of(2, READ);
+    struct lawendeb_touched t = v->touches(THESE(w), number(3));
+    say(":");
+    say_ranges(" reads", t.reads), say_top(" reads from", t.reads_to_top);
+    say_indices(" constants", t.constants), say_indices(" upvalues", t.upvalues);
+    say_ranges(" writes", t.writes), say_top(" writes from", t.writes_to_top);
+    say_indices(" upvalue writes", t.upvalue_writes), say_ranges(" writes", t.edge_writes);
+    if (t.edge_writes.count > 0)
+        say(" on the way to"), say_number(t.edge);
+    else
+        CHECK(t.edge == 0);
+}
+
+static void touches_53(void) {
+    v = &lua53;
+    touches();
+}
+
+/* ---- registers set before use, and rehearsals */
+
+static void assignment(void) {
+    struct words w = words_of(2, READ);
+    struct bytes marks = bytes_of(4, WRITTEN);
+    accepted(lawendeb_definite_assignment(THESE(w), (uint8_t)number(3), THESE(marks)));
+    say_bytes(" marks", marks);
+}
+
+/* By seventeen parameters, and by a struct, which must answer and leave the same. */
+static void rehearsal(void) {
+    struct words w[LAWENDEB_MOST_SCRIPTS], lengths = words_of(11, WRITTEN),
+                                           l = words_of(11, WRITTEN);
+    struct bytes choices = bytes_of(8, READ), marks = bytes_of(10, WRITTEN),
+                 m = bytes_of(10, WRITTEN);
+    struct lawendeb_rotation r;
+    struct lawendeb_rehearsal a, b;
+    int i;
+    for (i = 0; i < LAWENDEB_MOST_SCRIPTS; i++) {
+        w[i] = words_of(2 + i, READ);
+        r.scripts[i].at = w[i].at, r.scripts[i].n = w[i].n;
+    }
+    r.count = number(6), r.q = small(7), r.limit = small(9);
+    r.choices = choices.at, r.choices_n = choices.n;
+    r.marks = m.at, r.marks_n = m.n, r.lengths = l.at, r.lengths_n = l.n;
+    a = lawendeb_rehearse(THESE(w[0]), THESE(w[1]), THESE(w[2]), THESE(w[3]), r.count, r.q,
+                          THESE(choices), r.limit, THESE(marks), THESE(lengths));
+    b = lawendeb_rehearse_rotation(&r);
+    CHECK(memcmp(&a, &b, sizeof a) == 0 && same_slices(marks, lengths, m, l));
+    if (a.number != 0) {
+        say(":"), refused(a.number, a.place);
+        CHECK(!(a.waits[0] | a.waits[1] | a.waits[2] | a.waits[3]));
+    } else {
+        say(": waits"), say_two(a.waits[0], a.waits[1]), say_two(a.waits[2], a.waits[3]);
+        CHECK(a.place == 0);
+    }
+    slices(marks, lengths);
+}
+
+/* ---- compiled scripts */
+
+static void say_counts(struct lawendeb_counts c) {
+    say_two(c.number, c.place), say_number(c.words), say_two(c.constants, c.names);
+}
+
+static void count(void) {
+    struct bytes chunk = bytes_of(2, READ);
+    say_counts(lawendeb_chunk_count(THESE(chunk), number(3)));
+}
+
+/* By eleven parameters, and by a struct, which must answer and fill the same. */
+static void fill(void) {
+    struct bytes chunk = bytes_of(2, READ), tags = bytes_of(5, WRITTEN), t = bytes_of(5, WRITTEN);
+    struct words w = words_of(4, WRITTEN), x = words_of(4, WRITTEN);
+    struct numbers payloads = numbers_of(6, WRITTEN), p = numbers_of(6, WRITTEN);
+    struct numbers names = numbers_of(7, WRITTEN), o = numbers_of(7, WRITTEN);
+    struct lawendeb_room r;
+    struct lawendeb_counts a, b;
+    r.words = x.at, r.words_n = x.n, r.tags = t.at, r.tags_n = t.n;
+    r.payloads = p.at, r.payloads_n = p.n, r.names = o.at, r.names_n = o.n;
+    a = lawendeb_chunk_fill(THESE(chunk), number(3), THESE(w), THESE(tags), THESE(payloads),
+                            THESE(names));
+    b = lawendeb_chunk_fill_room(THESE(chunk), number(3), &r);
+    CHECK(memcmp(&a, &b, sizeof a) == 0 && same_slices(tags, w, t, x) &&
+          memcmp(payloads.at, p.at, 8 * p.n) == 0 && memcmp(names.at, o.at, 8 * o.n) == 0);
+    say_counts(a), say_words("\n  words", w), say_bytes("\n  tags", tags);
+    say_numbers("\n  payloads", payloads), say_numbers("\n  names", names);
+}
+
+/* The numbers, then the name's bytes. */
+static void name(void) {
+    struct bytes chunk = bytes_of(2, READ), ours = bytes_of(4, READ);
+    struct numbers own = numbers_of(3, READ), other = numbers_of(5, READ);
+    struct lawendeb_name s =
+        lawendeb_upvalue_name(THESE(chunk), THESE(own), THESE(ours), THESE(other), number(6));
+    const struct bytes in = s.in_chunk == 1 ? chunk : ours;
+    char text[2] = {0, 0};
+    uint64_t i;
+    say_two(s.number, s.place), say_number(s.in_chunk), say_two(s.start, s.size), say(" '");
+    for (i = 0; i < s.size && s.start + i < in.n; i++)
+        text[0] = (char)in.at[s.start + i], say(text);
+    say("'");
+}
+
+static void functions(void) {
+    struct bytes chunk = bytes_of(2, READ);
+    struct numbers places = numbers_of(3, WRITTEN), parents = numbers_of(4, WRITTEN);
+    struct lawendeb_listed a = lawendeb_chunk_index(THESE(chunk), THESE(places), THESE(parents));
+    struct lawendeb_listed b = lawendeb_chunk_functions(THESE(chunk));
+    say_two(a.number, a.place), say_number(a.functions);
+    say_numbers(" places", places), say_numbers(" parents", parents);
+    if (a.number == LAWENDEB_SHORT_SLICE)
+        CHECK(b.number == 0 && (places.n < b.functions || parents.n < b.functions));
+    else
+        CHECK(memcmp(&a, &b, sizeof a) == 0);
+}
+
+static void say_function(struct lawendeb_counts c, struct words w, struct lawendeb_counts d,
+                         struct words lines, struct lawendeb_head h) {
+    say_two(c.number, c.place), say_number(c.words), say_words(" words", w);
+    say_two(d.number, d.place), say_number(d.words), say_words(" lines", lines);
+    say(" head"), say_two(h.number, h.source), say_two(h.linedefined, h.lastlinedefined);
+    say_two(h.numparams, h.is_vararg), say_number(h.maxstacksize);
+    CHECK(h.place == 0 && (c.number != d.number || memcmp(&c, &d, sizeof c) == 0));
+}
+
+/* Words by number are those that are filled, with room enough for all else. */
+static void by_number(void) {
+    struct bytes chunk = bytes_of(2, READ);
+    struct words w = words_of(4, WRITTEN), lines = words_of(5, WRITTEN);
+    uint8_t *tags = (uint8_t *)lend(chunk.n, 1, NULL);
+    uint64_t *payloads = (uint64_t *)lend(chunk.n, 8, NULL);
+    uint64_t *names = (uint64_t *)lend(chunk.n, 8, NULL);
+    say_function(lawendeb_chunk_fill(THESE(chunk), number(3), THESE(w), tags, chunk.n, payloads,
+                                     chunk.n, names, chunk.n),
+                 w, lawendeb_chunk_lines(THESE(chunk), number(3), THESE(lines)), lines,
+                 lawendeb_chunk_head(THESE(chunk), number(3)));
+}
+
+static void by_place(void) {
+    struct bytes chunk = bytes_of(2, READ);
+    struct words w = words_of(4, WRITTEN), lines = words_of(5, WRITTEN);
+    say_function(lawendeb_chunk_words_at(THESE(chunk), number(3), THESE(w)), w,
+                 lawendeb_chunk_lines_at(THESE(chunk), number(3), THESE(lines)), lines,
+                 lawendeb_chunk_head_at(THESE(chunk), number(3)));
+}
+
+/* ---- records: words, tags, payloads, names and bytes of the line, lifted into numbers */
+
+static struct lawendeb_answer lifted(struct numbers to) {
+    struct words w = words_of(2, READ);
+    struct bytes tags = bytes_of(3, READ), text = bytes_of(6, READ);
+    struct numbers payloads = numbers_of(4, READ), names = numbers_of(5, READ);
+    return lawendeb_lift(THESE(w), THESE(tags), THESE(payloads), THESE(names), THESE(text),
+                         THESE(to));
+}
+
+static struct numbers lend_numbers(size_t n) {
+    struct numbers l;
+    l.at = (uint64_t *)lend(n, 8, NULL), l.n = n;
+    return l;
+}
+
+/* A sum of a record's numbers goes on. */
+static uint64_t mixed(uint64_t sum, const uint64_t *record) {
+    int i;
+    for (i = 0; i < N; i++)
+        sum = (sum % 2147483647 * 31 + record[i] % 4294967291) % 2147483647;
+    return sum;
+}
+
+/* How many records are written, with room for so many and a number short of one more. */
+static void plan(void) {
+    const size_t room = number(7);
+    struct numbers to = lend_numbers(room * N + N - 1);
+    struct lawendeb_answer a = lifted(to);
+    size_t n = 0;
+    while (n < room && !is_lent((unsigned char *)(to.at + n * N), N * 8))
+        n++;
+    CHECK(is_lent((unsigned char *)(to.at + n * N), (to.n - n * N) * 8));
+    say_two(a.number, a.place), say_number(n);
+}
+
+/* So many words have one sum, each a line of its own. */
+static void sums(void) {
+    const size_t n = put(NULL, 4, parts[2]), group = number(7);
+    struct numbers to = lend_numbers(n * N);
+    uint64_t sum = 0;
+    size_t i;
+    CHECK(lifted(to).number == LAWENDEB_ACCEPTED);
+    said_n = 0;
+    for (i = 0; i < n; i++) {
+        sum = mixed(i % group == 0 ? 0 : sum, to.at + i * N);
+        if (i % group == group - 1) {
+            say(i < group ? "" : "\n");
+            say(parts[1]), say_two(i / group, sum);
+        }
+    }
+}
+
+/* Into eight records, each of which no word has: what each place holds then. */
+static void lift(void) {
+    static const uint64_t operand[4] = {LAWENDEB_OPERAND_EXTRA_ARG, 999, 0, 0};
+    static const uint64_t target[4] = {LAWENDEB_TARGET_JUMP, 999, 0, 0};
+    uint64_t blank[N] = {
+        999, 4294967295u, 127, 1, 1, 999, 1, 999, 1, 25, LAWENDEB_EFFECT_CLOSE_UPVALUES, 255};
+    struct numbers to = lend_numbers(8 * N);
+    struct lawendeb_answer a;
+    int i;
+    for (i = 0; i < 4; i++)
+        memcpy(blank + LAWENDEB_RECORD_OPERAND(i), operand, sizeof operand);
+    for (i = 0; i < 3; i++)
+        memcpy(blank + LAWENDEB_RECORD_READ(i), target, sizeof target);
+    for (i = 0; i < 2; i++)
+        memcpy(blank + LAWENDEB_RECORD_WRITE(i), target, sizeof target);
+    blank[LAWENDEB_RECORD_OPERANDS] = 4;
+    blank[LAWENDEB_RECORD_READS] = 3, blank[LAWENDEB_RECORD_WRITES] = 2;
+    for (i = 0; i < 8; i++)
+        memcpy(to.at + i * N, blank, sizeof blank);
+    a = lifted(to);
+    say_two(a.number, a.place);
+    for (i = 0; i < 8; i++) {
+        const uint64_t *r = to.at + i * N;
+        say("\nplace"), say_two((uint64_t)i, r[LAWENDEB_RECORD_PC]);
+        say_two(r[LAWENDEB_RECORD_RAW_WORD], mixed(0, r));
+    }
+}
+
+/* ---- the fields of a word of 5.3 */
+
+static void decode(void) {
+    struct lawendeb_fields_53 f = lawendeb_decode_53(small(2));
+    say_two(f.opcode, f.mode), say_number(f.a), say_two(f.b, f.c), say_two(f.bx, f.ax);
+    say(f.sbx < 0 ? " below 0" : f.sbx == 0 ? " 0" : f.sbx == 131072 ? " 131072" : "");
+}
+
+/* ---- the areas: what a question's name asks; what there is no function for in C asks nothing */
+
+static void title(void) {
+}
+
+struct area {
+    const char *name;
+    const struct version *version;
+    struct {
+        const char *name;
+        void (*ask)(void);
+    } questions[11];
+};
+
+static const struct area areas[] = {
+    {"runs", &lua54, {{"step", step}, {"serves", NULL}, {"run", run}, {"runs", runs}}},
+    {"witness", &lua54, {{"path", path}, {"path_53", path_53}}},
+    {"service",
+     &lua54,
+     {{"title", title},
+      {"distances", distances},
+      {"crossings", crossings},
+      {"within", within},
+      {"all", all}}},
+    {"meter",
+     &lua54,
+     {{"title", title},
+      {"feed", feed},
+      {"begin", begin},
+      {"reset", reset},
+      {"straight", straight}}},
+    {"budget",
+     &lua54,
+     {{"title", title}, {"feed", feed_four}, {"begin", begin_four}, {"reset", reset_four}}},
+    {"touches", &lua54, {{"touches", touches}, {"touches_53", touches_53}}},
+    {"assignment", &lua54, {{"assignment", assignment}}},
+    {"rehearsal", &lua54, {{"rehearse", rehearsal}}},
+    {"chunk", &lua54, {{"count", count}, {"fill", fill}, {"name", name}}},
+    {"index",
+     &lua54,
+     {{"list", functions}, {"number", by_number}, {"place", by_place}, {"why", NULL}}},
+    {"records", &lua54, {{"plan", plan}, {"sums", sums}, {"lift", lift}}},
+    {"lua53",
+     &lua53,
+     {{"title", title},
+      {"decode", decode},
+      {"step", step},
+      {"run", run},
+      {"distance", distances},
+      {"crossings", crossings},
+      {"within", within},
+      {"feed", feed},
+      {"begin", begin},
+      {"reset", reset}}}};
+
+static void read_file(const char *area, const char *name, char *page) {
+    char path_of[64];
+    FILE *file;
+    snprintf(path_of, sizeof path_of, "crates/%s_cases/%s", area, name);
+    file = fopen(path_of, "rb");
+    if (file == NULL) {
+        printf("calls: no %s\n", path_of);
+        exit(2);
+    }
+    page[fread(page, 1, PAGE, file)] = 0;
+    fclose(file);
+}
+
+/* Where the line behind this one begins. */
+static const char *after_line(const char *line) {
+    const char *end = strchr(line, '\n');
+    return end == NULL ? line + strlen(line) : end + 1;
+}
+
+/* Holds what was said to as many lines of what is stored; where those end. */
+static const char *hold(const char *area, const char *at) {
+    const char *line = said;
+    int same = 1;
+    while (*line != 0) {
+        const size_t n = (size_t)(after_line(line) - line);
+        if (strncmp(line, at, n) != 0) {
+            const int m = (int)(after_line(at) - at);
+            printf("calls: %s_cases: C answers\n%.*s  and stored is\n%.*s", area, (int)n, line, m,
+                   at);
+            same = 0;
+        }
+        line += n, at = after_line(at);
+    }
+    CHECK(same);
+    said_n = 0, said[0] = 0;
+    return at;
+}
+
+/* Asks a line's question, unless its name is none; whether it is one that C has no function for. */
+static int asked(const struct area *a, char *line) {
+    static const char none[1] = "";
+    const int is_open = line[0] != 0 && line[strlen(line) - 1] == '\\';
+    int i;
+    for (i = 0; i < PARTS; i++) {
+        char *bar = line == NULL ? NULL : strchr(line, '|');
+        parts[i] = line == NULL ? none : line;
+        if (bar != NULL)
+            *bar++ = 0;
+        line = bar;
+    }
+    v = a->version;
+    for (i = 0; a->questions[i].name != NULL; i++)
+        if (strcmp(parts[0], a->questions[i].name) == 0) {
+            if (a->questions[i].ask == NULL)
+                return 1;
+            say(parts[1]);
+            a->questions[i].ask();
+            say(is_open ? "" : "\n");
+            CHECK(taken_back());
+        }
+    return 0;
+}
+
+/* All of an area. What C has no function for is passed over, with its line of the stored ones. */
+static void ask_all(const struct area *a) {
+    const int before = checks;
+    const char *at = stored;
+    char *line = questions, *end;
+    int passed = 0, answers = 0;
+    read_file(a->name, "stdin", questions);
+    read_file(a->name, "stdout", stored);
+    for (; (end = strchr(line, '\n')) != NULL; line = end + 1) {
+        *end = 0;
+        if (asked(a, line))
+            passed++, at = after_line(at);
+        if (said_n > 0 && said[said_n - 1] == '\n')
+            answers++, at = hold(a->name, at);
+    }
+    CHECK(*at == 0 && *line == 0 && answers > 0);
+    printf("calls: %s_cases: %d answers, %d passed over, %d checks\n", a->name, answers, passed,
+           checks - before);
+}
+
+/* ---- what the files have no question for: the fields of 5.4, every bit of both versions */
+
+/* Document 01's sheet: LOADI, ADDI, MMBINI, a JMP back to the ADDI. */
+static const uint32_t sheet[4] = {2147483649u, 2147483669u, 109051951u, 2147483192u};
+
+/* Lua 5.3: FORPREP to a FORLOOP, which goes back to a MOVE or on to a RETURN. */
+static const uint32_t loop_53[4] = {2147483688u, 0, 2147434535u, 38};
+
+/* MOVE after MOVE. */
+static uint32_t many[MANY];
+
+static uint8_t ones[W];
+
+/* Every field of these bits, by masks and shifts; the mode apart. */
+static int decoded(uint32_t word) {
+    struct lawendeb_fields f = lawendeb_decode(word);
+    return f.opcode == (word & 127) && f.a == (word >> 7 & 255) && f.k == (word >> 15 & 1) &&
+           f.b == (word >> 16 & 255) && f.c == word >> 24 && f.bx == word >> 15 &&
+           f.ax == word >> 7 && f.sb == (int32_t)f.b - 127 && f.sc == (int32_t)f.c - 127 &&
+           f.sbx == (int32_t)f.bx - 65535 && f.sj == (int32_t)f.ax - 16777215;
+}
+static int decoded_53(uint32_t word) {
+    struct lawendeb_fields_53 f = lawendeb_decode_53(word);
+    return f.opcode == (word & 63) && f.a == (word >> 6 & 255) && f.c == (word >> 14 & 511) &&
+           f.b == word >> 23 && f.bx == word >> 14 && f.ax == word >> 6 &&
+           f.sbx == (int32_t)f.bx - 131071;
+}
+
+static void fields(void) {
+    const uint32_t modes[6][2] = {{83, LAWENDEB_MODE_NONE}, {0, LAWENDEB_MODE_ABC},
+                                  {3, LAWENDEB_MODE_ABX},   {1, LAWENDEB_MODE_ASBX},
+                                  {82, LAWENDEB_MODE_AX},   {56, LAWENDEB_MODE_SJ}};
+    const uint32_t modes_53[6][2] = {{47, LAWENDEB_MODE_NONE}, {63, LAWENDEB_MODE_NONE},
+                                     {0, LAWENDEB_MODE_ABC},   {1, LAWENDEB_MODE_ABX},
+                                     {30, LAWENDEB_MODE_ASBX}, {46, LAWENDEB_MODE_AX}};
+    struct lawendeb_fields f = lawendeb_decode(sheet[0]);
+    struct lawendeb_fields_53 g = lawendeb_decode_53(loop_53[2]);
+    uint32_t i;
+    CHECK(f.mode == LAWENDEB_MODE_ASBX && f.opcode == 1 && f.a == 0 && f.k == 0 && f.b == 0);
+    CHECK(f.c == 128 && f.bx == 65536 && f.ax == 16777216);
+    CHECK(f.sb == -127 && f.sc == 1 && f.sbx == 1 && f.sj == 1);
+    CHECK(g.mode == LAWENDEB_MODE_ASBX && g.opcode == 39 && g.a == 0 && g.b == 255);
+    CHECK(g.c == 509 && g.bx == 131069 && g.ax == 33553664 && g.sbx == -2);
+    CHECK(decoded(0) && decoded(UINT32_MAX) && decoded_53(0) && decoded_53(UINT32_MAX));
+    for (i = 0; i < 32; i++) {
+        CHECK(decoded((uint32_t)1 << i) && decoded(~((uint32_t)1 << i)));
+        CHECK(decoded_53((uint32_t)1 << i) && decoded_53(~((uint32_t)1 << i)));
+    }
+    for (i = 0; i < 6; i++) {
+        CHECK(lawendeb_decode(modes[i][0]).mode == modes[i][1]);
+        CHECK(lawendeb_decode_53(modes_53[i][0]).mode == modes_53[i][1]);
+    }
+}
+
+/* ---- every count of weights and each weight of them, where the files have a few */
+
+static int answered(struct lawendeb_answer a, uint64_t k, uint64_t place) {
+    return a.number == k && a.place == place;
+}
+static int ran(struct lawendeb_run r, uint64_t k, uint64_t place) {
+    return r.number == k && r.place == place && r.longest == 0 && r.first == 0;
+}
+static int ran_both(struct lawendeb_run_range r, uint64_t k, uint64_t place) {
+    return r.number == k && r.place == place &&
+           !(r.low_longest | r.low_first | r.high_longest | r.high_first);
+}
+static int is_meter(struct lawendeb_meter m, uint32_t begun, uint32_t last, uint32_t sum,
+                    uint32_t services, uint32_t highest) {
+    return m.begun == begun && m.last == last && m.count == sum && m.services == services &&
+           m.highest == highest;
+}
+
+/* Marks, lengths and a list of MANY places, everything LENT. */
+static uint8_t marks[MANY], within_list[MANY];
+static uint32_t lengths[MANY];
+
+static void lend_all(void) {
+    memset(marks, LENT, sizeof marks);
+    memset(within_list, LENT, sizeof within_list);
+    memset(lengths, LENT, sizeof lengths);
+}
+static int lent_from(size_t i) {
+    return is_lent(marks + i, MANY - i) && is_lent(within_list, MANY) &&
+           is_lent((const unsigned char *)(lengths + i), 4 * (MANY - i));
+}
+
+static void weights_of(const struct version *version, const uint32_t *four_words) {
+    uint8_t table[W + 1];
+    const struct lawendeb_meter before = {1, 0, 2, 5, 2};
+    size_t i;
+    memset(table, 1, sizeof table);
+    lend_all();
+    for (i = 0; i <= W + 1; i++) {
+        struct lawendeb_meter m = before;
+        const uint64_t k = LAWENDEB_WEIGHTS_REFUSED;
+        if (i == W)
+            continue;
+        CHECK(ran(version->run(four_words, 4, table, i, marks, 4, lengths, 4), k, 0));
+        CHECK(
+            ran_both(version->runs(four_words, 4, table, i, ones, W, marks, 4, lengths, 4), k, 0));
+        CHECK(
+            ran_both(version->runs(four_words, 4, ones, W, table, i, marks, 4, lengths, 4), k, 0));
+        CHECK(answered(version->feed(four_words, 4, table, i, &m, 1), k, 0));
+        CHECK(memcmp(&m, &before, sizeof m) == 0);
+    }
+    for (i = 0; i < W; i++) {
+        struct lawendeb_meter m = before;
+        uint64_t k = LAWENDEB_WEIGHTS_REFUSED;
+        table[i] = 0;
+        CHECK(ran(version->run(four_words, 4, table, W, marks, 4, lengths, 4), k, i));
+        CHECK(
+            ran_both(version->runs(four_words, 4, table, W, ones, W, marks, 4, lengths, 4), k, i));
+        CHECK(
+            ran_both(version->runs(four_words, 4, ones, W, table, W, marks, 4, lengths, 4), k, i));
+        CHECK(answered(version->feed(four_words, 4, table, W, &m, 1), k, i));
+        CHECK(memcmp(&m, &before, sizeof m) == 0);
+        table[i] = 2, k = LAWENDEB_LOW_ABOVE_HIGH;
+        CHECK(
+            ran_both(version->runs(four_words, 4, table, W, ones, W, marks, 4, lengths, 4), k, i));
+        table[i] = 1;
+    }
+    CHECK(lent_from(0));
+}
+
+/* Too many words, for what the files have no room: 1 before all else, and nothing is written. */
+static void too_many(const struct version *u) {
+    enum { ONE = LAWENDEB_TOO_MANY_WORDS };
+    uint32_t *l = lengths;
+    lend_all();
+    CHECK(u->nearest(many, MANY, 0, marks, 0, l, 0).number == ONE);
+    CHECK(u->crossed(many, MANY, 0, marks, MANY, l, MANY).number == ONE);
+    CHECK(u->within(many, MANY, 0, marks, 0, l, 0, within_list, 0).number == ONE);
+    CHECK(u->path(many, MANY, ones, 0, marks, 0, l, 0, l, 0).number == ONE);
+    CHECK(lawendeb_rehearse(many, MANY, NULL, 0, NULL, 0, NULL, 0, 1, 1, NULL, 0, 9, marks, 0, l, 0)
+              .number == ONE);
+    CHECK(lent_from(0));
+}
+
+/* ---- two tables, the most words, and four meters of Lua 5.3 */
+
+static void siblings_53(void) {
+    enum { DOME = LAWENDEB_DOME, AXIS = LAWENDEB_AXIS };
+    const uint32_t sums_53[4] = {80, 90, 70, 40};
+    struct lawendeb_run_range r;
+    struct lawendeb_run most;
+    struct lawendeb_meters ms, before;
+    /* MOVE 20, RETURN 40, FORLOOP 30, FORPREP 10; 200 at all that no word of 5.3 weighs by */
+    uint8_t heavy[W], zero[W];
+    size_t i;
+    memset(heavy, 1, 64), memset(heavy + 64, 200, W - 64);
+    heavy[0] = 20, heavy[38] = 40, heavy[39] = 30, heavy[40] = 10;
+    memset(zero, 1, W), zero[100] = 0;
+#define BOTH(low, low_n, high, high_n, these, n)                                                   \
+    lawendeb_longest_runs_53(these, n, low, low_n, high, high_n, marks, 4, lengths, 4)
+    lend_all();
+    r = BOTH(ones, W, heavy, W, loop_53, 4);
+    CHECK(r.number == 0 && r.place == 0 && r.low_longest == 3 && r.low_first == 0);
+    CHECK(r.high_longest == 90 && r.high_first == 1 && lent_from(4));
+    for (i = 0; i < 4; i++)
+        CHECK(marks[i] == 1 && lengths[i] == sums_53[i]);
+    lend_all();
+    CHECK(ran_both(BOTH(ones, W, ones, W, many, MANY), LAWENDEB_TOO_MANY_WORDS, 0));
+    CHECK(ran_both(BOTH(zero, W, ones, W, many, 5), LAWENDEB_SHORT_SLICE, 0));
+    CHECK(ran_both(BOTH(zero, W, ones, 64, loop_53, 4), LAWENDEB_WEIGHTS_REFUSED, 100));
+    CHECK(ran_both(BOTH(heavy, W, zero, W, loop_53, 4), LAWENDEB_WEIGHTS_REFUSED, 100));
+    /* 19 looks at all of the tables, too */
+    zero[100] = 2;
+    CHECK(ran_both(BOTH(zero, W, ones, W, loop_53, 0), LAWENDEB_LOW_ABOVE_HIGH, 100));
+    CHECK(ran_both(BOTH(ones, W, ones, W, loop_53, 0), LAWENDEB_NO_WORDS, 0));
+    CHECK(lent_from(0));
+    CHECK(ran_both(BOTH(ones, W, ones, W, loop_53, 3), LAWENDEB_REACHES_INVALID, 2));
+#undef BOTH
+    lend_all();
+    memset(zero, 255, W);
+    many[LAWENDEB_MOST_WORDS - 1] = 38;
+    most = lawendeb_longest_run_53(many, MANY - 1, zero, W, marks, MANY, lengths, MANY);
+    CHECK(most.number == 0 && most.longest == 255 * LAWENDEB_MOST_WORDS && most.first == 0);
+    CHECK(lent_from(MANY - 1));
+    many[LAWENDEB_MOST_WORDS - 1] = 0;
+
+    /* a script of each version, within one budget; the order: 20, 21, 1, 18, 11, 10, 22 */
+    memset(zero, 1, W), zero[100] = 0;
+    memset(&ms, 0, sizeof ms);
+#define FEED_53(these, n, weights, script, budget, q)                                              \
+    lawendeb_feed_four_53(these, n, weights, W, &ms, script, budget, q)
+    CHECK(answered(FEED_53(loop_53, 4, heavy, DOME, 10, 0), LAWENDEB_ACCEPTED, 0));
+    CHECK(is_meter(ms.of[DOME], 1, 0, 10, 0, 10) && is_meter(ms.of[AXIS], 0, 0, 0, 0, 0));
+    before = ms;
+    CHECK(
+        answered(lawendeb_feed_four(sheet, 4, ones, W, &ms, AXIS, 10, 0), LAWENDEB_OVER_BUDGET, 0));
+    CHECK(answered(FEED_53(loop_53, 4, heavy, DOME, 39, 2), LAWENDEB_OVER_BUDGET, 0));
+    CHECK(answered(FEED_53(loop_53, 4, heavy, DOME, 99, 1), LAWENDEB_NO_STEP, 0));
+    CHECK(answered(FEED_53(loop_53, 4, zero, DOME, 99, 2), LAWENDEB_WEIGHTS_REFUSED, 100));
+    CHECK(answered(FEED_53(many, MANY, zero, DOME, 99, 2), LAWENDEB_TOO_MANY_WORDS, 0));
+    CHECK(answered(FEED_53(many, MANY, zero, DOME, 0, 2), LAWENDEB_BUDGET_RANGE, 0));
+    CHECK(answered(FEED_53(many, MANY, zero, 4, 0, 2), LAWENDEB_NO_SCRIPT, 0));
+    CHECK(memcmp(&ms, &before, sizeof ms) == 0);
+    CHECK(answered(lawendeb_feed_four(sheet, 4, ones, W, &ms, AXIS, 11, 0), LAWENDEB_ACCEPTED, 0));
+    CHECK(answered(FEED_53(loop_53, 4, heavy, DOME, 41, 2), LAWENDEB_ACCEPTED, 0));
+    CHECK(is_meter(ms.of[AXIS], 1, 0, 1, 0, 1) && is_meter(ms.of[DOME], 1, 2, 40, 0, 40));
+    ms.of[DOME].last = 4, before = ms;
+    CHECK(answered(FEED_53(loop_53, 4, ones, DOME, 1, 9), LAWENDEB_FOREIGN_METER, 0));
+    CHECK(memcmp(&ms, &before, sizeof ms) == 0);
+#undef FEED_53
+}
+
+/* ---- records by the header's names: the P cases, constants of every tag, names */
+
+static uint64_t records_to[ROOM * N];
+
+/* Lifts; whether it is accepted, and all past the n records is as lent. */
+static int lifts(const uint32_t *these, size_t n, const uint8_t *tags, const uint64_t *payloads,
+                 size_t constants, const uint64_t *names, size_t names_n, const char *text) {
+    memset(records_to, LENT, sizeof records_to);
+    return answered(lawendeb_lift(these, n, tags, constants, payloads, constants, names, names_n,
+                                  (const uint8_t *)text, strlen(text), records_to, ROOM * N),
+                    LAWENDEB_ACCEPTED, 0) &&
+           is_lent((const unsigned char *)(records_to + n * N), (ROOM - n) * N * 8);
+}
+static int lifts_words(const uint32_t *these, size_t n) {
+    return lifts(these, n, NULL, NULL, 0, NULL, 0, "");
+}
+
+static uint64_t at(size_t i, size_t place) {
+    return records_to[i * N + place];
+}
+
+/* A kind and its three numbers, from a place of record i on. */
+static int part(size_t i, size_t place, uint64_t kind, uint64_t x, uint64_t y, uint64_t z) {
+    return at(i, place) == kind && at(i, place + 1) == x && at(i, place + 2) == y &&
+           at(i, place + 3) == z;
+}
+
+static void records(void) {
+    enum { PC = LAWENDEB_RECORD_PC, SURE = LAWENDEB_RECORD_CONFIDENCE, TO = LAWENDEB_RECORD_JUMP };
+    enum { PAIR = LAWENDEB_RECORD_COMPANION, FALLBACK = LAWENDEB_RECORD_FALLBACK };
+    const uint64_t loadi[N] = {0, 2147483649u, 1, 1, 0, 0, 0, 0, 0, 0, 0, 0, 0, 0, 2, 0, 0, 0,
+                               0, 4,           1, 0, 0, 0, 0, 0, 0, 0, 0, 0, 0, 0, 0, 0, 0, 0,
+                               0, 0,           0, 0, 0, 0, 0, 0, 1, 0, 0, 0, 0, 0, 0, 0, 0};
+    const uint64_t blank[N] = {0, 83, 83};
+    const uint32_t back[1] = {2147483192u}, call[2] = {16940996u, 71}, loadkx[1] = {4};
+    const uint32_t mmbin[1] = {46}, unknown[1] = {83}, two[2] = {82, 163913},
+                   prepare[3] = {74, 0, 0};
+    CHECK(lifts_words(sheet, 4) && memcmp(records_to, loadi, sizeof loadi) == 0);
+    CHECK(at(3, PC) == 3 && at(3, TO) == 1 && at(3, TO + 1) == 1);
+    CHECK(lifts_words(back, 1) && at(0, TO) == 1 && at(0, TO + 1) == 18446744073709551614u);
+    CHECK(lifts_words(call, 2) && at(0, LAWENDEB_RECORD_READS) == 2);
+    CHECK(at(0, LAWENDEB_RECORD_WRITES) == 0);
+    CHECK(part(0, LAWENDEB_RECORD_READ(0), LAWENDEB_TARGET_REGISTER, 255, 0, 0));
+    CHECK(part(0, LAWENDEB_RECORD_READ(1), LAWENDEB_TARGET_REGISTER_RANGE, 255, 254, 0));
+    CHECK(lifts_words(loadkx, 1) && at(0, PAIR) == 1 && at(0, PAIR + 1) == 1);
+    CHECK(part(0, LAWENDEB_RECORD_OPERAND(1), LAWENDEB_OPERAND_CONSTANT, 0, 0, 0));
+    CHECK(lifts_words(mmbin, 1) && at(0, PAIR) == 0);
+    CHECK(part(0, LAWENDEB_RECORD_EFFECT, LAWENDEB_EFFECT_COMPANION_PAIR, 0, 1, 6));
+    CHECK(at(0, FALLBACK) == 1 && at(0, FALLBACK + 1) == 6);
+    CHECK(lifts_words(unknown, 1) && memcmp(records_to, blank, sizeof blank) == 0);
+    CHECK(lifts_words(two, 2) && at(0, SURE) == 1 && at(1, TO) == 1 && at(1, TO + 1) == 0);
+    CHECK(lifts_words(prepare, 3) && at(0, TO) == 1 && at(0, TO + 1) == 1);
+    CHECK(lifts_words(sheet, 0));
+}
+
+static uint64_t place_of(uint64_t start, uint64_t length) {
+    return start + (length << 32);
+}
+
+/* Constants of every tag, an index past them, names: as they were lent. */
+static void values(void) {
+    const uint8_t tags[8] = {LAWENDEB_TAG_NIL,          LAWENDEB_TAG_FALSE,      LAWENDEB_TAG_TRUE,
+                             LAWENDEB_TAG_INTEGER,      LAWENDEB_TAG_FLOAT,      LAWENDEB_TAG_FLOAT,
+                             LAWENDEB_TAG_SHORT_STRING, LAWENDEB_TAG_LONG_STRING};
+    const uint64_t nan_bits = 9221120237041090561u, minus_zero = 9223372036854775808u;
+    const uint64_t payloads[8] = {
+        7, 7, 7, UINT64_MAX, minus_zero, nan_bits, place_of(0, 4), place_of(4, 5)};
+    const uint64_t kinds[9] = {0, 1, 1, 2, 3, 3, 4, 5, 0};
+    const uint64_t shown[9] = {
+        0, 0, 1, UINT64_MAX, minus_zero, nan_bits, place_of(0, 4), place_of(4, 5), 0};
+    const uint64_t names[2] = {place_of(9, 0), LAWENDEB_UNNAMED};
+    const size_t second = LAWENDEB_RECORD_OPERAND(1);
+    uint32_t these[ROOM];
+    uint32_t i;
+    for (i = 0; i < 9; i++)
+        these[i] = 3 + 128 + 32768 * i; /* LOADK */
+    for (i = 0; i < 3; i++)
+        these[9 + i] = 9 + 128 + 65536 * i; /* GETUPVAL */
+    CHECK(lifts(these, ROOM, tags, payloads, 8, names, 2, "_ENVprint"));
+    for (i = 0; i < 9; i++)
+        CHECK(part(i, second, LAWENDEB_OPERAND_CONSTANT, i, kinds[i], shown[i]));
+    CHECK(part(9, second, LAWENDEB_OPERAND_UPVALUE, 0, 1, place_of(9, 0)));
+    CHECK(part(10, second, LAWENDEB_OPERAND_UPVALUE, 1, 0, 0));
+    CHECK(part(11, second, LAWENDEB_OPERAND_UPVALUE, 2, 0, 0));
+}
+
+/* ---- null, with a length of 0
+
+   An access through null stops the program, and what the archives clear comes here first:
+   examples/calls links with --wrap=memset. */
+
+static unsigned cleared, cleared_null;
+
+#ifdef __cplusplus
+extern "C" {
+#endif
+void *__real_memset(void *to, int byte, size_t n);
+void *__wrap_memset(void *to, int byte, size_t n);
+#ifdef __cplusplus
+}
+#endif
+
+void *__wrap_memset(void *to, int byte, size_t n) {
+    cleared++;
+    cleared_null += to == NULL;
+    return __real_memset(to, byte, n);
+}
+
+static int is_near(struct lawendeb_nearest a, uint64_t k) {
+    return a.number == k && !(a.place | a.found | a.fewest);
+}
+static int is_crossed(struct lawendeb_crossed a, uint64_t k) {
+    return a.number == k && !(a.place | a.count);
+}
+static int is_path(struct lawendeb_path a, uint64_t k) {
+    return a.number == k && !(a.place | a.longest | a.first | a.count);
+}
+static int is_counts(struct lawendeb_counts a, uint64_t k) {
+    return a.number == k && !(a.place | a.words | a.constants | a.names);
+}
+static int is_rehearsal(struct lawendeb_rehearsal a, uint64_t k) {
+    return a.number == k && !(a.place | a.waits[0] | a.waits[1] | a.waits[2] | a.waits[3]);
+}
+static int is_name(struct lawendeb_name a) {
+    return !(a.number | a.place | a.in_chunk | a.start | a.size);
+}
+
+static void nulls_of(const struct version *u, const uint32_t *four_words) {
+    enum { SHORT = LAWENDEB_SHORT_SLICE, NONE = LAWENDEB_NO_WORDS };
+    enum { WEIGHTS = LAWENDEB_WEIGHTS_REFUSED, STEP = LAWENDEB_NO_STEP };
+    const struct lawendeb_steps none = u->successors(NULL, 0, 0);
+    const struct lawendeb_touched nothing = u->touches(NULL, 0, 0);
+    const uint32_t *s = four_words;
+    struct lawendeb_meter m;
+    struct lawendeb_meters ms;
+    uint8_t *o = marks, *t = within_list;
+    uint32_t *l = lengths, p[4];
+    memset(&m, 0, sizeof m), memset(&ms, 0, sizeof ms);
+    lend_all();
+    CHECK(!(none.kind | none.first | none.second));
+    CHECK(!(nothing.reads.count | nothing.reads_to_top.count | nothing.constants.count |
+            nothing.upvalues.count | nothing.writes.count | nothing.writes_to_top.count |
+            nothing.upvalue_writes.count | nothing.edge_writes.count | nothing.edge));
+    /* nothing at all; words; weights; marks; lengths; all but the weights */
+    CHECK(ran(u->run(NULL, 0, NULL, 0, NULL, 0, NULL, 0), WEIGHTS, 0));
+    CHECK(ran(u->run(NULL, 0, ones, W, o, 4, l, 4), NONE, 0));
+    CHECK(ran(u->run(s, 4, NULL, 0, o, 4, l, 4), WEIGHTS, 0));
+    CHECK(ran(u->run(s, 4, ones, W, NULL, 0, l, 4), SHORT, 0));
+    CHECK(ran(u->run(s, 4, ones, W, o, 4, NULL, 0), SHORT, 0));
+    CHECK(ran(u->run(NULL, 0, ones, W, NULL, 0, NULL, 0), NONE, 0));
+    CHECK(ran_both(u->runs(NULL, 0, NULL, 0, NULL, 0, NULL, 0, NULL, 0), WEIGHTS, 0));
+    CHECK(ran_both(u->runs(NULL, 0, ones, W, ones, W, NULL, 0, NULL, 0), NONE, 0));
+    CHECK(ran_both(u->runs(s, 4, NULL, 0, ones, W, o, 4, l, 4), WEIGHTS, 0));
+    CHECK(ran_both(u->runs(s, 4, ones, W, NULL, 0, o, 4, l, 4), WEIGHTS, 0));
+    CHECK(ran_both(u->runs(s, 4, ones, W, ones, W, NULL, 0, l, 4), SHORT, 0));
+    CHECK(ran_both(u->runs(s, 4, ones, W, ones, W, o, 4, NULL, 0), SHORT, 0));
+    CHECK(is_path(u->path(NULL, 0, NULL, 0, NULL, 0, NULL, 0, NULL, 0), WEIGHTS));
+    CHECK(is_path(u->path(NULL, 0, ones, W, NULL, 0, NULL, 0, NULL, 0), NONE));
+    CHECK(is_path(u->path(s, 4, ones, W, o, 4, l, 4, NULL, 0), SHORT));
+    CHECK(is_path(u->path(s, 4, ones, W, NULL, 0, l, 4, p, 4), SHORT));
+    CHECK(is_path(u->path(s, 4, ones, W, o, 4, NULL, 0, p, 4), SHORT));
+    CHECK(answered(u->feed(NULL, 0, ones, W, &m, 0), STEP, 0));
+    CHECK(answered(u->feed(s, 4, NULL, 0, &m, 0), WEIGHTS, 0));
+    CHECK(answered(u->feed(NULL, 0, NULL, 0, &m, 0), WEIGHTS, 0));
+    CHECK(answered(u->feed_four(NULL, 0, ones, W, &ms, 0, 9, 0), STEP, 0));
+    CHECK(answered(u->feed_four(s, 4, NULL, 0, &ms, 0, 9, 0), WEIGHTS, 0));
+    CHECK(answered(u->feed_four(NULL, 0, NULL, 0, &ms, 0, 9, 0), WEIGHTS, 0));
+    CHECK(is_near(u->nearest(NULL, 0, 0, NULL, 0, NULL, 0), NONE));
+    CHECK(is_near(u->nearest(s, 4, 0, NULL, 0, l, 4), SHORT));
+    CHECK(is_near(u->nearest(s, 4, 0, o, 4, NULL, 0), SHORT));
+    CHECK(is_crossed(u->crossed(NULL, 0, 0, NULL, 0, NULL, 0), NONE));
+    CHECK(is_crossed(u->crossed(s, 4, 0, NULL, 0, l, 4), SHORT));
+    CHECK(is_crossed(u->crossed(s, 4, 0, o, 4, NULL, 0), SHORT));
+    CHECK(answered(u->within(NULL, 0, 9, NULL, 0, NULL, 0, NULL, 0), NONE, 0));
+    CHECK(answered(u->within(s, 4, 9, NULL, 0, l, 4, t, 4), SHORT, 0));
+    CHECK(answered(u->within(s, 4, 9, o, 4, NULL, 0, t, 4), SHORT, 0));
+    CHECK(answered(u->within(s, 4, 9, o, 4, l, 4, NULL, 0), SHORT, 0));
+    CHECK(lent_from(0));
+}
+
+/* A chunk of one function that has nothing, and one of a word, a constant and an upvalue. */
+#define HEADER                                                                                     \
+    27, 76, 117, 97, 84, 0, 25, 147, 13, 10, 26, 10, 4, 8, 8, 120, 86, 0, 0, 0, 0, 0, 0, 0, 0, 0,  \
+        0, 0, 40, 119, 64
+static const uint8_t bare[] = {HEADER, 0,   128, 128, 128, 0,   0,   2,
+                               128,    128, 128, 128, 128, 128, 128, 128};
+static const uint8_t chunk_of_one[] = {HEADER, 1,   128, 128, 128, 0,   1,   2,  129, 71, 0,
+                                       1,      0,   129, 4,   130, 120, 129, 1,  0,   0,  128,
+                                       128,    128, 128, 129, 133, 95,  69,  78, 86};
+
 static void nulls(void) {
-    const struct version lua54 = {sheet,
-                                  lawendeb_successors,
-                                  lawendeb_touches,
-                                  lawendeb_longest_run,
-                                  lawendeb_longest_runs,
-                                  lawendeb_feed,
-                                  lawendeb_feed_four,
-                                  lawendeb_distance_to_service,
-                                  lawendeb_list_within,
-                                  lawendeb_crossing_edges};
-    const struct version lua53 = {loop_53,
-                                  lawendeb_successors_53,
-                                  lawendeb_touches_53,
-                                  lawendeb_longest_run_53,
-                                  lawendeb_longest_runs_53,
-                                  lawendeb_feed_53,
-                                  lawendeb_feed_four_53,
-                                  lawendeb_distance_to_service_53,
-                                  lawendeb_list_within_53,
-                                  lawendeb_crossing_edges_53};
-    const uint64_t none = LAWENDEB_UNNAMED;
-    static uint8_t bare[32 + 14];
-    struct tables t = empty;
+    enum { SHORT = LAWENDEB_SHORT_SLICE, NONE = LAWENDEB_NO_WORDS };
+    enum { MALFORMED = LAWENDEB_MALFORMED_CHUNK, SIZE = sizeof chunk_of_one };
+    const uint64_t none = LAWENDEB_UNNAMED, payloads[4] = {0, 0, 0, 0};
+    const uint8_t nils[4] = {0, 0, 0, 0}, *c = chunk_of_one;
     struct lawendeb_rotation r;
     struct lawendeb_room room;
-    uint8_t own_marks[4];
-    uint32_t own_lengths[4];
-    size_t n;
-    nulls_of(&lua54);
-    nulls_of(&lua53);
+    uint32_t two_words[2];
+    uint8_t two_tags[2];
+    uint64_t two_payloads[2];
+    nulls_of(&lua54, sheet);
+    nulls_of(&lua53, loop_53);
 
     /* a lift: all; the numbers; the string bytes, with names and constants that need none */
-    CHECK(answered(lawendeb_lift(NULL, 0, NULL, 0, NULL, 0, NULL, 0, NULL, 0, NULL, 0),
-                   LAWENDEB_ACCEPTED, 0));
-    CHECK(answered(lawendeb_lift(sheet, 4, NULL, 0, NULL, 0, NULL, 0, NULL, 0, NULL, 0),
-                   LAWENDEB_SHORT_SLICE, 0));
-    t.tags = many_tags, t.tags_n = 4, t.payloads = many_payloads, t.payloads_n = 4;
-    CHECK(answered(lift(sheet, 4, &t, 4 * N), LAWENDEB_ACCEPTED, 0));
-    t.payloads = NULL, t.payloads_n = 0;
-    CHECK(lift_refuses(sheet, 4, &t, 4 * N, LAWENDEB_CONSTANT_COUNT, 0));
-    t = empty;
-    t.names = &none, t.names_n = 1;
-    CHECK(answered(lift(sheet, 4, &t, 4 * N), LAWENDEB_ACCEPTED, 0));
+    CHECK(answered(lawendeb_lift(NULL, 0, NULL, 0, NULL, 0, NULL, 0, NULL, 0, NULL, 0), 0, 0));
+    CHECK(answered(lawendeb_lift(sheet, 4, NULL, 0, NULL, 0, NULL, 0, NULL, 0, NULL, 0), SHORT, 0));
+    CHECK(answered(
+        lawendeb_lift(sheet, 4, nils, 4, payloads, 4, NULL, 0, NULL, 0, records_to, 4 * N), 0, 0));
+    CHECK(answered(lawendeb_lift(sheet, 4, nils, 4, NULL, 0, NULL, 0, NULL, 0, records_to, 4 * N),
+                   LAWENDEB_CONSTANT_COUNT, 0));
+    CHECK(answered(lawendeb_lift(sheet, 4, NULL, 0, NULL, 0, &none, 1, NULL, 0, records_to, 4 * N),
+                   0, 0));
 
-    lend();
-    CHECK(answered(lawendeb_definite_assignment(NULL, 0, 0, NULL, 0), LAWENDEB_NO_WORDS, 0));
-    CHECK(answered(lawendeb_definite_assignment(NULL, 0, 0, marks, 4), LAWENDEB_NO_WORDS, 0));
-    CHECK(answered(lawendeb_definite_assignment(sheet, 4, 0, NULL, 0), LAWENDEB_SHORT_SLICE, 0));
+    lend_all();
+    CHECK(answered(lawendeb_definite_assignment(NULL, 0, 0, NULL, 0), NONE, 0));
+    CHECK(answered(lawendeb_definite_assignment(NULL, 0, 0, marks, 4), NONE, 0));
+    CHECK(answered(lawendeb_definite_assignment(sheet, 4, 0, NULL, 0), SHORT, 0));
     CHECK(lent_from(0));
 
-    /* a rehearsal of one script, all that it does not need zeroed; then of none, and without room */
+    /* a rehearsal of one script, all that it does not need zeroed; then of none, and without room
+     */
     memset(&r, 0, sizeof r);
     r.scripts[0].at = sheet, r.scripts[0].n = 4, r.count = 1, r.q = 1, r.limit = 100;
-    r.marks = own_marks, r.marks_n = 4, r.lengths = own_lengths, r.lengths_n = 4;
-    CHECK(waits(lawendeb_rehearse_rotation(&r), 0, 0, 0, 0));
+    r.marks = marks, r.marks_n = 4, r.lengths = lengths, r.lengths_n = 4;
+    CHECK(is_rehearsal(lawendeb_rehearse_rotation(&r), LAWENDEB_ACCEPTED));
     r.count = 2;
-    CHECK(turned_away(lawendeb_rehearse_rotation(&r), LAWENDEB_NO_WORDS, 0));
+    CHECK(is_rehearsal(lawendeb_rehearse_rotation(&r), NONE));
     r.count = 1, r.marks = NULL, r.marks_n = 0;
-    CHECK(turned_away(lawendeb_rehearse_rotation(&r), LAWENDEB_SHORT_SLICE, 0));
-    r.marks = own_marks, r.marks_n = 4, r.lengths = NULL, r.lengths_n = 0;
-    CHECK(turned_away(lawendeb_rehearse_rotation(&r), LAWENDEB_SHORT_SLICE, 0));
+    CHECK(is_rehearsal(lawendeb_rehearse_rotation(&r), SHORT));
+    r.marks = marks, r.marks_n = 4, r.lengths = NULL, r.lengths_n = 0;
+    CHECK(is_rehearsal(lawendeb_rehearse_rotation(&r), SHORT));
     memset(&r, 0, sizeof r);
-    CHECK(turned_away(lawendeb_rehearse_rotation(&r), LAWENDEB_OUT_OF_RANGE, 0));
+    CHECK(is_rehearsal(lawendeb_rehearse_rotation(&r), LAWENDEB_OUT_OF_RANGE));
     r.count = 4, r.q = 1;
-    CHECK(turned_away(lawendeb_rehearse_rotation(&r), LAWENDEB_NO_WORDS, 0));
+    CHECK(is_rehearsal(lawendeb_rehearse_rotation(&r), NONE));
 
     /* a chunk; room for a function that has nothing; no room for one that has */
     memset(&room, 0, sizeof room);
-    n = levels(bare, 1);
-    CHECK(counted(lawendeb_chunk_count(NULL, 0, 0), LAWENDEB_MALFORMED_CHUNK, 0, 0, 0, 0));
-    CHECK(counted(lawendeb_chunk_fill_room(NULL, 0, 0, &room), LAWENDEB_MALFORMED_CHUNK, 0, 0, 0,
-                  0));
-    CHECK(counted(lawendeb_chunk_fill_room(bare, n, 0, &room), LAWENDEB_ACCEPTED, 0, 0, 0, 0));
-    CHECK(counted(lawendeb_chunk_fill_room(chunk, SIZE, 0, &room), LAWENDEB_SHORT_SLICE, 0, 0, 0,
-                  0));
-    lend_chunk();
-    room.words = chunk_words, room.words_n = 2, room.tags = chunk_tags, room.tags_n = 2;
-    room.payloads = chunk_payloads, room.payloads_n = 2;
-    CHECK(counted(lawendeb_chunk_fill_room(chunk, SIZE, 0, &room), LAWENDEB_SHORT_SLICE, 0, 0, 0,
-                  0));
-    CHECK(chunk_lent_from(0));
-    CHECK(named(lawendeb_upvalue_name(NULL, 0, NULL, 0, NULL, 0, NULL, 0, 0), LAWENDEB_ACCEPTED, 0,
-                0, 0, 0));
-    CHECK(named(lawendeb_upvalue_name(NULL, 0, &none, 1, NULL, 0, &none, 1, 0), LAWENDEB_ACCEPTED,
-                0, 0, 0, 0));
+    CHECK(is_counts(lawendeb_chunk_count(NULL, 0, 0), MALFORMED));
+    CHECK(is_counts(lawendeb_chunk_fill_room(NULL, 0, 0, &room), MALFORMED));
+    CHECK(is_counts(lawendeb_chunk_fill_room(bare, sizeof bare, 0, &room), LAWENDEB_ACCEPTED));
+    CHECK(is_counts(lawendeb_chunk_fill_room(c, SIZE, 0, &room), SHORT));
+    memset(two_words, LENT, sizeof two_words), memset(two_tags, LENT, sizeof two_tags);
+    memset(two_payloads, LENT, sizeof two_payloads);
+    room.words = two_words, room.words_n = 2, room.tags = two_tags, room.tags_n = 2;
+    room.payloads = two_payloads, room.payloads_n = 2;
+    CHECK(is_counts(lawendeb_chunk_fill_room(c, SIZE, 0, &room), SHORT));
+    CHECK(is_lent((unsigned char *)two_words, sizeof two_words) && is_lent(two_tags, 2) &&
+          is_lent((unsigned char *)two_payloads, sizeof two_payloads));
+    CHECK(is_name(lawendeb_upvalue_name(NULL, 0, NULL, 0, NULL, 0, NULL, 0, 0)));
+    CHECK(is_name(lawendeb_upvalue_name(NULL, 0, &none, 1, NULL, 0, &none, 1, 0)));
 
-    /* the path, and a chunk's functions: no chunk, then none of the slices */
-    CHECK(lawendeb_longest_path(NULL, 0, NULL, 0, NULL, 0, NULL, 0, NULL, 0).number ==
-          LAWENDEB_WEIGHTS_REFUSED);
-    CHECK(lawendeb_longest_path_53(NULL, 0, ones, LAWENDEB_WEIGHTS, NULL, 0, NULL, 0, NULL, 0)
-              .number == LAWENDEB_NO_WORDS);
-    CHECK(lawendeb_longest_path(sheet, 4, ones, LAWENDEB_WEIGHTS, own_marks, 4, own_lengths, 4,
-                                NULL, 0)
-              .number == LAWENDEB_SHORT_SLICE);
-    CHECK(lawendeb_chunk_functions(NULL, 0).number == LAWENDEB_MALFORMED_CHUNK);
-    CHECK(lawendeb_chunk_index(NULL, 0, NULL, 0, NULL, 0).number == LAWENDEB_MALFORMED_CHUNK);
-    CHECK(lawendeb_chunk_index(chunk, SIZE, NULL, 0, NULL, 0).number == LAWENDEB_SHORT_SLICE);
-    CHECK(lawendeb_chunk_head(NULL, 0, 0).number == LAWENDEB_MALFORMED_CHUNK);
-    CHECK(lawendeb_chunk_head_at(NULL, 0, 0).number == LAWENDEB_MALFORMED_CHUNK);
-    CHECK(counted(lawendeb_chunk_words_at(chunk, SIZE, 32, NULL, 0), LAWENDEB_SHORT_SLICE, 0, 0, 0,
-                  0));
-    CHECK(counted(lawendeb_chunk_lines_at(chunk, SIZE, 32, NULL, 0), LAWENDEB_SHORT_SLICE, 0, 0, 0,
-                  0));
-    CHECK(counted(lawendeb_chunk_lines(NULL, 0, 0, NULL, 0), LAWENDEB_MALFORMED_CHUNK, 0, 0, 0,
-                  0));
+    /* a chunk's functions: no chunk, then none of the slices */
+    CHECK(lawendeb_chunk_functions(NULL, 0).number == MALFORMED);
+    CHECK(lawendeb_chunk_index(NULL, 0, NULL, 0, NULL, 0).number == MALFORMED);
+    CHECK(lawendeb_chunk_index(c, SIZE, NULL, 0, NULL, 0).number == SHORT);
+    CHECK(lawendeb_chunk_head(NULL, 0, 0).number == MALFORMED);
+    CHECK(lawendeb_chunk_head_at(NULL, 0, 0).number == MALFORMED);
+    CHECK(is_counts(lawendeb_chunk_words_at(c, SIZE, 32, NULL, 0), SHORT));
+    CHECK(is_counts(lawendeb_chunk_lines_at(c, SIZE, 32, NULL, 0), SHORT));
+    CHECK(is_counts(lawendeb_chunk_lines(NULL, 0, 0, NULL, 0), MALFORMED));
     CHECK(cleared > 0 && cleared_null == 0);
 }
 
 int main(void) {
-    weigh();
+    size_t i;
+    memset(ones, 1, sizeof ones);
+    for (i = 0; i < sizeof areas / sizeof areas[0]; i++)
+        ask_all(&areas[i]);
     fields();
-    steps();
-    runs();
-    weighed_runs();
-    ranges();
-    services();
-    meters();
-    weighed_meters();
-    worst();
+    weights_of(&lua54, sheet);
+    weights_of(&lua53, loop_53);
+    too_many(&lua54);
+    too_many(&lua53);
+    siblings_53();
     records();
     values();
-    refusals();
-    touches();
-    fours();
-    assignments();
-    rehearsals();
-    chunks();
-    deep();
-    shown();
-    witness();
-    whole_chunks();
-    fields_53();
-    steps_53();
-    runs_53();
-    meters_53();
-    services_53();
-    touches_53();
-    siblings_53();
     nulls();
     printf("calls: %d checks, %d wrong\n", checks, wrong);
     return wrong != 0;

@@ -138,6 +138,18 @@ def corners():
     show("word 2 of 2", two, 2)
 
 
+def in_a_row():
+    words = [
+        abc("MOVE", 1, 300), abc("ADD", 3, 263, 5), abc("GETTABUP", 9, 2, 256), abc("SETTABUP", 2, 262, 262), abc("CALL", 7),
+        abc("LOADNIL", 255, 1), abc("LOADKX", 3), ax("EXTRAARG", 67108863), a_sbx("FORLOOP", 10, 2), abc("SETLIST", 4, 0, 1),
+        abc("EQ", 1, 6, 511), a_sbx("JMP", 3, 0), abc("EQ", 1, 6, 511), abc("RETURN", 7, 3),
+    ]
+    for p in range(len(words)):
+        first = max(0, p - 1)
+        show(f"in a row, word {p}", words[first : first + 8], p - first)
+
+
 if __name__ == "__main__":
     all_opcodes()
     corners()
+    in_a_row()

@@ -129,9 +129,22 @@ def corners():
     show("MOVE as the last word", two, 1)
     show("word 2 of 2", two, 2)
     show("word 4,294,967,295 of 2", two, 4294967295)
+    show("word 18,446,744,073,709,551,615 of 2", two, 18446744073709551615)
     show("no words", [], 0)
+
+
+def in_a_row():
+    words = [
+        abc("MOVE", 1, 0, 2), abc("ADD", 3, 0, 4, 5), abc("MMBIN", 4, 0, 5, 6), abc("CALL", 7), abc("LOADNIL", 255, 0, 1),
+        abc("GETTABLE", 9, 0, 5, 4), abc("SETTABUP", 2, 1, 6, 6), abc("LOADKX", 3), ax("EXTRAARG", 33554431),
+        abc("SETUPVAL", 8, 0, 2), a_bx("FORPREP", 10, 0), a_bx("FORLOOP", 10, 0), abc("ADD", 1, 0, 2, 3), abc("RETURN", 7),
+    ]
+    for p in range(len(words)):
+        first = max(0, p - 1)
+        show(f"in a row, word {p}", words[first : first + 8], p - first)
 
 
 if __name__ == "__main__":
     all_opcodes()
     corners()
+    in_a_row()

@@ -19,14 +19,14 @@ use Rattle.graph.specs.Assignment.{cut, someBelow, readsUnset, unsetAt, lowestU
 use Rattle.graph.proofs.Laws as graph
 use Rattle.runs.specs.Script.{lua54, graphOf}
 use Rattle.sweep.specs.Steps.{isInvalid}
-use Rattle.runs.specs.Successors.{successorsOf}
+use Rattle.steps.specs.Successors.{successorsOf}
 use Rattle.runs.specs.Run.{reachesInvalid, lowestInvalid}
 use Rattle.touches.specs.Touches.{touchesOf}
 use Rattle.touches.specs.Meaning.{rangesIn}
 use Rattle.assignment.specs.Uses.{readsBy, setsBy, registersOf, usageOf}
 use Rattle.assignment.specs.Answers.{unsetOf}
 use Rattle.assignment.specs.declared.search.Seen.{Seen}
-use Rattle.assignment.specs.Blocks.{mostRegisters, hasBit, losesBit, graphAt, Sees, Hits, Searched, Ends, marked, unsetBelow, Rest}
+use Rattle.assignment.specs.Blocks.{mostRegisters, hasBit, losesBit, graphAt, Sees, Hits, BlockSearched, RegistersEnd, marked, unsetBelow, Rest}
 use Rattle.assignment.proofs.Bits.{zero-bit, full-every, some-bit}
 use Rattle.assignment.proofs.Some.{none-of, some-at, none-at, some-stays}
 use Rattle.assignment.proofs.Moves.{without-in, in-without}
@@ -53,7 +53,7 @@ module _ (ws : List ℕ) where
       rs .induction (λ (x : ℕ). Reachable (graphAt ws r 63) x) (cs .start (omega (arith, rs .below p k)))
       (λ x q y z j. cs .next x q z (in-without (losesBit ws r 63 x) q (g .successors x) j refl)) p k
 
-  module _ {r : ℕ} {unset waiting pages : List ℕ} {limit : ℕ} {seen : Seen} (s : Searched ws r unset waiting pages limit seen) where
+  module _ {r : ℕ} {unset waiting pages : List ℕ} {limit : ℕ} {seen : Seen} (s : BlockSearched ws r unset waiting pages limit seen) where
     mark-is : (p : ℕ) → p < length ws → marked unset p ≡ markOf g p
     mark-is p h = ⊎-elim (λ e. ap (λ (b : Bool). cond b 0 1) (eq-eqb (getD unset p 0) 0 e) ∙ sym (nowhere e)) (λ n. ap (λ (b : Bool). cond b 0 1) (ne-eqb (getD unset p 0) 0 n) ∙ sym (somewhere n)) (same-or-not (getD unset p 0) 0)
       where
@@ -80,7 +80,7 @@ module _ (ws : List ℕ) where
     seen-of p k =
         all-done ws r s p (graph.laws .reaching g (law ws) .below p k) .sees 63 (complete ws r s 63 (omega arith) p (reached-cut r p k))
 
-    pub ends : Ends ws
+    pub ends : RegistersEnd ws
     ends p k = seen-of p k .few
 
     -- no bad word was seen
@@ -213,7 +213,7 @@ module _ (ws : List ℕ) where
         go false f = refl
 
     -- none is read past all
-    past-all : Ends ws → (p : ℕ) → Reachable g p → (x : ℕ) → mostRegisters ≤ x → readsBy (touchesOf ws p) x ≡ false
+    past-all : RegistersEnd ws → (p : ℕ) → Reachable g p → (x : ℕ) → mostRegisters ≤ x → readsBy (touchesOf ws p) x ≡ false
     past-all e p k x h = go (readsBy (touchesOf ws p) x) refl
       where
         go : (b : Bool) → readsBy (touchesOf ws p) x ≡ b → b ≡ false
@@ -221,7 +221,7 @@ module _ (ws : List ℕ) where
         go false f = refl
 
     -- on to the next that is read
-    module _ {r : ℕ} {unset waiting pages : List ℕ} {limit : ℕ} {seen : Seen} (s : Searched ws r unset waiting pages limit seen) where
+    module _ {r : ℕ} {unset waiting pages : List ℕ} {limit : ℕ} {seen : Seen} (s : BlockSearched ws r unset waiting pages limit seen) where
       same-on : (p : ℕ) → p < length ws → unsetBelow ws k (r + 63) p ≡ unsetBelow ws k (seen .next) p
       same-on p h =
           ⊎-elim
@@ -236,7 +236,7 @@ module _ (ws : List ℕ) where
           least-is s k from e
           ∙ lowest-laws .same (unsetBelow ws k (r + 63)) (unsetBelow ws k (seen .next)) 0 (length ws) (λ p h. same-on p (omega arith))
 
-    pub rest-is : {least r : ℕ} → Ends ws → mostRegisters ≤ r → least ≡ lowest (unsetBelow ws k r) (length ws) → least ≡ unsetOf ws k
+    pub rest-is : {least r : ℕ} → RegistersEnd ws → mostRegisters ≤ r → least ≡ lowest (unsetBelow ws k r) (length ws) → least ≡ unsetOf ws k
     unfolding lowestUnset unsetAt
     rest-is {least} {r} e l d =
         d ∙ lowest-laws .same (unsetBelow ws k r) (unsetAt g (usageOf ws) k) 0 (length ws)
@@ -258,7 +258,7 @@ module _ (ws : List ℕ) where
 
   -- after the first block
   pub rest-of :
-      (k : ℕ) {unset waiting pages : List ℕ} {seen : Seen} → k ≤ 255 → Searched ws k unset waiting pages (length ws) seen → Rest ws k (seen .least) (seen .next)
+      (k : ℕ) {unset waiting pages : List ℕ} {seen : Seen} → k ≤ 255 → BlockSearched ws k unset waiting pages (length ws) seen → Rest ws k (seen .least) (seen .next)
   rest-of k h s = record { from = omega (arith, s .under .next-from); least-is = least-on k s (omega arith) (none-is k); ends = ends s }
 
   -- the lowest reachable bad word by the marks

@@ -14,9 +14,9 @@ use Rattle.common.proofs.Order.{past}
 use Rattle.common.proofs.Stores.{at-set, stays}
 use Rattle.graph.specs.Graph.{In, Reachable}
 use Rattle.graph.specs.Assignment.{without}
-use Rattle.graph.specs.Laws.{ones}
+use Rattle.graph.specs.Laws.{markedCount}
 use Rattle.assignment.specs.declared.search.Seen.{Seen}
-use Rattle.assignment.specs.Blocks.{«EVERY», bitCount, hasBit, Waits, Joins, grown, there, graphAt, Hits, Done, Under, left}
+use Rattle.assignment.specs.Blocks.{«EVERY», bitCount, hasBit, WordWaits, Joins, grown, there, graphAt, Hits, Done, Under, left}
 use Rattle.assignment.proofs.Bits.{or-left, or-right, or-either, or-more, or-small}
 
 -- a list without what passes the test
@@ -41,16 +41,16 @@ module _ (t : ℕ → Bool) where
       go rec false e (inr j) = inr (rec j)
 
 -- sums over a list
-sum-out : (k : ℕ) (m : List ℕ) (q v : ℕ) → k ≤ q → ones k (set m q v) ≡ ones k m
-unfolding ones
+sum-out : (k : ℕ) (m : List ℕ) (q v : ℕ) → k ≤ q → markedCount k (set m q v) ≡ markedCount k m
+unfolding markedCount
 sum-out zero m q v h = refl
 sum-out (suc k) m q v h =
     let a = getD-set-other m q k v 0 (λ e. omega arith) in
     let b = sum-out k m q v (omega arith) in
     omega arith
 
-pub sum-set : (k : ℕ) (m : List ℕ) (q v : ℕ) → q < k → q < length m → ones k (set m q v) + getD m q 0 ≡ ones k m + v
-unfolding ones
+pub sum-set : (k : ℕ) (m : List ℕ) (q v : ℕ) → q < k → q < length m → markedCount k (set m q v) + getD m q 0 ≡ markedCount k m + v
+unfolding markedCount
 sum-set zero m q v h l = absurd (not-suc-le-zero h)
 sum-set (suc k) m q v h l =
     ⊎-elim
@@ -58,8 +58,8 @@ sum-set (suc k) m q v h l =
     (λ w. let o = sum-set k m q v (past (omega arith) (w .0)) l in omega arith)
     (at-set m q v k l)
 
-pub sum-small : (k : ℕ) (m : List ℕ) → ((p : ℕ) → p < k → getD m p 0 ≤ «EVERY») → ones k m ≤ k * «EVERY»
-unfolding ones
+pub sum-small : (k : ℕ) (m : List ℕ) → ((p : ℕ) → p < k → getD m p 0 ≤ «EVERY») → markedCount k m ≤ k * «EVERY»
+unfolding markedCount
 sum-small zero m b = zero-le
 sum-small (suc k) m b = let h = sum-small k m (λ p d. b p (omega arith)) in omega (arith, b k (omega arith))
 
@@ -82,8 +82,8 @@ module _ (ws : List ℕ) (r : ℕ) where
   pub record Joined (unset waiting unset′ waiting′ : List ℕ) (q more : ℕ) : Type 0 where
     pub has : (i : ℕ) → hasBit more i ≡ true → hasBit (getD unset′ q 0) i ≡ true
     pub grows : (x i : ℕ) → hasBit (getD unset x 0) i ≡ true → hasBit (getD unset′ x 0) i ≡ true
-    pub raised : (x : ℕ) → Waits waiting′ x ⊎ (getD unset′ x 0 ≡ getD unset x 0)
-    pub keeps : (x : ℕ) → Waits waiting x → Waits waiting′ x
+    pub raised : (x : ℕ) → WordWaits waiting′ x ⊎ (getD unset′ x 0 ≡ getD unset x 0)
+    pub keeps : (x : ℕ) → WordWaits waiting x → WordWaits waiting′ x
     pub less : left ws r unset′ waiting′ ≤ left ws r unset waiting
 
   module _ {hand : ℕ} {unset waiting pages : List ℕ} {limit : ℕ} {seen : Seen} {q more : ℕ} (s : Under ws r hand unset waiting pages limit seen)

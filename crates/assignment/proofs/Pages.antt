@@ -16,29 +16,29 @@ use Rattle.fields.specs.declared.version.Version.the-variants.{Lua54}
 use Rattle.sweep.specs.declared.edges.Successors.{Successors}
 use Rattle.sweep.specs.declared.edges.Successors.the-variants.{One, Two}
 use Rattle.sweep.specs.Steps.{Below}
-use Rattle.runs.specs.Successors.{successorsOf}
+use Rattle.steps.specs.Successors.{successorsOf}
 use Rattle.runs.proofs.Laws as runs
-use Rattle.assignment.specs.Blocks.{«EVERY», Waits, Paged, Finds, Room, JoinAsks, SpreadAsks, Started}
+use Rattle.assignment.specs.Blocks.{«EVERY», WordWaits, Paged, Finds, SearchRoom, JoinAsks, SpreadAsks, Started}
 
 -- none of the words from i up to p waits
 abbrev pub NoneWaits : List ℕ → ℕ → ℕ → Type 0
-NoneWaits waiting i p = (q : ℕ) → i ≤ q → q < p → Waits waiting q → ⊥
+NoneWaits waiting i p = (q : ℕ) → i ≤ q → q < p → WordWaits waiting q → ⊥
 
 module _ (waiting : List ℕ) where
-  pub none-more : (i p : ℕ) → NoneWaits waiting i p → (Waits waiting p → ⊥) → NoneWaits waiting i (p + 1)
+  pub none-more : (i p : ℕ) → NoneWaits waiting i p → (WordWaits waiting p → ⊥) → NoneWaits waiting i (p + 1)
   none-more i p h n q a b w =
       ⊎-elim
-      (λ e. n (subst (λ (x : ℕ). Waits waiting x) e w))
+      (λ e. n (subst (λ (x : ℕ). WordWaits waiting x) e w))
       (λ d. h q a (past-not q b d) w)
       (same-or-not q p)
     where
       past-not : (q : ℕ) → q < p + 1 → (q ≡ p → ⊥) → q < p
       past-not q b d = omega arith
 
-  pub waits-at : (p n : ℕ) → ltb p n && eqb (getD waiting p 0) 1 ≡ true → (p < n) × Waits waiting p
+  pub waits-at : (p n : ℕ) → ltb p n && eqb (getD waiting p 0) 1 ≡ true → (p < n) × WordWaits waiting p
   waits-at p n e = go (ltb p n) refl (eqb (getD waiting p 0) 1) refl e
     where
-      go : (a : Bool) → ltb p n ≡ a → (b : Bool) → eqb (getD waiting p 0) 1 ≡ b → a && b ≡ true → (p < n) × Waits waiting p
+      go : (a : Bool) → ltb p n ≡ a → (b : Bool) → eqb (getD waiting p 0) 1 ≡ b → a && b ≡ true → (p < n) × WordWaits waiting p
       go true d true f h = (ltb-true p n d, eqb-true _ 1 f)
       go true d false f h = absurd (false≢true h)
       go false d b f h = absurd (false≢true h)
@@ -96,7 +96,7 @@ asks-second a b k e u w g =
     }
 
 pub asks-words :
-    (ws : List ℕ) (p : ℕ) {unset waiting pages : List ℕ} {s : Successors} → Room ws unset waiting pages → s ≡ successorsOf ws p
+    (ws : List ℕ) (p : ℕ) {unset waiting pages : List ℕ} {s : Successors} → SearchRoom ws unset waiting pages → s ≡ successorsOf ws p
     → SpreadAsks s unset (set waiting p 0) pages
 asks-words ws p o e =
     record {
@@ -113,8 +113,8 @@ kept-set l m p v e = e ∙ length-set l p v
 
 -- the tables keep their lengths
 pub room-stays :
-    {ws unset waiting pages unset′ waiting′ pages′ : List ℕ} → Room ws unset waiting pages → length unset′ ≡ length unset → length waiting′ ≡ length waiting
-    → length pages′ ≡ length pages → Room ws unset′ waiting′ pages′
+    {ws unset waiting pages unset′ waiting′ pages′ : List ℕ} → SearchRoom ws unset waiting pages → length unset′ ≡ length unset → length waiting′ ≡ length waiting
+    → length pages′ ≡ length pages → SearchRoom ws unset′ waiting′ pages′
 room-stays o u w g =
     record {
       some = o .some;
@@ -126,7 +126,7 @@ room-stays o u w g =
 
 -- at the start
 pub started :
-    (ws unset waiting pages : List ℕ) {unset′ waiting′ : List ℕ} → Room ws unset waiting pages → unset′ ≡ over (λ p. 0) (length ws) unset
+    (ws unset waiting pages : List ℕ) {unset′ waiting′ : List ℕ} → SearchRoom ws unset waiting pages → unset′ ≡ over (λ p. 0) (length ws) unset
     → waiting′ ≡ over (λ p. 0) (length ws) waiting → length unset′ ≡ length unset → length waiting′ ≡ length waiting
     → Started (length ws) (set unset′ 0 «EVERY») (set waiting′ 0 1) (set pages 0 1)
 started ws unset waiting pages {unset′} {waiting′} o u w ul wl =

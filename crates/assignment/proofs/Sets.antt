@@ -17,18 +17,18 @@ use Rattle.touches.specs.declared.answer.Touches.{Touches}
 use Rattle.touches.specs.Meaning.{rangesIn}
 use Rattle.assignment.specs.declared.search.Seen.{Seen}
 use Rattle.assignment.specs.Uses.{inRange, inRanges, readsBy, setsBy, endOf}
-use Rattle.assignment.specs.Blocks.{mostRegisters, nextIn, «ALL», hasBit, Holds, HitsBy, Notes}
+use Rattle.assignment.specs.Blocks.{mostRegisters, nextIn, «ALL», hasBit, HoldsBits, HitsBy, BlockNotes}
 use Rattle.assignment.proofs.Within.{next-from}
 use Rattle.assignment.proofs.Bits.{and-bit, or-bit, zero-bit, full, full-power, full-all, full-every, full-few, not-bit, full-bit, small-bit, some-bit}
 
 module _ (r : ℕ) where
-  pub holds-none : Holds r (λ s. false) 0
+  pub holds-none : HoldsBits r (λ s. false) 0
   holds-none = record { small = omega arith; bits = λ i h. zero-bit i }
 
-  pub holds-same : {t u : ℕ → Bool} {x : ℕ} → ((s : ℕ) → t s ≡ u s) → Holds r t x → Holds r u x
+  pub holds-same : {t u : ℕ → Bool} {x : ℕ} → ((s : ℕ) → t s ≡ u s) → HoldsBits r t x → HoldsBits r u x
   holds-same e a = record { small = a .small; bits = λ i h. a .bits i h ∙ e (r + i) }
 
-  pub holds-or : {t u : ℕ → Bool} {x y : ℕ} → Holds r t x → Holds r u y → Holds r (λ s. t s || u s) (bitOr x y)
+  pub holds-or : {t u : ℕ → Bool} {x y : ℕ} → HoldsBits r t x → HoldsBits r u y → HoldsBits r (λ s. t s || u s) (bitOr x y)
   holds-or {t} {u} {x} {y} a b =
       record {
         small = let e = full-power 63 in let f = full-all in let z = or-lt 63 x y (omega (arith, a .small)) (omega (arith, b .small)) in omega arith;
@@ -36,13 +36,13 @@ module _ (r : ℕ) where
       }
 
   -- those below one
-  pub below-none : (end : ℕ) → end ≤ r → Holds r (λ s. ltb s end) 0
+  pub below-none : (end : ℕ) → end ≤ r → HoldsBits r (λ s. ltb s end) 0
   below-none end l = record { small = omega arith; bits = λ i h. zero-bit i ∙ sym (le-ltb (r + i) end (omega arith)) }
 
-  pub below-all : (end : ℕ) → 63 ≤ end - r → Holds r (λ s. ltb s end) «ALL»
+  pub below-all : (end : ℕ) → 63 ≤ end - r → HoldsBits r (λ s. ltb s end) «ALL»
   below-all end l = record { small = omega arith; bits = λ i h. ap (λ (x : ℕ). hasBit x i) (sym full-all) ∙ full-bit 63 i h ∙ sym (lt-ltb (r + i) end (omega arith)) }
 
-  pub below-some : (end : ℕ) → r < end → end - r < 63 → Holds r (λ s. ltb s end) (full (end - r))
+  pub below-some : (end : ℕ) → r < end → end - r < 63 → HoldsBits r (λ s. ltb s end) (full (end - r))
   below-some end l b =
       record {
         small = omega (arith, full-few 63 (end - r) (omega arith), full-all);
@@ -66,7 +66,7 @@ module _ (r : ℕ) where
   and-comm false true = refl
   and-comm false false = refl
 
-  pub holds-range : (x : Range) {a b : ℕ} → Holds r (λ s. ltb s (x .last + 1)) a → Holds r (λ s. ltb s (x .first)) b → Holds r (λ s. inRange s x) (bitAnd a («ALL» - b))
+  pub holds-range : (x : Range) {a b : ℕ} → HoldsBits r (λ s. ltb s (x .last + 1)) a → HoldsBits r (λ s. ltb s (x .first)) b → HoldsBits r (λ s. inRange s x) (bitAnd a («ALL» - b))
   holds-range x {a} {b} upper lower =
       record {
         small = omega (arith, and-le-l a («ALL» - b), upper .small);
@@ -80,27 +80,27 @@ module _ (r : ℕ) where
 
   -- up to three ranges
   abbrev Among : List Range → ℕ → Type 0
-  Among xs y = Holds r (λ s. inRanges s xs) y
+  Among xs y = HoldsBits r (λ s. inRanges s xs) y
 
   pub among-none : Among [] 0
   unfolding inRanges
   among-none = holds-none
 
-  pub among-one : (a : Range) {x : ℕ} → Holds r (λ s. inRange s a) x → Among (a ∷ []) x
+  pub among-one : (a : Range) {x : ℕ} → HoldsBits r (λ s. inRange s a) x → Among (a ∷ []) x
   unfolding inRanges
   among-one a h = holds-same (λ s. sym (or-false (inRange s a))) h
 
-  pub among-more : (a : Range) (xs : List Range) {x y : ℕ} → Holds r (λ s. inRange s a) x → Among xs y → Among (a ∷ xs) (bitOr x y)
+  pub among-more : (a : Range) (xs : List Range) {x y : ℕ} → HoldsBits r (λ s. inRange s a) x → Among xs y → Among (a ∷ xs) (bitOr x y)
   unfolding inRanges
   among-more a xs h l = holds-or h l
 
   -- what a word sets, by its lists
   pub holds-edge :
-      (t : Touches) (q : ℕ) {x y : ℕ} → q ≡ t .edge → Among (rangesIn (t .writes)) x → Among (rangesIn (t .«edge_writes»)) y → Holds r (setsBy t q) (bitOr x y)
+      (t : Touches) (q : ℕ) {x y : ℕ} → q ≡ t .edge → Among (rangesIn (t .writes)) x → Among (rangesIn (t .«edge_writes»)) y → HoldsBits r (setsBy t q) (bitOr x y)
   holds-edge t q e a b =
       holds-same (λ s. ap (λ (c : Bool). inRanges s (rangesIn (t .writes)) || (c && inRanges s (rangesIn (t .«edge_writes»)))) (sym (eq-eqb q (t .edge) e))) (holds-or a b)
 
-  pub holds-always : (t : Touches) (q : ℕ) {x : ℕ} → (q ≡ t .edge → ⊥) → Among (rangesIn (t .writes)) x → Holds r (setsBy t q) x
+  pub holds-always : (t : Touches) (q : ℕ) {x : ℕ} → (q ≡ t .edge → ⊥) → Among (rangesIn (t .writes)) x → HoldsBits r (setsBy t q) x
   holds-always t q n a =
       holds-same
       (λ s.
@@ -112,13 +112,13 @@ module _ (r : ℕ) where
   and-both true b e = (refl, e)
   and-both false b e = absurd (false≢true e)
 
-  pub no-hits : (t : Touches) (at : ℕ) {x : ℕ} → Holds r (readsBy t) x → bitAnd x at ≡ 0 → HitsBy r t at → ⊥
+  pub no-hits : (t : Touches) (at : ℕ) {x : ℕ} → HoldsBits r (readsBy t) x → bitAnd x at ≡ 0 → HitsBy r t at → ⊥
   no-hits t at {x} h e k =
       false≢true
       (sym (zero-bit (k .bit)) ∙ ap (λ (y : ℕ). hasBit y (k .bit)) (sym e) ∙ and-bit x at (k .bit)
       ∙ ap₂ (λ (c d : Bool). c && d) (h .bits (k .bit) (k .few) ∙ k .read) (k .unset))
 
-  pub some-hits : (t : Touches) (at : ℕ) {x : ℕ} → Holds r (readsBy t) x → (bitAnd x at ≡ 0 → ⊥) → HitsBy r t at
+  pub some-hits : (t : Touches) (at : ℕ) {x : ℕ} → HoldsBits r (readsBy t) x → (bitAnd x at ≡ 0 → ⊥) → HitsBy r t at
   some-hits t at {x} h n =
       let b = some-bit 63 (bitAnd x at) (omega (arith, and-le-l x at, h .small, full-all)) n in
       let c = and-both (hasBit x (b .0)) (hasBit at (b .0)) (sym (and-bit x at (b .0)) ∙ b .2) in
@@ -129,7 +129,7 @@ module _ (r : ℕ) where
       (t : Touches) (s : Successors) (at p : ℕ) (seen seen′ : Seen) (n : ℕ) → seen′ .next ≡ min (seen .next) n
       → (n ≡ nextIn (r + 63) (rangesIn (t .reads))) × (endOf (rangesIn (t .reads)) ≤ mostRegisters) → seen′ .bad ≡ seen .bad || isInvalid s
       → seen′ .least ≤ seen .least → (HitsBy r t at → seen′ .least ≤ p) → (seen′ .least ≡ seen .least) ⊎ ((seen′ .least ≡ p) × HitsBy r t at)
-      → Notes r t s at p seen seen′
+      → BlockNotes r t s at p seen seen′
   notes-of t s at p seen seen′ n e k f down noted new =
       record {
         down = down;

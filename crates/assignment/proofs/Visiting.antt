@@ -21,13 +21,13 @@ use Rattle.sweep.specs.declared.edges.Successors.{Successors}
 use Rattle.sweep.specs.declared.edges.Successors.the-variants.{Invalid, Stop, One, Two}
 use Rattle.runs.specs.Script.{lua54, graphOf}
 use Rattle.sweep.specs.Steps.{listOf}
-use Rattle.runs.specs.Successors.{successorsOf}
+use Rattle.steps.specs.Successors.{successorsOf}
 use Rattle.runs.proofs.Laws as runs
 use Rattle.touches.specs.declared.answer.Touches.{Touches}
 use Rattle.touches.specs.Touches.{touchesOf}
 use Rattle.assignment.specs.Uses.{setsBy}
 use Rattle.assignment.specs.declared.search.Seen.{Seen}
-use Rattle.assignment.specs.Blocks.{mostRegisters, «EVERY», bitCount, hasBit, Holds, Waits, Paged, Next, Room, leaves, Steps, Spreads, Notes, Started, losesBit, graphAt, Hits, Done, Under, Searching, Visits, left, Searched}
+use Rattle.assignment.specs.Blocks.{mostRegisters, «EVERY», bitCount, hasBit, HoldsBits, WordWaits, Paged, Next, SearchRoom, leaves, Steps, Spreads, BlockNotes, Started, losesBit, graphAt, Hits, Done, Under, Searching, BlockVisits, left, BlockSearched}
 use Rattle.assignment.proofs.Bits.{and-bit, zero-bit, full-all, full-every, not-bit, full-bit, small-bit}
 use Rattle.assignment.proofs.Moves.{without-in, in-without, sum-set, hits-on, Joined, join-under}
 
@@ -40,7 +40,7 @@ module _ (ws : List ℕ) (r : ℕ) where
   cut-law i = cutting .lawful (graphOf (lua54 ws)) (law ws) (losesBit ws r i)
 
   -- which bits a step loses
-  module _ (p q : ℕ) {sets : ℕ} (holds : Holds r (setsBy (touchesOf ws p) q) sets) where
+  module _ (p q : ℕ) {sets : ℕ} (holds : HoldsBits r (setsBy (touchesOf ws p) q) sets) where
     sets-bit : (i : ℕ) → hasBit sets i ≡ losesBit ws r i p q
     sets-bit i =
         ⊎-elim
@@ -68,8 +68,8 @@ module _ (ws : List ℕ) (r : ℕ) where
     pub record Stepped (unset waiting unset′ waiting′ : List ℕ) (s : List ℕ) : Type 0 where
       pub comes : (q : ℕ) → In q s → (i : ℕ) → i < bitCount → hasBit at i ≡ true → losesBit ws r i p q ≡ false → hasBit (getD unset′ q 0) i ≡ true
       pub grows : (x i : ℕ) → hasBit (getD unset x 0) i ≡ true → hasBit (getD unset′ x 0) i ≡ true
-      pub raised : (x : ℕ) → Waits waiting′ x ⊎ (getD unset′ x 0 ≡ getD unset x 0)
-      pub keeps : (x : ℕ) → Waits waiting x → Waits waiting′ x
+      pub raised : (x : ℕ) → WordWaits waiting′ x ⊎ (getD unset′ x 0 ≡ getD unset x 0)
+      pub keeps : (x : ℕ) → WordWaits waiting x → WordWaits waiting′ x
       pub less : left ws r unset′ waiting′ ≤ left ws r unset waiting
 
     module _ {limit : ℕ} {seen : Seen} where
@@ -146,7 +146,7 @@ module _ (ws : List ℕ) (r : ℕ) where
           )
 
   -- a word that waits is visited
-  module _ (few : length ws ≤ mostWords) {unset waiting pages : List ℕ} {limit : ℕ} {seen : Seen} {p : ℕ} (s : Searching ws r unset waiting pages limit seen) (inside : p < length ws) (waits : Waits waiting p) where
+  module _ (few : length ws ≤ mostWords) {unset waiting pages : List ℕ} {limit : ℕ} {seen : Seen} {p : ℕ} (s : Searching ws r unset waiting pages limit seen) (inside : p < length ws) (waits : WordWaits waiting p) where
     in-waiting : p < length waiting
     in-waiting = omega (arith, s .waiting-long)
 
@@ -172,7 +172,7 @@ module _ (ws : List ℕ) (r : ℕ) where
     unfolding left
     popped-less = let a = sum-set (length ws) waiting p 0 inside in-waiting in omega arith
 
-    module _ {unset′ waiting′ pages′ : List ℕ} {seen′ : Seen} (v : Visits ws r p unset waiting pages seen unset′ waiting′ pages′ seen′) where
+    module _ {unset′ waiting′ pages′ : List ℕ} {seen′ : Seen} (v : BlockVisits ws r p unset waiting pages seen unset′ waiting′ pages′ seen′) where
       moved :
           Under ws r p unset′ waiting′ pages′ limit seen
           × Stepped few p (getD unset p 0) (s .wide p inside) (s .sound p inside) unset (set waiting p 0) unset′ waiting′ (listOf (successorsOf ws p))
@@ -219,7 +219,7 @@ module _ (ws : List ℕ) (r : ℕ) where
             todo = λ q h n.
                 ⊎-elim
                 (λ e.
-                subst (λ (x : ℕ). Waits waiting′ x ⊎ Done ws r unset′ seen′ x) (sym e)
+                subst (λ (x : ℕ). WordWaits waiting′ x ⊎ Done ws r unset′ seen′ x) (sym e)
                 (⊎-elim (λ w. inl w) (λ d. inr (done d)) (moved .1 .raised p)))
                 (λ k. ⊎-elim (λ w. inl w) (λ d. inr (later q d)) (u .todo q h k))
                 (same-or-not q p);
@@ -275,16 +275,16 @@ module _ (ws : List ℕ) (r : ℕ) where
   -- what a visit does, by what the word touches and where it goes
   pub visits-by :
       (p : ℕ) {t : Touches} {s : Successors} {unset waiting pages unset′ waiting′ pages′ : List ℕ} {seen seen′ : Seen} → t ≡ touchesOf ws p → s ≡ successorsOf ws p
-      → Spreads r t (getD unset p 0) s unset (set waiting p 0) pages unset′ waiting′ pages′ → Notes r t s (getD unset p 0) p seen seen′
-      → Visits ws r p unset waiting pages seen unset′ waiting′ pages′ seen′
+      → Spreads r t (getD unset p 0) s unset (set waiting p 0) pages unset′ waiting′ pages′ → BlockNotes r t s (getD unset p 0) p seen seen′
+      → BlockVisits ws r p unset waiting pages seen unset′ waiting′ pages′ seen′
   visits-by p {t} {s} {unset} {waiting} {pages} {unset′} {waiting′} {pages′} {seen} {seen′} e f a b =
       record {
         spreads =
             subst (λ (x : Successors). Spreads r (touchesOf ws p) (getD unset p 0) x unset (set waiting p 0) pages unset′ waiting′ pages′) f
             (subst (λ (x : Touches). Spreads r x (getD unset p 0) s unset (set waiting p 0) pages unset′ waiting′ pages′) e a);
         notes =
-            subst (λ (x : Successors). Notes r (touchesOf ws p) x (getD unset p 0) p seen seen′) f
-            (subst (λ (x : Touches). Notes r x s (getD unset p 0) p seen seen′) e b);
+            subst (λ (x : Successors). BlockNotes r (touchesOf ws p) x (getD unset p 0) p seen seen′) f
+            (subst (λ (x : Touches). BlockNotes r x s (getD unset p 0) p seen seen′) e b);
       }
 
   -- the loop of the search, at word p
@@ -309,13 +309,13 @@ module _ (ws : List ℕ) (r : ℕ) where
 
   pub going-room :
       {unset₀ waiting₀ pages₀ unset waiting pages : List ℕ} {limit : ℕ} {seen : Seen} {p : ℕ} → 0 < length ws → length ws ≤ mostWords
-      → Going unset₀ waiting₀ pages₀ limit unset waiting pages seen p → Room ws unset waiting pages
+      → Going unset₀ waiting₀ pages₀ limit unset waiting pages seen p → SearchRoom ws unset waiting pages
   going-room some few o =
       record { some = some; few = few; unset-long = o .under .unset-long; waiting-long = o .under .waiting-long; pages-same = o .under .pages-same }
 
   -- a turn
   module _ (few : length ws ≤ mostWords) {unset₀ waiting₀ pages₀ unset waiting pages : List ℕ} {limit : ℕ} {seen : Seen} {p : ℕ} (o : Going unset₀ waiting₀ pages₀ limit unset waiting pages seen p)
-      (inside : p < length ws) {unset′ waiting′ pages′ : List ℕ} {seen′ : Seen} (v : Visits ws r p unset waiting pages seen unset′ waiting′ pages′ seen′) where
+      (inside : p < length ws) {unset′ waiting′ pages′ : List ℕ} {seen′ : Seen} (v : BlockVisits ws r p unset waiting pages seen unset′ waiting′ pages′ seen′) where
     pub going-visited : Searching ws r unset′ waiting′ pages′ limit seen′
     going-visited = visited few (o .under) inside (o .next .waits inside) v
 
@@ -352,11 +352,11 @@ module _ (ws : List ℕ) (r : ℕ) where
 
   pub going-done :
       {unset₀ waiting₀ pages₀ unset waiting pages : List ℕ} {limit : ℕ} {seen : Seen} {p : ℕ} → Going unset₀ waiting₀ pages₀ limit unset waiting pages seen p → length ws ≤ p
-      → Searched ws r unset waiting pages limit seen
+      → BlockSearched ws r unset waiting pages limit seen
   going-done o h = record { under = o .under; none = λ p l w. o .next .none h p l w }
 
   -- at the end the states are those of the paths
-  module _ {unset waiting pages : List ℕ} {limit : ℕ} {seen : Seen} (s : Searched ws r unset waiting pages limit seen) where
+  module _ {unset waiting pages : List ℕ} {limit : ℕ} {seen : Seen} (s : BlockSearched ws r unset waiting pages limit seen) where
     pub all-done : (p : ℕ) → p < length ws → Done ws r unset seen p
     all-done p h = ⊎-elim (λ w. absurd (s .none p h w)) (λ d. d) (s .under .todo p h (λ e. omega arith))
 

@@ -11,7 +11,7 @@ use lib.ListN.{length, getD, take}
 use Rattle.touches.specs.declared.answer.Range.{Range}
 use Rattle.touches.specs.Meaning.{Within}
 use Rattle.assignment.specs.Uses.{inRange, inRanges, endOf}
-use Rattle.assignment.specs.Blocks.{mostRegisters, nextOf, nextIn}
+use Rattle.assignment.specs.Blocks.{mostRegisters, nextRegister, nextIn}
 
 -- the test is that of the relation
 in-within : (r : ℕ) (xs : List Range) → inRanges r xs ≡ true → Within r xs
@@ -84,7 +84,7 @@ module _ {X : Type 0} (f : List Range → X) (l : List Range) (t : length l ≡ 
       go (suc (suc (suc (suc k)))) n m o = refl
 
 -- the next register, and none before it
-next-of-from : (r : ℕ) (x : Range) → min r mostRegisters ≤ nextOf r x
+next-of-from : (r : ℕ) (x : Range) → min r mostRegisters ≤ nextRegister r x
 next-of-from r x = go (leb (max (x .first) r) (x .last))
   where
     go : (b : Bool) → min r mostRegisters ≤ cond b (max (x .first) r) mostRegisters
@@ -96,7 +96,7 @@ unfolding nextIn
 next-from r [] = omega arith
 next-from r (x ∷ xs) = omega (arith, next-of-from r x, next-from r xs)
 
-next-of-at : (r q : ℕ) (x : Range) → r ≤ q → x .first ≤ q → q ≤ x .last → nextOf r x ≤ q
+next-of-at : (r q : ℕ) (x : Range) → r ≤ q → x .first ≤ q → q ≤ x .last → nextRegister r x ≤ q
 next-of-at r q x l a b = rw (le-leb (max (x .first) r) (x .last) (omega arith)) (omega arith)
 
 next-at : (r q : ℕ) (xs : List Range) → r ≤ q → Within q xs → nextIn r xs ≤ q

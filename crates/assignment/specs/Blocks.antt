@@ -14,12 +14,12 @@ use Rattle.common.specs.Limits.{mostWords}
 use Rattle.common.specs.Lowest.{lowest}
 use Rattle.graph.specs.Graph.{Graph, In, Reachable}
 use Rattle.graph.specs.Assignment.{cut, someBelow, readsUnset}
-use Rattle.graph.specs.Laws.{ones}
+use Rattle.graph.specs.Laws.{markedCount}
 use Rattle.sweep.specs.declared.edges.Successors.{Successors}
 use Rattle.sweep.specs.declared.edges.Successors.the-variants.{Invalid, Stop, One, Two}
 use Rattle.runs.specs.Script.{lua54, graphOf}
 use Rattle.sweep.specs.Steps.{isInvalid, Below}
-use Rattle.runs.specs.Successors.{successorsOf}
+use Rattle.steps.specs.Successors.{successorsOf}
 use Rattle.touches.specs.declared.answer.Range.{Range}
 use Rattle.touches.specs.declared.answer.Touches.{Touches}
 use Rattle.touches.specs.Touches.{touchesOf}
@@ -34,15 +34,15 @@ abbrev pub mostRegisters : ℕ
 mostRegisters = 65536
 
 -- the lowest register from r on in a range, and in one of several; past all registers if there is none
-abbrev pub nextOf : ℕ → Range → ℕ
-nextOf r x = cond (leb (max (x .first) r) (x .last)) (max (x .first) r) mostRegisters
+abbrev pub nextRegister : ℕ → Range → ℕ
+nextRegister r x = cond (leb (max (x .first) r) (x .last)) (max (x .first) r) mostRegisters
 
 unfoldable pub nextIn : ℕ → List Range → ℕ
 nextIn r [] = mostRegisters
-nextIn r (x ∷ xs) = min (nextOf r x) (nextIn r xs)
+nextIn r (x ∷ xs) = min (nextRegister r x) (nextIn r xs)
 
 -- lists of registers of three places each, as every answer has them
-pub record Listed (t : Touches) : Type 0 where
+pub record TouchesListed (t : Touches) : Type 0 where
   pub reads : length (t .reads .items) ≡ 3
   pub writes : length (t .writes .items) ≡ 3
   pub edge-writes : length (t .«edge_writes» .items) ≡ 3
@@ -67,7 +67,7 @@ abbrev pub «EVERY» : ℕ
 «EVERY» = 18446744073709551615
 
 -- a number has, of the registers from r on, those that pass the test
-pub record Holds (r : ℕ) (t : ℕ → Bool) (x : ℕ) : Type 0 where
+pub record HoldsBits (r : ℕ) (t : ℕ → Bool) (x : ℕ) : Type 0 where
   pub small : x ≤ «ALL»
   pub bits : (i : ℕ) → i < «BLOCK» → hasBit x i ≡ t (r + i)
 
@@ -80,24 +80,24 @@ abbrev pub «PAGE» : ℕ
 abbrev pub mostPages : ℕ
 mostPages = 256
 
-abbrev pub Waits : List ℕ → ℕ → Type 0
-Waits waiting p = getD waiting p 0 ≡ 1
+abbrev pub WordWaits : List ℕ → ℕ → Type 0
+WordWaits waiting p = getD waiting p 0 ≡ 1
 
 -- a page in which one of n words waits is marked
 abbrev pub Paged : ℕ → List ℕ → List ℕ → Type 0
-Paged n waiting pages = (p : ℕ) → p < n → Waits waiting p → getD pages (p / «PAGE») 0 ≡ 1
+Paged n waiting pages = (p : ℕ) → p < n → WordWaits waiting p → getD pages (p / «PAGE») 0 ≡ 1
 
 -- p is the first word from i on that waits, or the end
 pub record Finds (waiting : List ℕ) (i end p : ℕ) : Type 0 where
   pub upto : p ≤ end
-  pub none : (q : ℕ) → i ≤ q → q < p → Waits waiting q → ⊥
-  pub waits : p < end → Waits waiting p
+  pub none : (q : ℕ) → i ≤ q → q < p → WordWaits waiting q → ⊥
+  pub waits : p < end → WordWaits waiting p
 
 -- p is a word that waits, or n, and none does
 pub record Next (waiting : List ℕ) (n p : ℕ) : Type 0 where
   pub upto : p ≤ n
-  pub waits : p < n → Waits waiting p
-  pub none : n ≤ p → (q : ℕ) → q < n → Waits waiting q → ⊥
+  pub waits : p < n → WordWaits waiting p
+  pub none : n ≤ p → (q : ℕ) → q < n → WordWaits waiting q → ⊥
 
 -- The search
 
@@ -122,7 +122,7 @@ leaves at sets = bitAnd at («EVERY» - sets)
 pub record Steps (r : ℕ) (t : Touches) (at q : ℕ) (unset waiting pages unset′ waiting′ pages′ : List ℕ)
     : Type 0 where
   pub sets : ℕ
-  pub holds : Holds r (setsBy t q) sets
+  pub holds : HoldsBits r (setsBy t q) sets
   pub joins : Joins unset waiting pages q (leaves at sets) unset′ waiting′ pages′
 
 -- one step after the other
@@ -169,7 +169,7 @@ pub record Sees (r : ℕ) (t : Touches) (s : Successors) (next : ℕ) (bad : Boo
   pub bad-seen : isInvalid s ≡ true → bad ≡ true
 
 -- what a visit of word p notes
-pub record Notes (r : ℕ) (t : Touches) (s : Successors) (at p : ℕ) (seen seen′ : Seen) : Type 0 where
+pub record BlockNotes (r : ℕ) (t : Touches) (s : Successors) (at p : ℕ) (seen seen′ : Seen) : Type 0 where
   pub down : seen′ .least ≤ seen .least
   pub noted : HitsBy r t at → seen′ .least ≤ p
   pub new : (seen′ .least ≡ seen .least) ⊎ ((seen′ .least ≡ p) × HitsBy r t at)
@@ -185,7 +185,7 @@ pub record Started (n : ℕ) (unset waiting pages : List ℕ) : Type 0 where
   pub pages-same : length pages ≡ mostPages
   pub first : getD unset 0 0 ≡ «EVERY»
   pub others : (p : ℕ) → 0 < p → p < n → getD unset p 0 ≡ 0
-  pub waits : Waits waiting 0
+  pub waits : WordWaits waiting 0
   pub quiet : (p : ℕ) → 0 < p → p < n → getD waiting p 0 ≡ 0
   pub page : getD pages 0 0 ≡ 1
 
@@ -228,29 +228,31 @@ module _ (ws : List ℕ) (r : ℕ) where
     pub least-few : seen .least ≤ limit
     pub least-hits : seen .least < limit → Hits unset (seen .least)
     pub next-from : min (r + «BLOCK») mostRegisters ≤ seen .next
-    pub todo : (p : ℕ) → p < length ws → (p ≡ hand → ⊥) → Waits waiting p ⊎ Done unset seen p
+    pub todo : (p : ℕ) → p < length ws → (p ≡ hand → ⊥) → WordWaits waiting p ⊎ Done unset seen p
 
   -- no word is in hand
   abbrev pub Searching : List ℕ → List ℕ → List ℕ → ℕ → Seen → Type 0
   Searching unset waiting pages limit seen = Under (length ws) unset waiting pages limit seen
 
   -- word p is visited
-  pub record Visits (p : ℕ) (unset waiting pages : List ℕ) (seen : Seen) (unset′ waiting′ pages′ : List ℕ)
+  pub record BlockVisits (p : ℕ) (unset waiting pages : List ℕ) (seen : Seen)
+      (unset′ waiting′ pages′ : List ℕ)
       (seen′ : Seen) : Type 0 where
     pub spreads :
         Spreads r (touchesOf ws p) (getD unset p 0) (successorsOf ws p) unset
         (set waiting p 0) pages unset′ waiting′
         pages′
-    pub notes : Notes r (touchesOf ws p) (successorsOf ws p) (getD unset p 0) p seen seen′
+    pub notes : BlockNotes r (touchesOf ws p) (successorsOf ws p) (getD unset p 0) p seen seen′
 
   -- it ends: each state has so many numbers above it, and each visit is of a word that waits
   unfoldable pub left : List ℕ → List ℕ → ℕ
-  left unset waiting = (length ws * (1 + «EVERY») - ones (length ws) unset) + ones (length ws) waiting
+  left unset waiting =
+      (length ws * (1 + «EVERY») - markedCount (length ws) unset) + markedCount (length ws) waiting
 
   -- all is done
-  pub record Searched (unset waiting pages : List ℕ) (limit : ℕ) (seen : Seen) : Type 0 where
+  pub record BlockSearched (unset waiting pages : List ℕ) (limit : ℕ) (seen : Seen) : Type 0 where
     pub under : Searching unset waiting pages limit seen
-    pub none : (p : ℕ) → p < length ws → Waits waiting p → ⊥
+    pub none : (p : ℕ) → p < length ws → WordWaits waiting p → ⊥
 
 -- The words
 
@@ -262,7 +264,7 @@ abbrev pub fewWords : ℕ
 fewWords = 512
 
 -- some words, not too many, and tables that are long enough
-pub record Room (ws unset waiting pages : List ℕ) : Type 0 where
+pub record SearchRoom (ws unset waiting pages : List ℕ) : Type 0 where
   pub some : 0 < length ws
   pub few : length ws ≤ mostWords
   pub unset-long : length ws ≤ length unset
@@ -270,8 +272,8 @@ pub record Room (ws unset waiting pages : List ℕ) : Type 0 where
   pub pages-same : length pages ≡ mostPages
 
 -- no reachable word reads a register past all
-abbrev pub Ends : List ℕ → Type 0
-Ends ws = (p : ℕ) → Reachable (graphOf (lua54 ws)) p → readsEnd ws p ≤ mostRegisters
+abbrev pub RegistersEnd : List ℕ → Type 0
+RegistersEnd ws = (p : ℕ) → Reachable (graphOf (lua54 ws)) p → readsEnd ws p ≤ mostRegisters
 
 -- 1 at a word that some way comes to
 abbrev pub marked : List ℕ → ℕ → ℕ
@@ -285,4 +287,4 @@ unsetBelow ws parameters r p = someBelow (readsUnset (graphOf (lua54 ws)) (usage
 pub record Rest (ws : List ℕ) (parameters least r : ℕ) : Type 0 where
   pub from : parameters ≤ r
   pub least-is : least ≡ lowest (unsetBelow ws parameters r) (length ws)
-  pub ends : Ends ws
+  pub ends : RegistersEnd ws

@@ -2,5 +2,4 @@
 pub mod Uses
 pub mod Answers
 pub mod Blocks
-pub mod Flat
 pub mod Meaning

@@ -1,6 +1,6 @@
 // Over runs and touches: registers set before use (request C-15). In the field's terms: definite assignment.
+pub mod c;
 pub mod definite;
-pub mod exported;
 mod ranges;
 mod search;
 mod waiting;

@@ -1,12 +1,20 @@
 // Sets of registers: those of a block, from register r on, as the bits of a number. The highest bit is no
 // register's.
 ghost use mathlib.Core.Path.{_≡_};
-ghost use Prim.Native.Nat.{_≤_, _<_, min, max};
+ghost use Prim.Native.Nat.{_≤_, _<_};
 ghost use lib.Dec.{ltb};
 ghost use lib.ListN.{length};
 ghost use Rattle.touches.specs.Meaning.{rangesIn};
 ghost use Rattle.assignment.specs.Uses.{inRange, inRanges, endOf, setsBy};
-ghost use Rattle.assignment.specs.Blocks.{mostRegisters, nextOf, nextIn, Listed, Holds};
+ghost use Rattle.assignment.specs.Blocks.{
+  mostRegisters,
+  nextRegister,
+  nextIn,
+  TouchesListed,
+  HoldsBits,
+};
+use common::widths::larger_size;
+use common::widths::smaller_size;
 use touches::Touches;
 use touches::answer::Range;
 use touches::answer::Ranges;
@@ -22,7 +30,7 @@ const ALL: u64 = 9223372036854775807;
 
 // The registers below one.
 fn below(r: usize, end: usize) -> u64
-    ensures { λ m. ⌜ Holds r (λ s. ltb s end) m ⌝ }
+    ensures { λ m. ⌜ HoldsBits r (λ s. ltb s end) m ⌝ }
 {
     if end <= r {
         return 0;
@@ -35,14 +43,14 @@ fn below(r: usize, end: usize) -> u64
 }
 
 fn in_range(r: usize, x: Range) -> u64
-    ensures { λ m. ⌜ Holds r (λ s. inRange s x) m ⌝ }
+    ensures { λ m. ⌜ HoldsBits r (λ s. inRange s x) m ⌝ }
 {
     below(r, x.last as usize + 1) & (ALL - below(r, x.first as usize))
 }
 
 pub(crate) fn in_ranges(r: usize, x: Ranges) -> u64
     requires { ⌜ length (x .items) ≡ 3 ⌝ }
-    ensures { λ m. ⌜ Holds r (λ s. inRanges s (rangesIn x)) m ⌝ }
+    ensures { λ m. ⌜ HoldsBits r (λ s. inRanges s (rangesIn x)) m ⌝ }
 {
     let items = x.items;
     let count = x.count;
@@ -60,8 +68,8 @@ pub(crate) fn in_ranges(r: usize, x: Ranges) -> u64
 
 // The registers that a word that touches t sets on the step to q.
 pub(crate) fn set_by(r: usize, t: Touches, q: usize) -> u64
-    requires { ⌜ Listed t ⌝ }
-    ensures { λ m. ⌜ Holds r (setsBy t q) m ⌝ }
+    requires { ⌜ TouchesListed t ⌝ }
+    ensures { λ m. ⌜ HoldsBits r (setsBy t q) m ⌝ }
 {
     let writes = t.writes;
     let always = in_ranges(r, writes);
@@ -72,29 +80,11 @@ pub(crate) fn set_by(r: usize, t: Touches, q: usize) -> u64
     always
 }
 
-fn larger(x: usize, y: usize) -> usize
-    ensures { λ r. ⌜ r ≡ max x y ⌝ }
-{
-    if x < y {
-        return y;
-    }
-    x
-}
-
-pub(crate) fn smaller(x: usize, y: usize) -> usize
-    ensures { λ r. ⌜ r ≡ min x y ⌝ }
-{
-    if y < x {
-        return y;
-    }
-    x
-}
-
 // The lowest register from r on in a range, past all registers if there is none.
 fn next_of(x: Range, r: usize) -> usize
-    ensures { λ s. ⌜ (s ≡ nextOf r x) × (x .last < mostRegisters) ⌝ }
+    ensures { λ s. ⌜ (s ≡ nextRegister r x) × (x .last < mostRegisters) ⌝ }
 {
-    let first = larger(x.first as usize, r);
+    let first = larger_size(x.first as usize, r);
     if first <= x.last as usize {
         return first;
     }
@@ -112,19 +102,19 @@ pub(crate) fn next_in(x: Ranges, r: usize) -> usize
         return MOST_REGISTERS;
     }
     if count == 1 {
-        return smaller(next_of(items[0], r), MOST_REGISTERS);
+        return smaller_size(next_of(items[0], r), MOST_REGISTERS);
     }
     if count == 2 {
-        return smaller(
+        return smaller_size(
             next_of(items[0], r),
-            smaller(next_of(items[1], r), MOST_REGISTERS),
+            smaller_size(next_of(items[1], r), MOST_REGISTERS),
         );
     }
-    smaller(
+    smaller_size(
         next_of(items[0], r),
-        smaller(
+        smaller_size(
             next_of(items[1], r),
-            smaller(next_of(items[2], r), MOST_REGISTERS),
+            smaller_size(next_of(items[2], r), MOST_REGISTERS),
         ),
     )
 }

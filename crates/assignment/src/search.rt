@@ -8,17 +8,24 @@ ghost use lib.ListN.{length};
 ghost use Rattle.common.specs.Lists.{over};
 ghost use Rattle.sweep.specs.Steps.{isInvalid};
 ghost use Rattle.touches.specs.Table.{accessTable};
-ghost use Rattle.assignment.specs.Blocks.{mostRegisters, Listed, Room, JoinAsks, Joins};
-ghost use Rattle.assignment.specs.Blocks.{SpreadAsks, Spreads, Notes, Visits, Started, Searched};
+ghost use Rattle.assignment.specs.Blocks.{mostRegisters, TouchesListed, SearchRoom, JoinAsks, Joins};
+ghost use Rattle.assignment.specs.Blocks.{
+  SpreadAsks,
+  Spreads,
+  BlockNotes,
+  BlockVisits,
+  Started,
+  BlockSearched,
+};
 use crate::ranges::BLOCK;
 use crate::ranges::MOST_REGISTERS;
 use crate::ranges::in_ranges;
 use crate::ranges::next_in;
 use crate::ranges::set_by;
-use crate::ranges::smaller;
 use crate::waiting::PAGE;
 use crate::waiting::next_waiting;
-use runs::successors::successors;
+use common::widths::smaller_size;
+use steps::successors::successors;
 use sweep::edges::Successors;
 use touches::Touches;
 use touches::word::touches_in;
@@ -52,7 +59,7 @@ fn spread(
     r: usize,
     at: u64,
 )
-    requires { ⌜ Listed t × SpreadAsks s (now unset) (now waiting) (now pages) ⌝ }
+    requires { ⌜ TouchesListed t × SpreadAsks s (now unset) (now waiting) (now pages) ⌝ }
     ensures { λ _. ⌜ Spreads r t at s (now (unset .entry)) (now (waiting .entry)) (now (pages .entry))
         (now (unset .exit)) (now (waiting .exit)) (now (pages .exit)) ⌝ }
 {
@@ -127,11 +134,11 @@ fn onward(s: Successors, p: usize) -> usize {
 
 // Word p, which touches t and goes on by s, is visited, and some registers are unset there.
 fn note(t: Touches, s: Successors, r: usize, at: u64, p: usize, seen: Seen) -> Seen
-    requires { ⌜ Listed t × (r ≤ mostRegisters) ⌝ }
-    ensures { λ f. ⌜ Notes r t s at p seen f ⌝ }
+    requires { ⌜ TouchesListed t × (r ≤ mostRegisters) ⌝ }
+    ensures { λ f. ⌜ BlockNotes r t s at p seen f ⌝ }
 {
     let reads = t.reads;
-    let next = smaller(seen.next, next_in(reads, r + BLOCK));
+    let next = smaller_size(seen.next, next_in(reads, r + BLOCK));
     let bad = bad_too(seen.bad, s);
     let to = onward(s, p);
     let least = seen.least;
@@ -171,9 +178,9 @@ fn visit(
     p: usize,
     seen: Seen,
 ) -> Seen
-    requires { ⌜ (now rows ≡ accessTable) × Room (now words) (now unset) (now waiting) (now pages)
+    requires { ⌜ (now rows ≡ accessTable) × SearchRoom (now words) (now unset) (now waiting) (now pages)
         × (p < length (now words)) × (r ≤ mostRegisters) ⌝ }
-    ensures { λ f. ⌜ Visits (now (words .entry)) r p (now (unset .entry)) (now (waiting .entry))
+    ensures { λ f. ⌜ BlockVisits (now (words .entry)) r p (now (unset .entry)) (now (waiting .entry))
         (now (pages .entry)) seen (now (unset .exit)) (now (waiting .exit)) (now (pages .exit)) f ⌝ }
 {
     waiting[p] = 0;
@@ -208,7 +215,7 @@ fn clear_waiting(waiting: &mut [u8], n: usize)
 
 // At word 0 no register is set, and it alone waits.
 fn start(words: &[u32], unset: &mut [u64], waiting: &mut [u8], pages: &mut [u8])
-    requires { ⌜ Room (now words) (now unset) (now waiting) (now pages) ⌝ }
+    requires { ⌜ SearchRoom (now words) (now unset) (now waiting) (now pages) ⌝ }
     ensures { λ _. ⌜ Started (length (now (words .entry))) (now (unset .exit)) (now (waiting .exit))
         (now (pages .exit)) ⌝ }
 {
@@ -229,9 +236,9 @@ pub(crate) fn search(
     pages: &mut [u8],
     limit: usize,
 ) -> Seen
-    requires { ⌜ (now rows ≡ accessTable) × Room (now words) (now unset) (now waiting) (now pages)
+    requires { ⌜ (now rows ≡ accessTable) × SearchRoom (now words) (now unset) (now waiting) (now pages)
         × (limit ≤ length (now words)) × (r ≤ mostRegisters) ⌝ }
-    ensures { λ f. ⌜ Searched (now (words .entry)) r (now (unset .exit)) (now (waiting .exit))
+    ensures { λ f. ⌜ BlockSearched (now (words .entry)) r (now (unset .exit)) (now (waiting .exit))
         (now (pages .exit)) limit f ⌝ }
 {
     start(words, unset, waiting, pages);

@@ -13,7 +13,7 @@ use Rattle.fields.specs.declared.version.Version.{Version}
 use Rattle.runs.specs.Script.{scriptOf}
 use Rattle.runs.specs.Weights.{refusesWeights, weightsPlace, Weighs}
 use Rattle.meter.specs.declared.step.Meter.{Meter}
-use Rattle.meter.specs.declared.step.FeedAnswer.{FeedAnswer}
+use Rattle.common.specs.declared.c.FlatAnswer.{FlatAnswer}
 use Rattle.meter.specs.declared.step.Fed.{Fed}
 use Rattle.meter.specs.Feed.{Scale, isBegun, isForeign, isStray, movedTo, beginOf, resetOf, feedOf, refusal}
 use Rattle.meter.specs.Model.{Call, begin, feed, reset}
@@ -22,7 +22,7 @@ use Rattle.meter.specs.Demand3.{Demand3}
 use Rattle.meter.proofs.Laws.{laws}
 use Rattle.budget.specs.declared.step.Meters.{Meters}
 use Rattle.budget.specs.Four.{meterOf, othersOf, isOutOfRange}
-use Rattle.budget.specs.Calls.{FourCall, Scripts, scriptsOf, JustBegun, made, fourAfter, aloneAnswers, numbersOf, turnsBack, answered, ownCalls, ownAnswers}
+use Rattle.budget.specs.Calls.{FourCall, Scripts, scriptsOf, JustBegun, made, fourAfter, aloneAnswers, answerNumbers, turnsBack, answered, ownCalls, ownAnswers}
 use Rattle.budget.specs.Alone as Claim
 use Rattle.budget.specs.Alone.{RunsAlone, FollowsOwnModel}
 use Rattle.budget.proofs.View.{taken, settled, viewed, seenAs, other-as, own-as}
@@ -80,19 +80,19 @@ left g m s others (feed q) = go (isOutOfRange s)
 left g m s others reset = refl
 
 module _ (g : Scripts) (i : ℕ) (i-script : i ≤ 3) where
-  abbrev Same : Meter → List Call → List FeedAnswer → Meter → Type 0
+  abbrev Same : Meter → List Call → List FlatAnswer → Meter → Type 0
   Same m own answers after = (answers ≡ aloneAnswers (g i) m own) × (after ≡ meterAfter (g i) m own)
 
   -- a call left out
-  skipped : (m n : Meter) → n ≡ m → (own : List Call) (answers : List FeedAnswer) (after : Meter) → Same n own answers after → Same m own answers after
+  skipped : (m n : Meter) → n ≡ m → (own : List Call) (answers : List FlatAnswer) (after : Meter) → Same n own answers after → Same m own answers after
   skipped m n e own answers after h = rw (← e) h
 
   -- a call kept
-  kept : (m : Meter) (v : Fed) (c : Call) → v ≡ called (g i) m c → (own : List Call) (answers : List FeedAnswer) (after : Meter) → Same (v .meter) own answers after
+  kept : (m : Meter) (v : Fed) (c : Call) → v ≡ called (g i) m c → (own : List Call) (answers : List FlatAnswer) (after : Meter) → Same (v .meter) own answers after
       → Same m (c ∷ own) (answered c (v .answer) answers) after
   kept m v begin e own answers after h = skipped (beginOf m) (v .meter) (ap (λ (z : Fed). z .meter) e) own answers after h
   kept m v (feed q) e own answers after h = (
-    ap (λ (l : List FeedAnswer). v .answer ∷ l) (h .0) ∙ ap (λ (f : Fed). f .answer ∷ aloneAnswers (g i) (f .meter) own) e,
+    ap (λ (l : List FlatAnswer). v .answer ∷ l) (h .0) ∙ ap (λ (f : Fed). f .answer ∷ aloneAnswers (g i) (f .meter) own) e,
     h .1 ∙ ap (λ (f : Fed). meterAfter (g i) (f .meter) own) e,
   )
   kept m v reset e own answers after h = skipped (resetOf m) (v .meter) (ap (λ (z : Fed). z .meter) e) own answers after h
@@ -109,7 +109,7 @@ module _ (g : Scripts) (i : ℕ) (i-script : i ≤ 3) where
         subst (λ (v : Fed). Left (meterOf ms i) v (called (g i) (meterOf ms i) (c .call)) (turnsBack (v .answer .number))) (sym same)
         (left (g i) (meterOf ms i) (c .budget) (othersOf ms i) (c .call))
 
-    step : (own : List Call) (answers : List FeedAnswer) (after : Meter) (t u : Bool) → eqb (c .script) i ≡ t → turnsBack (next .answer .number) ≡ u → Same (next .meter) own answers after
+    step : (own : List Call) (answers : List FlatAnswer) (after : Meter) (t u : Bool) → eqb (c .script) i ≡ t → turnsBack (next .answer .number) ≡ u → Same (next .meter) own answers after
         → Same (meterOf ms i) (cond (t && not u) (c .call ∷ own) own) (cond (t && not u) (answered (c .call) (next .answer) answers) answers) after
     step own answers after false u e d h = skipped (meterOf ms i) (next .meter) (other-as g ms i i-script c e) own answers after h
     step own answers after true true e d h = skipped (meterOf ms i) (next .meter) (rw d at (own-left e)) own answers after h
@@ -126,7 +126,7 @@ module _ (g : Scripts) (i : ℕ) (i-script : i ≤ 3) where
 
 -- Each script and its reference model.
 
-numbers-alone : (s : Scale) (m : Meter) (cs : List Call) → numbersOf (aloneAnswers s m cs) ≡ meterAnswers s m cs
+numbers-alone : (s : Scale) (m : Meter) (cs : List Call) → answerNumbers (aloneAnswers s m cs) ≡ meterAnswers s m cs
 numbers-alone s m [] = refl
 numbers-alone s m (begin ∷ cs) = numbers-alone s (beginOf m) cs
 numbers-alone s m (feed q ∷ cs) = ap (λ (l : List ℕ). feedOf s m q .answer .number ∷ l) (numbers-alone s (feedOf s m q .meter) cs)
@@ -147,7 +147,7 @@ module _ (versions : ℕ → Version) (words weights : ℕ → List ℕ) (ms : M
       let same : meterOf (fourAfter g ms calls) i ≡ meterAfter (g i) (beginOf (meterOf ms i)) own =
       a .meter ∙ ap (λ (m : Meter). meterAfter (g i) m own) (sym (b .begun)) in
       record {
-        answers = ap numbersOf (a .answers) ∙ numbers-alone (g i) (meterOf ms i) own ∙ ap (λ (m : Meter). meterAnswers (g i) m own) (sym (b .begun)) ∙ f .answers;
+        answers = ap answerNumbers (a .answers) ∙ numbers-alone (g i) (meterOf ms i) own ∙ ap (λ (m : Meter). meterAnswers (g i) m own) (sym (b .begun)) ∙ f .answers;
         begun = ap isBegun same ∙ f .begun;
         last = ap (λ (m : Meter). m .last) same ∙ f .last;
         count = ap (λ (m : Meter). m .count) same ∙ f .count;

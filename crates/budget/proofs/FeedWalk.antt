@@ -42,13 +42,13 @@ use denote.Exit.{yes}
 use denote.Triple.Clauses.{Clauses, ensured, lasts, closing}
 use Rattle.runs.specs.Script.{Script}
 use Rattle.meter.specs.declared.step.Meter.{Meter}
-use Rattle.meter.specs.declared.step.FeedAnswer.{FeedAnswer}
+use Rattle.common.specs.declared.c.FlatAnswer.{FlatAnswer}
 use Rattle.meter.specs.declared.step.Fed.{Fed}
 use Rattle.meter.specs.Feed.{scaleOf}
 use Rattle.meter.proofs.step.Meter as O
 use Rattle.meter.proofs.step.Meter.Laws as O′
-use Rattle.meter.proofs.step.FeedAnswer as N
-use Rattle.meter.proofs.step.FeedAnswer.Laws as N′
+use Rattle.common.proofs.c.FlatAnswer as N
+use Rattle.common.proofs.c.FlatAnswer.Laws as N′
 use Rattle.budget.specs.declared.step.Meters.{Meters}
 use Rattle.budget.specs.declared.step.FedFour.{FedFour}
 use Rattle.budget.specs.Four.{withMeter, ownOf, feedFourOf}
@@ -58,7 +58,7 @@ use Rattle.budget.proofs.step.Meters.Laws as T′
 use Rattle.meter.proofs.step.Fed as F
 use Rattle.meter.proofs.step.Fed.Laws as F′
 use Rattle.budget.proofs.step.feed_own as step
-use Rattle.budget.proofs.lent.lawendeb_feed_four as f
+use Rattle.budget.proofs.c.lawendeb_feed_four as f
 
 abbrev stayed : Stays (f.ended .signature .params) (f.ended .kept)
 stayed = (stay-none-slice (0 ∷ []) tt (plain (λ _. u32)) yes, (stay-none-slice (1 ∷ []) tt (plain (λ _. u8)) yes, (stay-ref (2 ∷ []) tt (plain (λ _. T.the-row)), (stay-none (λ _. u32) yes, (stay-none (λ _. u32) yes, (stay-none (λ _. usize) yes, tt))))))
@@ -66,7 +66,7 @@ stayed = (stay-none-slice (0 ∷ []) tt (plain (λ _. u32)) yes, (stay-none-slic
 abbrev vals : Meters → List Val
 vals = LL.vals T.the-type T′.the-laws
 
-abbrev answer-vals : FeedAnswer → List Val
+abbrev answer-vals : FlatAnswer → List Val
 answer-vals = LL.vals N.the-type N′.the-laws
 
 -- what whoever holds a `Fed` knows of its two fields
@@ -237,7 +237,7 @@ module _ (lang : List ℕ → Script) (callee : Name) where
     put : (r : Fed) → r ≡ ownOf i found → withMeter h i (r .meter) ≡ found .meters
     put r e = ap (λ (f : Fed). withMeter h i (f .meter)) e ∙ puts (scaleOf (lang (now ws)) (now ts)) h i z n
 
-    exits : (a : FeedAnswer) (h′ : Meters) → a ≡ found .answer → h′ ≡ found .meters → Is N.the-row a (answer-vals a)
+    exits : (a : FlatAnswer) (h′ : Meters) → a ≡ found .answer → h′ ≡ found .meters → Is N.the-row a (answer-vals a)
         → ent 𝓤 (⋆ 𝓤 H A (‵ (fobs γ (T.the-row .coded .code h′)) ∷ ‵ (fbor κ′ (Body (mem T.the-row) b o γ)) ∷ ‵ (flft κ′ q′) ∷ (‵ (flft κ q) ⊛ ‵ (flft κ₂ q₂) ⊛ ‵ ftrue) ∷ ‵ Weighs ∷ ‵ Own ∷ [])) (Post (only (answer-vals a)))
     exits a h′ ea eh is =
         qed W (‵ (fobs γ (T.the-row .coded .code h′)) ∷ ‵ (fbor κ′ (Body (mem T.the-row) b o γ)) ∷ ‵ (flft κ′ q′) ∷ (‵ (flft κ q) ⊛ ‵ (flft κ₂ q₂) ⊛ ‵ ftrue) ∷ ‵ Weighs ∷ ‵ Own ∷ []) ∵

@@ -7,7 +7,7 @@ use mathlib.Core.List.{List, [], _∷_}
 use lib.Dec.{eqb}
 use Rattle.runs.specs.Script.{scriptOf}
 use Rattle.meter.specs.declared.step.Meter.{Meter}
-use Rattle.meter.specs.declared.step.FeedAnswer.{FeedAnswer}
+use Rattle.common.specs.declared.c.FlatAnswer.{FlatAnswer}
 use Rattle.meter.specs.Feed.{Scale, scaleOf, beginOf, resetOf}
 use Rattle.meter.specs.Model.{Call, begin, feed, reset}
 use Rattle.budget.specs.declared.step.Meters.{Meters}
@@ -23,30 +23,30 @@ lasting g m (begins ∷ xs) = lasting g (beginOf m) xs
 lasting g m (feeds q s others ∷ xs) = lasting g (viewed g m s others (feed q) .meter) xs
 lasting g m (resets ∷ xs) = lasting g (resetOf m) xs
 
-abbrev answering : Scale → Meter → List Seen → List FeedAnswer
+abbrev answering : Scale → Meter → List Seen → List FlatAnswer
 answering g m [] = []
 answering g m (begins ∷ xs) = answering g (beginOf m) xs
 answering g m (feeds q s others ∷ xs) = viewed g m s others (feed q) .answer ∷ answering g (viewed g m s others (feed q) .meter) xs
 answering g m (resets ∷ xs) = answering g (resetOf m) xs
 
 module _ (g : Scripts) (i : ℕ) (i-script : i ≤ 3) where
-  abbrev BySeen : Meter → List Seen → List FeedAnswer → Meter → Type 0
+  abbrev BySeen : Meter → List Seen → List FlatAnswer → Meter → Type 0
   BySeen m seen answers after = (answers ≡ answering (g i) m seen) × (after ≡ lasting (g i) m seen)
 
   -- another script's call
-  passed : (m n : Meter) → n ≡ m → (seen : List Seen) (answers : List FeedAnswer) (after : Meter) → BySeen n seen answers after → BySeen m seen answers after
+  passed : (m n : Meter) → n ≡ m → (seen : List Seen) (answers : List FlatAnswer) (after : Meter) → BySeen n seen answers after → BySeen m seen answers after
   passed m n e seen answers after h = rw (← e) h
 
   -- its own
-  own : (m n : Meter) (a : FeedAnswer) (s others : ℕ) (c : Call) → a ≡ viewed (g i) m s others c .answer → n ≡ viewed (g i) m s others c .meter
-      → (seen : List Seen) (answers : List FeedAnswer) (after : Meter) → BySeen n seen answers after
+  own : (m n : Meter) (a : FlatAnswer) (s others : ℕ) (c : Call) → a ≡ viewed (g i) m s others c .answer → n ≡ viewed (g i) m s others c .meter
+      → (seen : List Seen) (answers : List FlatAnswer) (after : Meter) → BySeen n seen answers after
       → BySeen m (shownTo s others c ∷ seen) (answered c a answers) after
   own m n a s others begin d e seen answers after h = passed (beginOf m) n e seen answers after h
-  own m n a s others (feed q) d e seen answers after h = rw (← d, ← e) (ap (λ (l : List FeedAnswer). a ∷ l) (h .0), h .1)
+  own m n a s others (feed q) d e seen answers after h = rw (← d, ← e) (ap (λ (l : List FlatAnswer). a ∷ l) (h .0), h .1)
   own m n a s others reset d e seen answers after h = passed (resetOf m) n e seen answers after h
 
   module _ (ms : Meters) (c : FourCall) where
-    step : (seen : List Seen) (answers : List FeedAnswer) (after : Meter) (t : Bool) → eqb (c .script) i ≡ t → BySeen (meterOf (made g ms c .meters) i) seen answers after
+    step : (seen : List Seen) (answers : List FlatAnswer) (after : Meter) (t : Bool) → eqb (c .script) i ≡ t → BySeen (meterOf (made g ms c .meters) i) seen answers after
         → BySeen (meterOf ms i) (cond t (shownTo (c .budget) (othersOf ms i) (c .call) ∷ seen) seen) (cond t (answered (c .call) (made g ms c .answer) answers) answers) after
     step seen answers after false e h = passed (meterOf ms i) (meterOf (made g ms c .meters) i) (other-as g ms i i-script c e) seen answers after h
     step seen answers after true e h =

@@ -11,6 +11,7 @@ use lib.ListN.{length}
 use borrow.Author.Tests.{ltb-false, le-ltb, eq-eqb}
 use Rattle.common.specs.Numbers.{«ACCEPTED», «NO_SCRIPT», «BUDGET_RANGE», «OVER_BUDGET»}
 use Rattle.common.specs.Chain.{refuseIf}
+use Rattle.common.specs.Limits.{lastScript}
 use Rattle.graph.specs.Graph.{In}
 use Rattle.fields.specs.declared.version.Version.{Version}
 use Rattle.runs.specs.Script.{scriptOf}
@@ -19,7 +20,7 @@ use Rattle.runs.specs.Run.{runOf, longestOf}
 use Rattle.runs.specs.Laws.{Enough}
 use Rattle.runs.proofs.Laws.{laws}
 use Rattle.meter.specs.declared.step.Meter.{Meter}
-use Rattle.meter.specs.declared.step.FeedAnswer.{FeedAnswer}
+use Rattle.common.specs.declared.c.FlatAnswer.{FlatAnswer}
 use Rattle.meter.specs.declared.step.Fed.{Fed}
 use Rattle.meter.specs.Feed.{Scale, beginOf, resetOf, feedOf, refusal}
 use Rattle.meter.specs.Model.{Call, begin, feed, reset}
@@ -27,8 +28,8 @@ use Rattle.meter.specs.Calls.{meterCalled, meterAfter}
 use Rattle.meter.specs.Bound.{Bound}
 use Rattle.meter.proofs.Laws as meter
 use Rattle.budget.specs.declared.step.Meters.{Meters}
-use Rattle.budget.specs.Four.{lastScript, refusedFour, meterOf, othersOf, isOutOfRange, beginFourOf, resetFourOf, feedFourOf}
-use Rattle.budget.specs.Calls.{FourCall, Scripts, scriptsOf, EachWith, JustBegun, EachBegun, madeBy, made, fourAfter, numbersOf, turnsBack, answered, ownCalls, allAnswers}
+use Rattle.budget.specs.Four.{refusedFour, meterOf, othersOf, isOutOfRange, beginFourOf, resetFourOf, feedFourOf}
+use Rattle.budget.specs.Calls.{FourCall, Scripts, scriptsOf, EachWith, JustBegun, EachBegun, madeBy, made, fourAfter, answerNumbers, turnsBack, answered, ownCalls, allAnswers}
 use Rattle.budget.specs.Never as Claim
 use Rattle.budget.specs.Never.{AcceptedWithin, EachWithin, isBegin, isFeed, NoFeeds, Begins, Opening, TurnsBack}
 use Rattle.budget.proofs.Meters.{others-most}
@@ -60,10 +61,10 @@ now-more : (g : Scripts) (ms : Meters) (cs : List FourCall) (c : FourCall) → f
 now-more g ms [] c = refl
 now-more g ms (x ∷ cs) c = now-more g (made g ms x .meters) cs c
 
-abbrev Over : List FeedAnswer → Type 0
-Over answers = In «OVER_BUDGET» (numbersOf answers)
+abbrev Over : List FlatAnswer → Type 0
+Over answers = In «OVER_BUDGET» (answerNumbers answers)
 
-not-answered : (t : Bool) (c : Call) (a : FeedAnswer) (later : List FeedAnswer) → (a .number ≡ «OVER_BUDGET» → ⊥) → (Over later → ⊥)
+not-answered : (t : Bool) (c : Call) (a : FlatAnswer) (later : List FlatAnswer) → (a .number ≡ «OVER_BUDGET» → ⊥) → (Over later → ⊥)
     → Over (cond t (answered c a later) later) → ⊥
 not-answered false c a later n l h = l h
 not-answered true begin a later n l h = l h
@@ -112,7 +113,7 @@ module _ (versions : ℕ → Version) (words weights : ℕ → List ℕ) (s : �
     script-never i l q h =
         within-viewed (g i) (meterOf now i) s (othersOf now i) q
         (omega (arith, fed-most i l q, others-most now (s / 4) shown-most i l))
-        (sym (ap (λ (a : FeedAnswer). a .number) (made-as now i l i l g s (feed q) .0)) ∙ h)
+        (sym (ap (λ (a : FlatAnswer). a .number) (made-as now i l i l g s (feed q) .0)) ∙ h)
 
   pub next-never : (calls : List FourCall) (i q : ℕ) → feedFourOf (g i) (now calls) i s q .answer .number ≡ «OVER_BUDGET» → ⊥
   unfolding feedFourOf
@@ -204,7 +205,7 @@ four-begun g ms fits opening o i l = script-begun g i l opening (o .no-feeds) (o
 
 -- the answer to a begin or a reset is not among those to feeds
 module _ (g : Scripts) (i : ℕ) where
-  silent : (t : Bool) (c : Call) → isFeed c ≡ false → (a : FeedAnswer) (later : List FeedAnswer) → cond t (answered c a later) later ≡ later
+  silent : (t : Bool) (c : Call) → isFeed c ≡ false → (a : FlatAnswer) (later : List FlatAnswer) → cond t (answered c a later) later ≡ later
   silent t (feed q) e a later = absurd (true≢false e)
   silent true begin e a later = refl
   silent false begin e a later = refl

@@ -8,11 +8,12 @@ use lib.Dec.{ltb, eqb}
 use borrow.Author.Tests.{ltb-true, ltb-false, eq-eqb, ne-eqb}
 use Rattle.common.specs.Numbers.{«ACCEPTED», «NO_SCRIPT», «BUDGET_RANGE», «OVER_BUDGET»}
 use Rattle.common.specs.Chain.{refuseIf}
+use Rattle.common.specs.Limits.{lastScript}
 use Rattle.meter.specs.declared.step.Meter.{Meter}
 use Rattle.meter.specs.declared.step.Fed.{Fed}
 use Rattle.meter.specs.Feed.{Scale, feedOf}
 use Rattle.budget.specs.declared.step.Meters.{Meters}
-use Rattle.budget.specs.Four.{meterOf, withMeter, sumOf, isOutOfRange, lastScript, refusedFour, settleFour, feedFourOf}
+use Rattle.budget.specs.Four.{meterOf, withMeter, sumOf, isOutOfRange, refusedFour, settleFour, feedFourOf}
 use Rattle.budget.proofs.Meters.{each, read-after}
 
 -- what was put is read

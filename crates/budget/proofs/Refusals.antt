@@ -9,13 +9,14 @@ use lib.Dec.{ltb, eqb}
 use borrow.Author.Tests.{ltb-true, ltb-false, lt-ltb, le-ltb, eqb-true, eq-eqb, ne-eqb}
 use Rattle.common.specs.Numbers.{«ACCEPTED», «NO_SCRIPT», «BUDGET_RANGE», «OVER_BUDGET»}
 use Rattle.common.specs.Chain.{refuseIf}
+use Rattle.common.specs.Limits.{lastScript}
 use Rattle.meter.specs.declared.step.Meter.{Meter}
 use Rattle.meter.specs.declared.step.Fed.{Fed}
 use Rattle.meter.specs.Feed.{Scale, beginOf, resetOf, feedOf}
 use Rattle.meter.specs.Model.{Call, begin, feed, reset}
 use Rattle.budget.specs.declared.step.Meters.{Meters}
 use Rattle.budget.specs.declared.step.FedFour.{FedFour}
-use Rattle.budget.specs.Four.{meterOf, withMeter, sumOf, othersOf, isOutOfRange, lastScript, refusedFour, changedFour, beginFourOf, resetFourOf, settleFour, feedFourOf}
+use Rattle.budget.specs.Four.{meterOf, withMeter, sumOf, othersOf, isOutOfRange, refusedFour, changedFour, beginFourOf, resetFourOf, settleFour, feedFourOf}
 use Rattle.budget.specs.Calls.{FourCall, Scripts, turnsBack, madeBy, made}
 use Rattle.budget.specs.Refusals as Claim
 use Rattle.budget.proofs.Meters.{sum-after}

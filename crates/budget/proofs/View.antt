@@ -7,14 +7,15 @@ use lib.Dec.{ltb, eqb}
 use borrow.Author.Tests.{ltb-false, le-ltb, eqb-true, eq-eqb}
 use Rattle.common.specs.Numbers.{«ACCEPTED», «NO_SCRIPT», «BUDGET_RANGE», «OVER_BUDGET»}
 use Rattle.common.specs.Chain.{refuseIf}
+use Rattle.common.specs.Limits.{lastScript}
 use Rattle.meter.specs.declared.step.Meter.{Meter}
-use Rattle.meter.specs.declared.step.FeedAnswer.{FeedAnswer}
+use Rattle.common.specs.declared.c.FlatAnswer.{FlatAnswer}
 use Rattle.meter.specs.declared.step.Fed.{Fed}
 use Rattle.meter.specs.Feed.{Scale, beginOf, resetOf, refusal, feedOf}
 use Rattle.meter.specs.Model.{Call, begin, feed, reset}
 use Rattle.budget.specs.declared.step.Meters.{Meters}
 use Rattle.budget.specs.declared.step.FedFour.{FedFour}
-use Rattle.budget.specs.Four.{meterOf, withMeter, othersOf, isOutOfRange, lastScript, refusedFour, beginFourOf, resetFourOf, settleFour, feedFourOf}
+use Rattle.budget.specs.Four.{meterOf, withMeter, othersOf, isOutOfRange, refusedFour, beginFourOf, resetFourOf, settleFour, feedFourOf}
 use Rattle.budget.specs.Calls.{Scripts, FourCall, madeBy, made}
 use Rattle.budget.proofs.Meters.{read-after, read-left, sum-after}
 
@@ -39,10 +40,10 @@ module _ (ms : Meters) (k : ℕ) (k-script : k ≤ 3) (i : ℕ) (i-script : i �
   abbrev As : FedFour → Fed → Type 0
   As r v = (r .answer ≡ v .answer) × (meterOf (r .meters) i ≡ cond (eqb k i) (v .meter) (meterOf ms i))
 
-  refused-as : (a : FeedAnswer) → As (record { meters = ms; answer = a }) (record { meter = meterOf ms k; answer = a })
+  refused-as : (a : FlatAnswer) → As (record { meters = ms; answer = a }) (record { meter = meterOf ms k; answer = a })
   refused-as a = (refl, read-left ms k i)
 
-  taken-as : (m : Meter) (a : FeedAnswer) → As (record { meters = withMeter ms k m; answer = a }) (record { meter = m; answer = a })
+  taken-as : (m : Meter) (a : FlatAnswer) → As (record { meters = withMeter ms k m; answer = a }) (record { meter = m; answer = a })
   taken-as m a = (refl, read-after ms m k k-script i i-script)
 
   settled-as : (s : ℕ) (f : Fed) → As (settleFour ms k s f) (settled (meterOf ms k) s (othersOf ms k) f)

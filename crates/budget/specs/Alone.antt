@@ -6,7 +6,7 @@ use mathlib.Core.Path.{_≡_}
 use mathlib.Core.List.{List}
 use Prim.Native.Nat.{ℕ, _+_, _≤_, min}
 use lib.ListN.{length}
-use Rattle.common.specs.Limits.{mostWords}
+use Rattle.common.specs.Limits.{mostWords, lastScript}
 use Rattle.fields.specs.declared.version.Version.{Version}
 use Rattle.runs.specs.Script.{scriptOf}
 use Rattle.runs.specs.Weights.{Weighs}
@@ -25,7 +25,7 @@ use Rattle.meter.specs.Model.{
 use Rattle.meter.specs.Calls.{meterAfter}
 use Rattle.meter.specs.Highest.{HighestAfter}
 use Rattle.budget.specs.declared.step.Meters.{Meters}
-use Rattle.budget.specs.Four.{lastScript, meterOf}
+use Rattle.budget.specs.Four.{meterOf}
 use Rattle.budget.specs.Calls.{
   FourCall,
   Scripts,
@@ -33,7 +33,7 @@ use Rattle.budget.specs.Calls.{
   JustBegun,
   fourAfter,
   aloneAnswers,
-  numbersOf,
+  answerNumbers,
   ownCalls,
   ownAnswers,
 }
@@ -64,7 +64,7 @@ module _ (versions : ℕ → Version) (words weights : ℕ → List ℕ) (ms : M
 
   pub record FollowsOwnModel : Type 0 where
     -- "Any other feed writes nothing; its answer is 10, and that of a written one 0."
-    pub answers : numbersOf (ownAnswers (scriptsOf versions words weights) i ms calls)
+    pub answers : answerNumbers (ownAnswers (scriptsOf versions words weights) i ms calls)
         ≡ modelAnswers (scale .graph) emptyModel own
     -- "After the list the meter is begun exactly if the course has a word"
     pub begun : isBegun shown ≡ hasWord (model .path)

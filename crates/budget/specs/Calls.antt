@@ -6,15 +6,16 @@ use mathlib.Core.List.{List, [], _∷_}
 use Prim.Native.Nat.{ℕ, _≤_, _<_}
 use lib.Dec.{eqb}
 use Rattle.common.specs.Numbers.{«NO_SCRIPT», «BUDGET_RANGE», «OVER_BUDGET»}
+use Rattle.common.specs.Limits.{lastScript}
 use Rattle.fields.specs.declared.version.Version.{Version}
 use Rattle.runs.specs.Script.{scriptOf}
 use Rattle.meter.specs.declared.step.Meter.{Meter}
-use Rattle.meter.specs.declared.step.FeedAnswer.{FeedAnswer}
+use Rattle.common.specs.declared.c.FlatAnswer.{FlatAnswer}
 use Rattle.meter.specs.Feed.{Scale, scaleOf, beginOf, resetOf, feedOf}
 use Rattle.meter.specs.Model.{Call, begin, feed, reset}
 use Rattle.budget.specs.declared.step.Meters.{Meters}
 use Rattle.budget.specs.declared.step.FedFour.{FedFour}
-use Rattle.budget.specs.Four.{meterOf, lastScript, othersOf, beginFourOf, resetFourOf, feedFourOf}
+use Rattle.budget.specs.Four.{meterOf, othersOf, beginFourOf, resetFourOf, feedFourOf}
 
 -- a call on one of the four: the script's number, S (which only a feed looks at), and the call on its meter
 pub record FourCall : Type 0 where
@@ -61,22 +62,22 @@ EachBegun ms = (i : ℕ) → i ≤ lastScript → JustBegun (meterOf ms i)
 
 -- an answer before the later ones, if the call is a feed: a begin and a reset answer nothing but 20, and only
 -- where there is no such script
-abbrev pub answered : Call → FeedAnswer → List FeedAnswer → List FeedAnswer
+abbrev pub answered : Call → FlatAnswer → List FlatAnswer → List FlatAnswer
 answered begin a later = later
 answered (feed q) a later = a ∷ later
 answered reset a later = later
 
 -- the answers, numbers and places, to the feeds of one meter alone
-abbrev pub aloneAnswers : Scale → Meter → List Call → List FeedAnswer
+abbrev pub aloneAnswers : Scale → Meter → List Call → List FlatAnswer
 aloneAnswers s m [] = []
 aloneAnswers s m (begin ∷ cs) = aloneAnswers s (beginOf m) cs
 aloneAnswers s m (feed q ∷ cs) = feedOf s m q .answer ∷ aloneAnswers s (feedOf s m q .meter) cs
 aloneAnswers s m (reset ∷ cs) = aloneAnswers s (resetOf m) cs
 
 -- their numbers
-abbrev pub numbersOf : List FeedAnswer → List ℕ
-numbersOf [] = []
-numbersOf (a ∷ rest) = a .number ∷ numbersOf rest
+abbrev pub answerNumbers : List FlatAnswer → List ℕ
+answerNumbers [] = []
+answerNumbers (a ∷ rest) = a .number ∷ answerNumbers rest
 
 -- "calls that 20, 21 or 22 turns back"
 abbrev pub turnsBack : ℕ → Bool
@@ -109,7 +110,7 @@ module _ (g : Scripts) (i : ℕ) where
       (ownCalls (made g ms c .meters) cs)
 
   -- the answers to the feeds in that list
-  abbrev pub ownAnswers : Meters → List FourCall → List FeedAnswer
+  abbrev pub ownAnswers : Meters → List FourCall → List FlatAnswer
   ownAnswers ms [] = []
   ownAnswers ms (c ∷ cs) =
       cond (isKept i c (made g ms c .answer .number))
@@ -117,7 +118,7 @@ module _ (g : Scripts) (i : ℕ) where
       (ownAnswers (made g ms c .meters) cs)
 
   -- the answers to all of script i's feeds, those that were turned back included
-  abbrev pub allAnswers : Meters → List FourCall → List FeedAnswer
+  abbrev pub allAnswers : Meters → List FourCall → List FlatAnswer
   allAnswers ms [] = []
   allAnswers ms (c ∷ cs) =
       cond (eqb (c .script) i)

@@ -6,6 +6,7 @@ use Prim.Native.Nat.{ℕ, _+_}
 use lib.Dec.{ltb, eqb}
 use Rattle.common.specs.Numbers.{«ACCEPTED», «NO_SCRIPT», «BUDGET_RANGE», «OVER_BUDGET»}
 use Rattle.common.specs.Chain.{refuseIf}
+use Rattle.common.specs.Limits.{mostBudget, lastScript}
 use Rattle.meter.specs.declared.step.Meter.{Meter}
 use Rattle.meter.specs.declared.step.Fed.{Fed}
 use Rattle.meter.specs.Feed.{Scale, beginOf, resetOf, feedOf}
@@ -40,16 +41,8 @@ unfoldable pub othersOf : Meters → ℕ → ℕ
 othersOf ms i = unlessOwn i 0 (ms .axis)
     + (unlessOwn i 1 (ms .focuser) + (unlessOwn i 2 (ms .dome) + unlessOwn i 3 (ms .guider)))
 
--- "an allowance S, 1 to 16,777,216"
-abbrev pub mostBudget : ℕ
-mostBudget = 16777216
-
 unfoldable pub isOutOfRange : ℕ → Bool
 isOutOfRange s = eqb s 0 || ltb mostBudget s
-
--- the highest script number
-abbrev pub lastScript : ℕ
-lastScript = 3
 
 -- a number, no place, and the four "meters unchanged"
 abbrev pub refusedFour : ℕ → Meters → FedFour

@@ -5,9 +5,10 @@
 use mathlib.Core.Path.{_≡_}
 use mathlib.Core.List.{List}
 use Prim.Native.Nat.{ℕ, _≤_}
+use Rattle.common.specs.Limits.{lastScript}
 use Rattle.fields.specs.declared.version.Version.{Version}
 use Rattle.budget.specs.declared.step.Meters.{Meters}
-use Rattle.budget.specs.Four.{lastScript, meterOf}
+use Rattle.budget.specs.Four.{meterOf}
 use Rattle.budget.specs.Calls.{FourCall, Scripts, scriptsOf, fourAfter, allAnswers, seenBy}
 
 -- one history: what each script was lent, the four meters at the start, and the calls

@@ -9,22 +9,22 @@ use mathlib.Core.List.{List, [], _∷_, _++_}
 use Prim.Native.Nat.{ℕ, _/_, _≤_, _<_}
 use lib.ListN.{getD}
 use Rattle.common.specs.Numbers.{«ACCEPTED», «OVER_BUDGET»}
+use Rattle.common.specs.Limits.{lastScript, heaviestWeight}
 use Rattle.graph.specs.Graph.{In}
 use Rattle.fields.specs.declared.version.Version.{Version}
 use Rattle.runs.specs.Script.{scriptOf}
-use Rattle.runs.specs.Weights.{heaviestWeight}
 use Rattle.runs.specs.Run.{runOf, numberOf, longestOf}
 use Rattle.meter.specs.Feed.{scaleOf}
 use Rattle.meter.specs.Model.{Call, begin, feed, reset}
 use Rattle.budget.specs.declared.step.Meters.{Meters}
-use Rattle.budget.specs.Four.{lastScript, meterOf, feedFourOf}
+use Rattle.budget.specs.Four.{meterOf, feedFourOf}
 use Rattle.budget.specs.Calls.{
   FourCall,
   scriptsOf,
   EachWith,
   EachBegun,
   fourAfter,
-  numbersOf,
+  answerNumbers,
   allAnswers,
 }
 
@@ -70,7 +70,7 @@ pub record Opening (calls : List FourCall) : Type 0 where
 -- some feed of script i is turned back by the budget
 abbrev pub TurnsBack : (ℕ → Version) → (ℕ → List ℕ) → (ℕ → List ℕ) → ℕ → Meters → List FourCall → Type 0
 TurnsBack versions words weights i ms calls =
-    In «OVER_BUDGET» (numbersOf (allAnswers (scriptsOf versions words weights) i ms calls))
+    In «OVER_BUDGET» (answerNumbers (allAnswers (scriptsOf versions words weights) i ms calls))
 
 -- "words and weights stay those of the accepted runs": every feed of a script is lent them
 pub record Never : Type 0 where

@@ -6,9 +6,10 @@ use mathlib.Core.Path.{_≡_}
 use mathlib.Core.Logic.{_↔_}
 use Prim.Native.Nat.{ℕ, _+_, _<_, _≤_}
 use Rattle.common.specs.Numbers.{«ACCEPTED»}
+use Rattle.common.specs.Limits.{lastScript}
 use Rattle.meter.specs.Feed.{Scale, feedOf}
 use Rattle.budget.specs.declared.step.Meters.{Meters}
-use Rattle.budget.specs.Four.{meterOf, withMeter, sumOf, othersOf, isOutOfRange, lastScript, feedFourOf}
+use Rattle.budget.specs.Four.{meterOf, withMeter, sumOf, othersOf, isOutOfRange, feedFourOf}
 use Rattle.budget.specs.Calls.{FourCall, Scripts, made}
 
 pub record Refusals : Type 0 where

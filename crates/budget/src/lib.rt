@@ -1,10 +1,10 @@
 // Request C-20, four scripts on one controller: a meter for each, and one budget on the sum of their counts.
-mod lent;
+mod c;
 mod step;
 
-pub use lent::lawendeb_begin_four as begin;
-pub use lent::lawendeb_feed_four as feed;
-pub use lent::lawendeb_reset_four as reset;
+pub use c::lawendeb_begin_four as begin;
+pub use c::lawendeb_feed_four as feed;
+pub use c::lawendeb_reset_four as reset;
 pub use step::FedFour;
 pub use step::Meters;
 pub use step::begin_four;

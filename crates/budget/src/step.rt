@@ -2,10 +2,10 @@
 ghost use mathlib.Core.Path.{_≡_};
 ghost use mathlib.Core.Bool.{cond};
 ghost use Prim.Native.Nat.{_≤_};
+ghost use Rattle.common.specs.Limits.{lastScript};
 ghost use Rattle.runs.specs.Script.{scriptOf, lua54};
 ghost use Rattle.meter.specs.Feed.{scaleOf, refusal};
 ghost use Rattle.budget.specs.Four.{
-  lastScript,
   meterOf,
   withMeter,
   sumOf,
@@ -17,9 +17,12 @@ ghost use Rattle.budget.specs.Four.{
   settleFour,
   feedFourOf,
 };
+use common::c::FlatAnswer;
+use common::limits::LAST_SCRIPT;
+use common::limits::MOST_BUDGET;
+use common::widths::wide;
 use fields::version::Version;
 use meter::Fed;
-use meter::FeedAnswer;
 use meter::Meter;
 use meter::begin_step;
 use meter::feed_script;
@@ -35,12 +38,6 @@ const BUDGET_RANGE: u64 = common::numbers::BUDGET_RANGE as u64;
 
 const OVER_BUDGET: u64 = common::numbers::OVER_BUDGET as u64;
 
-// Scripts have the numbers 0 to this.
-const LAST_SCRIPT: u32 = 3;
-
-// "an allowance S, 1 to 16,777,216"
-const MOST_BUDGET: u32 = 16777216;
-
 // "Axis, focuser, dome and guider scripts": the meters of scripts 0 to 3, laid out as C lays them out.
 #[repr(C)]
 pub struct Meters {
@@ -53,7 +50,7 @@ pub struct Meters {
 // Four meters after a call, and the call's answer.
 pub struct FedFour {
     pub meters: Meters,
-    pub answer: FeedAnswer,
+    pub answer: FlatAnswer,
 }
 
 // Field by field: where a whole meter is returned from an arm, the four are copied
@@ -117,14 +114,8 @@ fn with_meter(ms: Meters, script: u32, m: Meter) -> Meters
     }
 }
 
-fn wide(x: u32) -> u64
-    ensures { λ r. ⌜ r ≡ x ⌝ }
-{
-    x as u64
-}
-
 // Four counts of 32 bits: "the sum never wraps" in 64.
-fn sum(ms: Meters) -> u64
+fn sum(ms: Meters) -> usize
     ensures { λ r. ⌜ r ≡ sumOf ms ⌝ }
 {
     let axis = wide(ms.axis.count);
@@ -150,7 +141,7 @@ fn refused(ms: Meters, number: u64) -> FedFour
 {
     FedFour {
         meters: ms,
-        answer: FeedAnswer { number, place: 0 },
+        answer: FlatAnswer { number, place: 0 },
     }
 }
 
@@ -160,7 +151,7 @@ fn turned_back(m: Meter, number: u64) -> Fed
 {
     Fed {
         meter: m,
-        answer: FeedAnswer { number, place: 0 },
+        answer: FlatAnswer { number, place: 0 },
     }
 }
 
@@ -175,7 +166,7 @@ pub fn begin_four(ms: Meters, script: u32) -> FedFour
     let next = with_meter(ms, script, begun);
     FedFour {
         meters: next,
-        answer: FeedAnswer {
+        answer: FlatAnswer {
             number: ACCEPTED,
             place: 0,
         },
@@ -193,7 +184,7 @@ pub fn reset_four(ms: Meters, script: u32) -> FedFour
     let next = with_meter(ms, script, reset);
     FedFour {
         meters: next,
-        answer: FeedAnswer {
+        answer: FlatAnswer {
             number: ACCEPTED,
             place: 0,
         },

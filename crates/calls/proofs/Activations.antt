@@ -11,25 +11,25 @@ use Rattle.graph.specs.Graph.{Graph, In, Lawful, Along, Path, Reachable, weigh}
 use Rattle.graph.proofs.Laws as graph
 use Rattle.meter.specs.Model.{lastFrom, lastOr0, weightSince}
 use Rattle.meter.proofs.Laws as meter
-use Rattle.calls.specs.Control.{Function, Activation, lastOf, countOf, onto}
-use Rattle.calls.specs.Bound.{Fit, longestRun, total, largest}
+use Rattle.calls.specs.Control.{GraphFunction, Activation, activationLast, activationCount, onto}
+use Rattle.calls.specs.Bound.{Fit, longestRun, total, largestRun}
 use Rattle.calls.proofs.Walks.{Free, walk-most}
 
 along-more : (g : Graph) → Lawful g → (p : ℕ) (ps : List ℕ) (q : ℕ) → Along g p ps → In q (g .successors (lastFrom p ps)) → Along g p (ps ++ (q ∷ []))
 along-more g law p [] q a i = (a, i, law .inside p q i)
 along-more g law p (x ∷ ps) q a i = (a .0, a .1, along-more g law x ps q (a .2) i)
 
-largest-upper : (script : List Function) (f : Function) → In f script → longestRun f ≤ largest script
+largest-upper : (script : List GraphFunction) (f : GraphFunction) → In f script → longestRun f ≤ largestRun script
 largest-upper (x ∷ xs) f (inl e) = let h : longestRun f ≡ longestRun x = ap longestRun e in omega arith
 largest-upper (x ∷ xs) f (inr i) = let h = largest-upper xs f i in omega arith
 
 -- of an activation, at word p with count k: whatever walk with no serving step may still follow, the count stays within L
-pub record Ahead (f : Function) (p k : ℕ) : Type 0 where
+pub record Ahead (f : GraphFunction) (p k : ℕ) : Type 0 where
   pub reached : Reachable (f .graph) p
   pub heavy : f .weight p ≤ k
   pub within : (ps : List ℕ) → Free (f .graph) p ps → k + weigh (f .weight) ps ≤ longestRun f
 
-module _ (f : Function) (fit : Fit f) where
+module _ (f : GraphFunction) (fit : Fit f) where
   -- a service has just come
   ahead-fresh : (q : ℕ) → Reachable (f .graph) q → Ahead f q (f .weight q)
   ahead-fresh q r = record { reached = r; heavy = omega arith; within = λ ps w. walk-most (f .graph) (fit .law) (f .weight) q ps r w }
@@ -44,7 +44,7 @@ module _ (f : Function) (fit : Fit f) where
       }
 
 -- the last word and the count, one word on
-module _ (f : Function) where
+module _ (f : GraphFunction) where
   last-on : (ws : List ℕ) (q : ℕ) → Path (f .graph) ws → lastOr0 (ws ++ (q ∷ [])) ≡ q
   last-on [] q h = absurd h
   last-on (p ∷ ps) q h = meter.laws .last-more p ps q
@@ -58,11 +58,11 @@ module _ (f : Function) where
   path-on law [] q h i = absurd h
   path-on law (p ∷ ps) q h i = (h .0, along-more (f .graph) law p ps q (h .1) i)
 
-module _ (script : List Function) where
+module _ (script : List GraphFunction) where
   pub record Sound (a : Activation) : Type 0 where
     pub known : In (a .function) script
     pub path : Path (a .function .graph) (a .words)
-    pub ahead : Ahead (a .function) (lastOf a) (countOf a)
+    pub ahead : Ahead (a .function) (activationLast a) (activationCount a)
 
   abbrev pub AllSound : List Activation → Type 0
   AllSound [] = Unit {0}
@@ -72,18 +72,18 @@ module _ (script : List Function) where
   sound-of (x ∷ xs) o a (inl e) = subst (λ (y : Activation). Sound y) (sym e) (o .0)
   sound-of (x ∷ xs) o a (inr i) = sound-of xs (o .1) a i
 
-  pub own-most : (a : Activation) → Sound a → countOf a ≤ longestRun (a .function)
+  pub own-most : (a : Activation) → Sound a → activationCount a ≤ longestRun (a .function)
   own-most a s = let h = s .ahead .within [] tt in omega arith
 
   -- so many functions of the script
-  abbrev pub Few : List Function → Type 0
-  Few fs = total fs ≤ length fs * largest script
+  abbrev pub Few : List GraphFunction → Type 0
+  Few fs = total fs ≤ length fs * largestRun script
 
-  pub few-more : (f : Function) (fs : List Function) → In f script → Few fs → Few (f ∷ fs)
-  few-more f fs k h = omega (arith, largest-upper script f k, suc-mul (length fs) (largest script))
+  pub few-more : (f : GraphFunction) (fs : List GraphFunction) → In f script → Few fs → Few (f ∷ fs)
+  few-more f fs k h = omega (arith, largest-upper script f k, suc-mul (length fs) (largestRun script))
 
-  module _ (fit : (f : Function) → In f script → Fit f) where
-    pub enters : (f : Function) → In f script → Sound (record { function = f; words = 0 ∷ [] })
+  module _ (fit : (f : GraphFunction) → In f script → Fit f) where
+    pub enters : (f : GraphFunction) → In f script → Sound (record { function = f; words = 0 ∷ [] })
     enters f k =
         record {
           known = k;
@@ -91,12 +91,12 @@ module _ (script : List Function) where
           ahead = subst (λ (x : ℕ). Ahead f 0 x) (omega arith) (ahead-fresh f (fit f k) 0 (graph.laws .reaching (f .graph) (fit f k .law) .start (fit f k .some)));
         }
 
-    pub goes-on : (a : Activation) (q : ℕ) → Sound a → In q (a .function .graph .successors (lastOf a)) → Sound (onto a q)
+    pub goes-on : (a : Activation) (q : ℕ) → Sound a → In q (a .function .graph .successors (activationLast a)) → Sound (onto a q)
     goes-on a q s i =
         record {
           known = s .known;
           path = path-on (a .function) (fit (a .function) (s .known) .law) (a .words) q (s .path) i;
           ahead =
               rw (last-on (a .function) (a .words) q (s .path), count-on (a .function) (a .words) q (s .path))
-              (ahead-on (a .function) (fit (a .function) (s .known)) (lastOf a) (countOf a) q (s .ahead) i (a .function .graph .serves (lastOf a) q) refl);
+              (ahead-on (a .function) (fit (a .function) (s .known)) (activationLast a) (activationCount a) q (s .ahead) i (a .function .graph .serves (activationLast a) q) refl);
         }

@@ -14,10 +14,10 @@ use Rattle.meter.specs.declared.step.Meter.{Meter}
 use Rattle.meter.specs.Feed.{Scale, scaleOf, beginOf, feedOf}
 use Rattle.meter.specs.Calls.{meterAfter, meterAnswers}
 use Rattle.meter.specs.Bound.{feeds}
-use Rattle.calls.specs.Control.{Function, Activation, lastOf, countOf, Control, idle, call, tailcall, step, leave, stepped, returned, moved, onto, waiting, serviced, Follows, Allowed, Run, after}
+use Rattle.calls.specs.Control.{GraphFunction, Activation, activationLast, activationCount, Control, idle, call, tailcall, step, leave, stepped, returned, controlMoved, onto, waiting, serviced, FollowsTop, Allowed, Run, controlAfter}
 use Rattle.calls.specs.Bound.{Fit, running}
-use Rattle.calls.specs.Script.{functionOf, functionsFrom, answerOf, AcceptedScript, Shows}
-use Rattle.calls.specs.Meters.{Held, Controller, unused, Event, enters, replaces, goes, leaves, fed, begunFor, at, serving, behind, wentOn, dropped, told, toldAll, answersTo, answered, allAnswered, StepFrom, Possible, Happens, moveOf, movesOf, runningCount, MeterBound, MetersBound}
+use Rattle.calls.specs.Script.{functionOf, functionsFrom, runAnswerOf, AcceptedScript, Shows}
+use Rattle.calls.specs.Meters.{HeldMeter, Controller, unused, CallEvent, enters, replaces, goes, leaves, fedHeld, begunFor, heldAt, serving, behind, wentOn, dropped, controllerTold, toldAll, answersTo, eventAnswers, allAnswered, StepFrom, Possible, Happens, eventMove, movesOf, runningCount, MeterBound, MetersBound}
 use Rattle.calls.proofs.Activations.{Sound, AllSound, goes-on}
 use Rattle.calls.proofs.Bound.{Kept, kept-idle, kept-move, shown-of, most-of}
 use Rattle.calls.proofs.Script.{shows, fit-of, named}
@@ -47,34 +47,34 @@ in-functions weights rest (x ∷ xs) ws (inl e) = inl (ap (functionOf weights re
 in-functions weights rest (x ∷ xs) ws (inr i) = inr (in-functions weights rest xs ws i)
 
 module _ (weights : List ℕ) (rest : Script → ℕ → ℕ) (script : List Script) (ok : AcceptedScript weights rest script) where
-  abbrev functions : List Function
+  abbrev functions : List GraphFunction
   functions = functionsFrom weights rest script
 
-  fit : (f : Function) → In f functions → Fit f
+  fit : (f : GraphFunction) → In f functions → Fit f
   fit f i = fit-of weights rest script ok f (named weights rest script f i)
 
   -- a held meter is one that was begun and fed the activation's words
-  record Match (h : Held) (a : Activation) : Type 0 where
+  record Match (h : HeldMeter) (a : Activation) : Type 0 where
     known : In (h .words) script
     same : a .function ≡ functionOf weights rest (h .words)
     meter : Meter
     fits : meter .services < 4294967296
     is : h .meter ≡ meterAfter (scaleOf (h .words) weights) (beginOf meter) (feeds (a .words))
 
-  module _ (h : Held) (a : Activation) (m : Match h a) (path : Path (a .function .graph) (a .words)) where
-    shown-by : Shows (scaleOf (h .words) weights) (m .meter) a (longestOf (answerOf weights (h .words)))
+  module _ (h : HeldMeter) (a : Activation) (m : Match h a) (path : Path (a .function .graph) (a .words)) where
+    shown-by : Shows (scaleOf (h .words) weights) (m .meter) a (longestOf (runAnswerOf weights (h .words)))
     shown-by =
         shows weights (ok .weighs) (h .words) (ok .sound (h .words) (m .known)) (ok .accepted (h .words) (m .known)) (m .meter) (m .fits) a rest (m .same)
-        (subst (λ (f : Function). Path (f .graph) (a .words)) (m .same) path)
+        (subst (λ (f : GraphFunction). Path (f .graph) (a .words)) (m .same) path)
 
-    last-is : h .meter .last ≡ lastOf a
+    last-is : h .meter .last ≡ activationLast a
     last-is = ap (λ (x : Meter). x .last) (m .is) ∙ shown-by .last
 
-    count-is : h .meter .count ≡ countOf a
+    count-is : h .meter .count ≡ activationCount a
     count-is = ap (λ (x : Meter). x .count) (m .is) ∙ shown-by .count
 
   -- one word on
-  match-on : (h : Held) (a : Activation) (q : ℕ) → Match h a → Match (at weights h q) (onto a q)
+  match-on : (h : HeldMeter) (a : Activation) (q : ℕ) → Match h a → Match (heldAt weights h q) (onto a q)
   match-on h a q m =
       record {
         known = m .known;
@@ -87,28 +87,28 @@ module _ (weights : List ℕ) (rest : Script → ℕ → ℕ) (script : List Scr
       }
 
   -- and its feed is accepted, if the activation is then on a path
-  taken-on : (h : Held) (a : Activation) (q : ℕ) → (m : Match h a) → Path (a .function .graph) (onto a q .words) → fed weights h q .answer .number ≡ «ACCEPTED»
+  taken-on : (h : HeldMeter) (a : Activation) (q : ℕ) → (m : Match h a) → Path (a .function .graph) (onto a q .words) → fedHeld weights h q .answer .number ≡ «ACCEPTED»
   unfolding match-on
   taken-on h a q m path =
       ap (λ (x : Meter). feedOf (scaleOf (h .words) weights) x q .answer .number) (m .is)
       ∙ in-replicate (length (onto a q .words)) «ACCEPTED» _
       (subst (λ (xs : List ℕ). In (feedOf (scaleOf (h .words) weights) (meterAfter (scaleOf (h .words) weights) (beginOf (m .meter)) (feeds (a .words))) q .answer .number) xs)
-      (shown-by (at weights h q) (onto a q) (match-on h a q m) path .taken)
+      (shown-by (heldAt weights h q) (onto a q) (match-on h a q m) path .taken)
       (answers-more (scaleOf (h .words) weights) (beginOf (m .meter)) (a .words) q))
 
-  match-entered : (ws : Script) (m : Meter) → In ws script → m .services < 4294967296 → Match (at weights (begunFor weights ws m) 0) (record { function = functionOf weights rest ws; words = 0 ∷ [] })
+  match-entered : (ws : Script) (m : Meter) → In ws script → m .services < 4294967296 → Match (heldAt weights (begunFor weights ws m) 0) (record { function = functionOf weights rest ws; words = 0 ∷ [] })
   match-entered ws m i fits = record { known = i; same = refl; meter = m; fits = fits; is = refl }
 
-  taken-entered : (ws : Script) (m : Meter) → In ws script → m .services < 4294967296 → fed weights (begunFor weights ws m) 0 .answer .number ≡ «ACCEPTED»
+  taken-entered : (ws : Script) (m : Meter) → In ws script → m .services < 4294967296 → fedHeld weights (begunFor weights ws m) 0 .answer .number ≡ «ACCEPTED»
   unfolding match-entered
   taken-entered ws m i fits =
       in-replicate 1 «ACCEPTED» _
-      (subst (λ (xs : List ℕ). In (fed weights (begunFor weights ws m) 0 .answer .number) xs)
-      (shown-by (at weights (begunFor weights ws m) 0) (record { function = functionOf weights rest ws; words = 0 ∷ [] }) (match-entered ws m i fits)
+      (subst (λ (xs : List ℕ). In (fedHeld weights (begunFor weights ws m) 0 .answer .number) xs)
+      (shown-by (heldAt weights (begunFor weights ws m) 0) (record { function = functionOf weights rest ws; words = 0 ∷ [] }) (match-entered ws m i fits)
       (refl, fit (functionOf weights rest ws) (in-functions weights rest script ws i) .some) .taken)
       (inl refl))
 
-  abbrev Matches : List Held → List Activation → Type 0
+  abbrev Matches : List HeldMeter → List Activation → Type 0
   Matches [] [] = Unit {0}
   Matches [] (a ∷ os) = ⊥
   Matches (h ∷ hs) [] = ⊥
@@ -119,7 +119,7 @@ module _ (weights : List ℕ) (rest : Script → ℕ → ℕ) (script : List Scr
     left : k .left ≡ c .left
     kept : Kept functions fit c
 
-  behind-matches : (hs : List Held) (os : List Activation) → Matches hs os → Matches (behind weights hs) (waiting os)
+  behind-matches : (hs : List HeldMeter) (os : List Activation) → Matches hs os → Matches (behind weights hs) (waiting os)
   behind-matches [] [] m = tt
   behind-matches [] (a ∷ os) m = absurd m
   behind-matches (h ∷ hs) [] m = absurd m
@@ -127,25 +127,25 @@ module _ (weights : List ℕ) (rest : Script → ℕ → ℕ) (script : List Scr
 
   -- What holds after an event.
 
-  record Next (k : Controller) (c : Control) (e : Event) : Type 0 where
-    allowed : Allowed functions c (moveOf weights rest e)
-    mirrors : Mirrors (told weights k e) (moved c (moveOf weights rest e))
-    taken : (n : ℕ) → In n (answered weights k e) → n ≡ «ACCEPTED»
+  record Next (k : Controller) (c : Control) (e : CallEvent) : Type 0 where
+    allowed : Allowed functions c (eventMove weights rest e)
+    mirrors : Mirrors (controllerTold weights k e) (controlMoved c (eventMove weights rest e))
+    taken : (n : ℕ) → In n (eventAnswers weights k e) → n ≡ «ACCEPTED»
 
   only : (x n : ℕ) → x ≡ «ACCEPTED» → In n (x ∷ []) → n ≡ «ACCEPTED»
   only x n e (inl d) = d ∙ e
   only x n e (inr i) = absurd i
 
-  abbrev LeftOn : Controller → Control → List Held → List Activation → ℕ → Type 0
+  abbrev LeftOn : Controller → Control → List HeldMeter → List Activation → ℕ → Type 0
   LeftOn k c hs os q = (wentOn weights k hs q .left ≡ stepped c os q .left) × Matches (wentOn weights k hs q .held) (stepped c os q .stack)
 
-  step-mirrors : (k : Controller) (c : Control) (h : Held) (hs : List Held) (a : Activation) (os : List Activation) (q : ℕ)
-      → k .left ≡ c .left → Match h a → Matches hs os → h .meter .last ≡ lastOf a
+  step-mirrors : (k : Controller) (c : Control) (h : HeldMeter) (hs : List HeldMeter) (a : Activation) (os : List Activation) (q : ℕ)
+      → k .left ≡ c .left → Match h a → Matches hs os → h .meter .last ≡ activationLast a
       → LeftOn k c (h ∷ hs) (a ∷ os) q
-  step-mirrors k c h hs a os q left m ms last = go (a .function .graph .serves (lastOf a) q) same-serving
+  step-mirrors k c h hs a os q left m ms last = go (a .function .graph .serves (activationLast a) q) same-serving
     where
-      same-serving : serving weights h q ≡ a .function .graph .serves (lastOf a) q
-      same-serving = ap (λ (x : ℕ). graphOf (h .words) .serves x q) last ∙ sym (ap (λ (f : Function). f .graph .serves (lastOf a) q) (m .same))
+      same-serving : serving weights h q ≡ a .function .graph .serves (activationLast a) q
+      same-serving = ap (λ (x : ℕ). graphOf (h .words) .serves x q) last ∙ sym (ap (λ (f : GraphFunction). f .graph .serves (activationLast a) q) (m .same))
 
       next-of : Bool → Control
       next-of t =
@@ -153,26 +153,26 @@ module _ (weights : List ℕ) (rest : Script → ℕ → ℕ) (script : List Scr
           (record { stack = onto a q ∷ os; since = c .since + a .function .weight q; chain = c .chain; left = c .left })
 
       go : (t : Bool) → serving weights h q ≡ t
-          → (cond (serving weights h q) 0 (k .left) ≡ next-of t .left) × Matches (at weights h q ∷ hs) (next-of t .stack)
+          → (cond (serving weights h q) 0 (k .left) ≡ next-of t .left) × Matches (heldAt weights h q ∷ hs) (next-of t .stack)
       go true e = (rw e, (match-on h a q m, ms))
       go false e = (rw e left, (match-on h a q m, ms))
 
-  follows-step : (k : Controller) (c : Control) (hs : List Held) (os : List Activation) (q : ℕ)
+  follows-step : (k : Controller) (c : Control) (hs : List HeldMeter) (os : List Activation) (q : ℕ)
       → c .stack ≡ os → k .held ≡ hs → Mirrors k c → Matches hs os → AllSound functions os → StepFrom hs q
-      → (Follows os q) × LeftOn k c hs os q × ((n : ℕ) → In n (answersTo weights hs q) → n ≡ «ACCEPTED»)
+      → (FollowsTop os q) × LeftOn k c hs os q × ((n : ℕ) → In n (answersTo weights hs q) → n ≡ «ACCEPTED»)
   follows-step k c [] os q ec ek m ms o i = absurd i
   follows-step k c (h ∷ hs) [] q ec ek m ms o i = absurd ms
   follows-step k c (h ∷ hs) (a ∷ os) q ec ek m ms o i =
-      let last : h .meter .last ≡ lastOf a = last-is h a (ms .0) (o .0 .path) in
-      let goes : In q (a .function .graph .successors (lastOf a)) =
-      subst (λ (f : Function). In q (f .graph .successors (lastOf a))) (sym (ms .0 .same))
+      let last : h .meter .last ≡ activationLast a = last-is h a (ms .0) (o .0 .path) in
+      let goes : In q (a .function .graph .successors (activationLast a)) =
+      subst (λ (f : GraphFunction). In q (f .graph .successors (activationLast a))) (sym (ms .0 .same))
       (subst (λ (x : ℕ). In q (graphOf (h .words) .successors x)) last i) in (
         goes,
         step-mirrors k c h hs a os q (m .left) (ms .0) (ms .1) last,
-        λ n j. only (fed weights h q .answer .number) n (taken-on h a q (ms .0) (goes-on functions fit a q (o .0) goes .path)) j,
+        λ n j. only (fedHeld weights h q .answer .number) n (taken-on h a q (ms .0) (goes-on functions fit a q (o .0) goes .path)) j,
       )
 
-  leave-mirrors : (k : Controller) (c : Control) (hs : List Held) (os : List Activation)
+  leave-mirrors : (k : Controller) (c : Control) (hs : List HeldMeter) (os : List Activation)
       → Matches hs os → AllSound functions os → k .left ≡ c .left → c .stack ≡ os → k .held ≡ hs
       → (dropped weights k hs .left ≡ returned c os .left) × Matches (dropped weights k hs .held) (returned c os .stack)
   leave-mirrors k c [] [] ms o left ec ek = (left, rw (ec, ek) tt)
@@ -183,13 +183,13 @@ module _ (weights : List ℕ) (rest : Script → ℕ → ℕ) (script : List Scr
   leave-mirrors k c (h ∷ g ∷ hs) (a ∷ []) ms o left ec ek = absurd (ms .1)
   leave-mirrors k c (h ∷ g ∷ hs) (a ∷ b ∷ os) ms o left ec ek = (omega (arith, left, count-is h a (ms .0) (o .0 .path)), ms .1)
 
-  next : (k : Controller) (c : Control) (e : Event) → Mirrors k c → Possible script k e → Next k c e
+  next : (k : Controller) (c : Control) (e : CallEvent) → Mirrors k c → Possible script k e → Next k c e
   next k c (enters ws x) m p =
       let i = in-functions weights rest script ws (p .0) in
       record {
         allowed = i;
         mirrors = record { matches = (match-entered ws x (p .0) (p .1), m .matches); left = refl; kept = kept-move functions fit c (call (functionOf weights rest ws)) (m .kept) i };
-        taken = λ n j. only (fed weights (begunFor weights ws x) 0 .answer .number) n (taken-entered ws x (p .0) (p .1)) j;
+        taken = λ n j. only (fedHeld weights (begunFor weights ws x) 0 .answer .number) n (taken-entered ws x (p .0) (p .1)) j;
       }
   next k c (replaces ws x) m p =
       let i = in-functions weights rest script ws (p .0) in
@@ -200,7 +200,7 @@ module _ (weights : List ℕ) (rest : Script → ℕ → ℕ) (script : List Scr
           left = refl;
           kept = kept-move functions fit c (tailcall (functionOf weights rest ws)) (m .kept) i;
         };
-        taken = λ n j. only (fed weights (begunFor weights ws x) 0 .answer .number) n (taken-entered ws x (p .0) (p .1)) j;
+        taken = λ n j. only (fedHeld weights (begunFor weights ws x) 0 .answer .number) n (taken-entered ws x (p .0) (p .1)) j;
       }
   next k c (goes q) m p =
       let f = follows-step k c (k .held) (c .stack) q refl refl m (m .matches) (m .kept .sound) p in
@@ -219,33 +219,33 @@ module _ (weights : List ℕ) (rest : Script → ℕ → ℕ) (script : List Scr
 
   -- After all of them.
 
-  record All (k : Controller) (c : Control) (events : List Event) : Type 0 where
+  record All (k : Controller) (c : Control) (events : List CallEvent) : Type 0 where
     run : Run functions c (movesOf weights rest events)
-    mirrors : Mirrors (toldAll weights k events) (after c (movesOf weights rest events))
+    mirrors : Mirrors (toldAll weights k events) (controlAfter c (movesOf weights rest events))
     taken : (n : ℕ) → In n (allAnswered weights k events) → n ≡ «ACCEPTED»
 
-  all : (k : Controller) (c : Control) (events : List Event) → Mirrors k c → Happens weights script k events → All k c events
+  all : (k : Controller) (c : Control) (events : List CallEvent) → Mirrors k c → Happens weights script k events → All k c events
   all k c [] m h = record { run = tt; mirrors = m; taken = λ n j. absurd j }
   all k c (e ∷ es) m h =
       let x = next k c e m (h .0) in
-      let later = all (told weights k e) (moved c (moveOf weights rest e)) es (x .mirrors) (h .1) in
+      let later = all (controllerTold weights k e) (controlMoved c (eventMove weights rest e)) es (x .mirrors) (h .1) in
       record {
         run = (x .allowed, later .run);
         mirrors = later .mirrors;
-        taken = λ n j. in-append n (answered weights k e) (allAnswered weights (told weights k e) es) (λ (y : ℕ). y ≡ «ACCEPTED») (x .taken) (later .taken) j;
+        taken = λ n j. in-append n (eventAnswers weights k e) (allAnswered weights (controllerTold weights k e) es) (λ (y : ℕ). y ≡ «ACCEPTED») (x .taken) (later .taken) j;
       }
 
-  running-is : (hs : List Held) (os : List Activation) → Matches hs os → AllSound functions os → runningCount hs ≡ running os
+  running-is : (hs : List HeldMeter) (os : List Activation) → Matches hs os → AllSound functions os → runningCount hs ≡ running os
   running-is [] [] m o = refl
   running-is [] (a ∷ os) m o = absurd m
   running-is (h ∷ hs) [] m o = absurd m
   running-is (h ∷ hs) (a ∷ os) m o = count-is h a (m .0) (o .0 .path)
 
-  bound : (events : List Event) → Happens weights script unused events → MeterBound weights rest script events
+  bound : (events : List CallEvent) → Happens weights script unused events → MeterBound weights rest script events
   bound events h =
       let x = all unused idle events (record { matches = tt; left = refl; kept = kept-idle functions fit }) h in
       let m = x .mirrors in
-      let c : Control = after idle (movesOf weights rest events) in
+      let c : Control = controlAfter idle (movesOf weights rest events) in
       let same = running-is (toldAll weights unused events .held) (c .stack) (m .matches) (m .kept .sound) in
       record {
         run = x .run;

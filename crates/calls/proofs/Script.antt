@@ -19,7 +19,7 @@ use Rattle.graph.specs.Meaning.{Meaning}
 use Rattle.graph.proofs.Laws as graph
 use Rattle.graph.proofs.Meaning.{meaning}
 use Rattle.sweep.specs.Steps.{unless, one, ordered, two, servesOf}
-use Rattle.runs.specs.Successors.{opcodeAt, isBetween, companionPresent, successorsOf}
+use Rattle.steps.specs.Successors.{opcodeAt, isBetween, companionPresent, successorsOf}
 use Rattle.fields.specs.declared.version.Version.{Version}
 use Rattle.runs.specs.Script.{Script, scriptOf, lua54, graphOf, weightOf, Sound}
 use Rattle.runs.specs.Weights.{lowestZero, refusesWeights, Weighs}
@@ -35,9 +35,9 @@ use Rattle.meter.specs.Calls.{FollowsModel}
 use Rattle.meter.specs.Bound.{feeds, Bound}
 use Rattle.meter.specs.Demand3.{Demand3}
 use Rattle.meter.proofs.Laws as meter
-use Rattle.calls.specs.Control.{Function, Activation, Control, idle, Move, call, step, leave, Run, after}
-use Rattle.calls.specs.Bound.{Fit, longestRun, largest, Bounded}
-use Rattle.calls.specs.Script.{functionOf, functionsFrom, answerOf, largestAnswer, AcceptedScript, Shows, Metered, ScriptBounded, ScriptsBounded, scriptsOf, EitherVersion, recursive, Case}
+use Rattle.calls.specs.Control.{GraphFunction, Activation, Control, idle, Move, call, step, leave, Run, controlAfter}
+use Rattle.calls.specs.Bound.{Fit, longestRun, largestRun, Bounded}
+use Rattle.calls.specs.Script.{functionOf, functionsFrom, runAnswerOf, largestAnswer, AcceptedScript, Shows, Metered, ScriptBounded, ScriptsBounded, versionScripts, EitherVersion, recursive, RecursionCase}
 use Rattle.calls.proofs.Bound.{calls-bounded}
 
 -- A path fed word by word is written down whole.
@@ -61,11 +61,11 @@ module _ (g : Graph) where
 
 -- An accepted function.
 
-module _ (weights : List ℕ) (weighs : Weighs weights) (ws : Script) (sound : Sound ws) (accepted : numberOf (answerOf weights ws) ≡ «ACCEPTED») where
+module _ (weights : List ℕ) (weighs : Weighs weights) (ws : Script) (sound : Sound ws) (accepted : numberOf (runAnswerOf weights ws) ≡ «ACCEPTED») where
   enough : Enough (ws .size) weights (ws .size) (ws .size)
   enough = laws .enough ws weights (ws .size) (ws .size) accepted
 
-  demand : Demand ws weights (answerOf weights ws)
+  demand : Demand ws weights (runAnswerOf weights ws)
   demand = laws .demand ws sound weights (ws .size) (ws .size) enough (weighs .bytes)
 
   some-words : 0 < ws .size
@@ -74,58 +74,58 @@ module _ (weights : List ℕ) (weighs : Weighs weights) (ws : Script) (sound : S
   means : Meaning (graphOf ws) (weightOf ws weights)
   means = meaning (graphOf ws) (laws .lawful ws sound) (weightOf ws weights) (laws .weights weights (weighs .accepted) .some ws sound)
 
-  is-longest : longest (graphOf ws) (weightOf ws weights) ≡ longestOf (answerOf weights ws)
+  is-longest : longest (graphOf ws) (weightOf ws weights) ≡ longestOf (runAnswerOf weights ws)
   is-longest =
       let most = means .longest-some some-words in
       let some = demand .reached accepted in
       le-antisymm
       (demand .bounded accepted (most .0) (longest (graphOf ws) (weightOf ws weights)) (record { rest = most .1; segment = most .2; weight = most .3 }))
-      (omega (arith, means .longest-most (firstOf (answerOf weights ws)) (some .rest) (some .segment), some .weight))
+      (omega (arith, means .longest-most (firstOf (runAnswerOf weights ws)) (some .rest) (some .segment), some .weight))
 
   -- its meter, on a path
   pub shows : (m : Meter) → m .services < 4294967296 → (a : Activation) → (rest : Script → ℕ → ℕ) → a .function ≡ functionOf weights rest ws
-      → Path (graphOf ws) (a .words) → Shows (scaleOf ws weights) m a (longestOf (answerOf weights ws))
+      → Path (graphOf ws) (a .words) → Shows (scaleOf ws weights) m a (longestOf (runAnswerOf weights ws))
   shows m fits a rest same path =
       let d : Demand3 ws weights = meter.laws .demand3 ws sound weights weighs (enough .few) in
       let f : FollowsModel (scaleOf ws weights) m (feeds (a .words)) = d .meter m fits (feeds (a .words)) in
-      let b : Bound (scaleOf ws weights) m (longestOf (answerOf weights ws)) = d .bound (ws .size) (ws .size) accepted m fits in
+      let b : Bound (scaleOf ws weights) m (longestOf (runAnswerOf weights ws)) = d .bound (ws .size) (ws .size) accepted m fits in
       let written : modelAfter (graphOf ws) emptyModel (feeds (a .words)) .path ≡ a .words = path-written (graphOf ws) (a .words) path in
       record {
         taken = b .taken (a .words) path;
         last = f .last ∙ ap lastOr0 written;
         count =
             f .count ∙ ap (weightSince (graphOf ws) (weightOf ws weights)) written
-            ∙ sym (ap (λ (h : Function). weightSince (h .graph) (h .weight) (a .words)) same);
+            ∙ sym (ap (λ (h : GraphFunction). weightSince (h .graph) (h .weight) (a .words)) same);
         never = b .never (feeds (a .words));
       }
 
 -- The functions of a script.
 
 module _ (weights : List ℕ) (rest : Script → ℕ → ℕ) where
-  abbrev pub Named : List Script → Function → Type 0
+  abbrev pub Named : List Script → GraphFunction → Type 0
   Named script f = (ws : Script) × In ws script × (f ≡ functionOf weights rest ws)
 
-  pub named : (script : List Script) (f : Function) → In f (functionsFrom weights rest script) → Named script f
+  pub named : (script : List Script) (f : GraphFunction) → In f (functionsFrom weights rest script) → Named script f
   named [] f i = absurd i
   named (ws ∷ script) f (inl e) = (ws, inl refl, e)
   named (ws ∷ script) f (inr i) = let n = named script f i in (n .0, inr (n .1), n .2)
 
-  largest-is : (script : List Script) → ((ws : Script) → In ws script → longestRun (functionOf weights rest ws) ≡ longestOf (answerOf weights ws))
-      → largest (functionsFrom weights rest script) ≡ largestAnswer weights script
+  largest-is : (script : List Script) → ((ws : Script) → In ws script → longestRun (functionOf weights rest ws) ≡ longestOf (runAnswerOf weights ws))
+      → largestRun (functionsFrom weights rest script) ≡ largestAnswer weights script
   largest-is [] h = refl
   largest-is (ws ∷ script) h = ap₂ max (h ws (inl refl)) (largest-is script (λ vs i. h vs (inr i)))
 
   module _ (script : List Script) (ok : AcceptedScript weights rest script) where
-    pub fit-of : (f : Function) → Named script f → Fit f
+    pub fit-of : (f : GraphFunction) → Named script f → Fit f
     fit-of f n =
-        subst (λ (h : Function). Fit h) (sym (n .2))
+        subst (λ (h : GraphFunction). Fit h) (sym (n .2))
         (record {
           law = laws .lawful (n .0) (ok .sound (n .0) (n .1));
           some = some-words weights (ok .weighs) (n .0) (ok .sound (n .0) (n .1)) (ok .accepted (n .0) (n .1));
           part = ok .part (n .0);
         })
 
-    answers : (ws : Script) → In ws script → longestRun (functionOf weights rest ws) ≡ longestOf (answerOf weights ws)
+    answers : (ws : Script) → In ws script → longestRun (functionOf weights rest ws) ≡ longestOf (runAnswerOf weights ws)
     answers ws i = is-longest weights (ok .weighs) ws (ok .sound ws i) (ok .accepted ws i)
 
     metered : (a : Activation) → Named script (a .function) → Path (a .function .graph) (a .words) → Metered weights rest script a
@@ -135,7 +135,7 @@ module _ (weights : List ℕ) (rest : Script → ℕ → ℕ) where
           known = n .1;
           same = n .2;
           shows = λ m fits.
-              shows weights (ok .weighs) (n .0) (ok .sound (n .0) (n .1)) (ok .accepted (n .0) (n .1)) m fits a rest (n .2) (subst (λ (h : Function). Path (h .graph) (a .words)) (n .2) path);
+              shows weights (ok .weighs) (n .0) (ok .sound (n .0) (n .1)) (ok .accepted (n .0) (n .1)) m fits a rest (n .2) (subst (λ (h : GraphFunction). Path (h .graph) (a .words)) (n .2) path);
         }
 
     bounded-by : (moves : List Move) (c : Control) → Bounded (functionsFrom weights rest script) moves c → ScriptBounded weights rest script moves c
@@ -147,30 +147,30 @@ module _ (weights : List ℕ) (rest : Script → ℕ → ℕ) where
           meters = λ a i. metered a (named script (a .function) (b .known a i)) (b .paths a i);
         }
 
-    bounded : (moves : List Move) → Run (functionsFrom weights rest script) idle moves → ScriptBounded weights rest script moves (after idle moves)
+    bounded : (moves : List Move) → Run (functionsFrom weights rest script) idle moves → ScriptBounded weights rest script moves (controlAfter idle moves)
     bounded moves r =
-        bounded-by moves (after idle moves) (calls-bounded (functionsFrom weights rest script) (λ f i. fit-of f (named script f i)) moves r)
+        bounded-by moves (controlAfter idle moves) (calls-bounded (functionsFrom weights rest script) (λ f i. fit-of f (named script f i)) moves r)
 
 pub scripts-bounded : ScriptsBounded
 scripts-bounded = bounded
 
 -- Words of either version.
 
-of-version : (P : Script → Type 0) (version : Version) → ((ws : List ℕ) → P (scriptOf version ws)) → (script : List (List ℕ)) (f : Script) → In f (scriptsOf version script) → P f
+of-version : (P : Script → Type 0) (version : Version) → ((ws : List ℕ) → P (scriptOf version ws)) → (script : List (List ℕ)) (f : Script) → In f (versionScripts version script) → P f
 of-version P version h [] f i = absurd i
 of-version P version h (ws ∷ script) f (inl e) = subst P (sym e) (h ws)
 of-version P version h (ws ∷ script) f (inr i) = of-version P version h script f i
 
 each-accepted : (weights : List ℕ) (version : Version) (script : List (List ℕ))
-    → ((ws : List ℕ) → In ws script → numberOf (answerOf weights (scriptOf version ws)) ≡ «ACCEPTED»)
-    → (f : Script) → In f (scriptsOf version script) → numberOf (answerOf weights f) ≡ «ACCEPTED»
+    → ((ws : List ℕ) → In ws script → numberOf (runAnswerOf weights (scriptOf version ws)) ≡ «ACCEPTED»)
+    → (f : Script) → In f (versionScripts version script) → numberOf (runAnswerOf weights f) ≡ «ACCEPTED»
 each-accepted weights version [] h f i = absurd i
-each-accepted weights version (ws ∷ script) h f (inl e) = subst (λ (g : Script). numberOf (answerOf weights g) ≡ «ACCEPTED») (sym e) (h ws (inl refl))
+each-accepted weights version (ws ∷ script) h f (inl e) = subst (λ (g : Script). numberOf (runAnswerOf weights g) ≡ «ACCEPTED») (sym e) (h ws (inl refl))
 each-accepted weights version (ws ∷ script) h f (inr i) = each-accepted weights version script (λ vs j. h vs (inr j)) f i
 
 pub either-version : EitherVersion
 either-version version weights weighs rest part script accepted moves run =
-    bounded weights rest (scriptsOf version script)
+    bounded weights rest (versionScripts version script)
     (record {
       weighs = weighs;
       part = part;
@@ -179,10 +179,10 @@ either-version version weights weighs rest part script accepted moves run =
     })
     moves run
 
-pub case : Case
+pub case : RecursionCase
 unfolding unless one ordered two opcodeAt isBetween companionPresent successorsOf servesOf classOf companionOf leads markOf within heaviest lengthOf most lowestFrom longest first lowestZero refusesWeights lowestInvalid runOf
 case =
-    let f : Function = functionOf ones (λ ws p. 0) recursive in
+    let f : GraphFunction = functionOf ones (λ ws p. 0) recursive in
     record {
       alone = refl;
       twice = record {

@@ -10,7 +10,7 @@ use lib.ListN.{length, getD, replicate}
 use Rattle.values.specs.Values.{«TAG_NIL», «TAG_FALSE», «TAG_TRUE», «TAG_INTEGER», «TAG_FLOAT», «TAG_SHORT_STRING», «TAG_LONG_STRING»}
 use Rattle.common.specs.Limits.{mostConstants}
 use Rattle.chunk.specs.Reading.{Result, done, refused, Reader, bind, only, repeat}
-use Rattle.chunk.specs.Lundump.{Text, absent, text, Constant, plain, string, loadByte, loadInt, loadNumber, loadInteger, loadStringN, present, loadString, loadItems, constantOf, loadConstant, loadConstants, loadName, namesFrom, loadNames}
+use Rattle.chunk.specs.Lundump.{Text, absent, text, Constant, plain, string, loadByte, loadInt, loadNumber, loadInteger, loadStringN, present, loadString, loadItems, constantByTag, loadConstant, loadConstants, loadName, namesFrom, loadNames}
 use Rattle.chunk.specs.Places.{Plain}
 use Rattle.chunk.proofs.Texts.{text-inside}
 
@@ -80,8 +80,8 @@ module _ (bytes : List ℕ) where
   either true X Y h k = h
   either false X Y h k = k
 
-  constant-of : (i t at : ℕ) → Of ConstantIn (constantOf i t bytes at)
-  unfolding constantOf
+  constant-of : (i t at : ℕ) → Of ConstantIn (constantByTag i t bytes at)
+  unfolding constantByTag
   constant-of i t at =
       either (eqb t «TAG_NIL») _ _ (inl refl)
       (either (eqb t «TAG_FALSE») _ _ (inr (inl refl))

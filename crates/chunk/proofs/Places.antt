@@ -10,14 +10,14 @@ use lib.ListN.{length, getD}
 use borrow.Author.Tests.{leb-true, lt-ltb, le-ltb, ne-eqb}
 use Rattle.common.specs.Chain.{choose}
 use Rattle.common.proofs.Lowest.{lowest-laws}
+use Rattle.common.specs.Limits.{mostBytes}
 use Rattle.values.specs.declared.model.Span.{Span}
 use Rattle.values.specs.declared.model.Name.the-variants.{Unnamed, Named}
-use Rattle.values.specs.Values.{unnamed, spanOf, nameOf}
+use Rattle.values.specs.Values.{unnamed, spanOf, nameOf, spanNumber}
 use Rattle.values.specs.Spans.{past, namePastAt, firstNamePast}
-use Rattle.chunk.specs.Limits.{mostBytes}
 use Rattle.chunk.specs.Reading.{Result, done, refused, bind, only}
 use Rattle.chunk.specs.Lundump.{Text, absent, text, Constant, plain, string, Function, undump}
-use Rattle.chunk.specs.Chunk.{pick, chosen, spanNumber, payloadOf, nameNumber, valuesOf, payloadsOf, namesOf}
+use Rattle.chunk.specs.Chunk.{pick, chosen, payloadOf, nameNumber, valuesOf, payloadsOf, namesOf}
 use Rattle.chunk.specs.Stands.{Stands, OneRead}
 use Rattle.chunk.specs.Places.{Plain, Places}
 use Rattle.chunk.proofs.Standing.{chosen-stands}

@@ -9,14 +9,13 @@ use lib.Dec.{ltb, leb, eqb}
 use lib.ListN.{length, drop, getD}
 use borrow.Author.Tests.{ltb-true}
 use Rattle.values.specs.Values.{«TAG_NIL», «TAG_FALSE», «TAG_TRUE», «TAG_INTEGER», «TAG_FLOAT», «TAG_SHORT_STRING», «TAG_LONG_STRING»}
-use Rattle.common.specs.Limits.{mostWords, mostConstants, mostNames}
-use Rattle.chunk.specs.Limits.{levelsBelow, sizeMax, intMax}
+use Rattle.common.specs.Limits.{mostWords, mostConstants, mostNames, levelsBelow, sizeMax, intMax}
 use Rattle.chunk.specs.Reading.{Result, done, refused, Reader, bind, andThen, only, repeat}
 use Rattle.chunk.specs.Lundump.{Function, Constant, Text, absent, text, loadBlock, loadByte, unsignedFrom, loadUnsigned, loadSize, loadInt}
 use Rattle.chunk.specs.Lundump.{loadNumber, loadInteger, stringOf, loadStringN, present, loadString, loadVector, loadItems, loadCode}
-use Rattle.chunk.specs.Lundump.{constantOf, loadConstant, loadConstants, loadUpvalues, loadAbsLine, loadLocVar, loadLines, loadName, namesFrom, loadNames}
+use Rattle.chunk.specs.Lundump.{constantByTag, loadConstant, loadConstants, loadUpvalues, loadAbsLine, loadLocVar, loadLines, loadName, namesFrom, loadNames}
 use Rattle.chunk.specs.Lundump.{loadHead, functionWith, several, noneOf, loadProtos, loadFunction, checkHeader, undump}
-use Rattle.chunk.specs.Stands.{Between, ReadBetween}
+use Rattle.chunk.specs.Stands.{StandBetween, ReadBetween}
 use Rattle.chunk.proofs.Thens.{then1, then2, then3, then4, then5, then6, then7}
 
 -- ---- what is read ends where it starts, or later
@@ -119,8 +118,8 @@ module _ (bytes : List ℕ) where
   unfolding loadCode
   code at = up-bind at (loadVector mostWords 4 bytes at) _ (vector mostWords 4 at) (λ v at₁. here at₁)
 
-  constant-of : (i t : ℕ) → Forward (constantOf i t)
-  unfolding constantOf
+  constant-of : (i t : ℕ) → Forward (constantByTag i t)
+  unfolding constantByTag
   constant-of i t at =
       up-cond (eqb t «TAG_NIL») at _ _ (here at)
       (up-cond (eqb t «TAG_FALSE») at _ _ (here at)
@@ -217,37 +216,37 @@ module _ (bytes : List ℕ) where
 
 -- ---- functions one after another, from a position to a position
 module _ (size : ℕ) where
-  ends : (lo hi : ℕ) (fs : List Function) → Between size lo fs hi → lo ≤ hi
+  ends : (lo hi : ℕ) (fs : List Function) → StandBetween size lo fs hi → lo ≤ hi
   ends lo hi [] k = k
   ends lo hi (f ∷ fs) k = omega (arith, k .0, ends (f .firstAt + 1) hi fs (k .1 .1 .1))
 
-  lower : (lo lo₁ hi : ℕ) (fs : List Function) → lo ≤ lo₁ → Between size lo₁ fs hi → Between size lo fs hi
+  lower : (lo lo₁ hi : ℕ) (fs : List Function) → lo ≤ lo₁ → StandBetween size lo₁ fs hi → StandBetween size lo fs hi
   lower lo lo₁ hi [] h k = omega (arith, h, k)
   lower lo lo₁ hi (f ∷ fs) h k = (omega (arith, h, k .0), k .1)
 
-  higher : (lo hi hi₁ : ℕ) (fs : List Function) → hi ≤ hi₁ → Between size lo fs hi → Between size lo fs hi₁
+  higher : (lo hi hi₁ : ℕ) (fs : List Function) → hi ≤ hi₁ → StandBetween size lo fs hi → StandBetween size lo fs hi₁
   higher lo hi hi₁ [] h k = omega (arith, h, k)
   higher lo hi hi₁ (f ∷ fs) h k = (k .0, (k .1 .0, (omega (arith, h, k .1 .1 .0), higher (f .firstAt + 1) hi hi₁ fs h (k .1 .1 .1))))
 
-  joined : (lo mid hi : ℕ) (fs gs : List Function) → Between size lo fs mid → Between size mid gs hi → Between size lo (fs ++ gs) hi
+  joined : (lo mid hi : ℕ) (fs gs : List Function) → StandBetween size lo fs mid → StandBetween size mid gs hi → StandBetween size lo (fs ++ gs) hi
   joined lo mid hi [] gs h k = lower lo mid hi gs h k
   joined lo mid hi (f ∷ fs) gs h k =
       (h .0, (h .1 .0, (omega (arith, h .1 .1 .0, ends mid hi gs k), joined (f .firstAt + 1) mid hi fs gs (h .1 .1 .1) k)))
 
   -- the first byte of each lies at the position or after it
-  above : (lo hi k : ℕ) (fs : List Function) (d : Function) → Between size lo fs hi → k < length fs → lo ≤ getD fs k d .firstAt
+  above : (lo hi k : ℕ) (fs : List Function) (d : Function) → StandBetween size lo fs hi → k < length fs → lo ≤ getD fs k d .firstAt
   above lo hi k [] d b h = absurd (omega arith)
   above lo hi zero (f ∷ fs) d b h = b .0
   above lo hi (suc k) (f ∷ fs) d b h = omega (arith, b .0, above (f .firstAt + 1) hi k fs d (b .1 .1 .1) (omega arith))
 
-  rises : (lo hi : ℕ) (fs : List Function) → Between size lo fs hi → (j k : ℕ) (d : Function) → j < k → k < length fs → getD fs j d .firstAt < getD fs k d .firstAt
+  rises : (lo hi : ℕ) (fs : List Function) → StandBetween size lo fs hi → (j k : ℕ) (d : Function) → j < k → k < length fs → getD fs j d .firstAt < getD fs k d .firstAt
   rises lo hi [] b j k d h l = absurd (omega arith)
   rises lo hi (f ∷ fs) b j zero d h l = absurd (omega arith)
   rises lo hi (f ∷ fs) b zero (suc k) d h l = omega (arith, above (f .firstAt + 1) hi k fs d (b .1 .1 .1) (omega arith))
   rises lo hi (f ∷ fs) b (suc j) (suc k) d h l = rises (f .firstAt + 1) hi fs (b .1 .1 .1) j k d (omega arith) (omega arith)
 
   -- so they are as many as the bytes from the position on, at most
-  fewer : (lo hi : ℕ) (fs : List Function) → Between size lo fs hi → length fs ≤ size - lo
+  fewer : (lo hi : ℕ) (fs : List Function) → StandBetween size lo fs hi → length fs ≤ size - lo
   fewer lo hi [] b = omega arith
   fewer lo hi (f ∷ fs) b = omega (arith, b .0, b .1 .0, fewer (f .firstAt + 1) hi fs (b .1 .1 .1))
 
@@ -268,7 +267,7 @@ module _ (bytes : List ℕ) where
   size = length bytes
 
   module _ (r : Reader (List Function)) (each : (at : ℕ) → Read size at (r bytes at)) where
-    both : (lo : ℕ) (fs : List Function) (at : ℕ) → Between size lo fs at → (X : Result (List Function)) → Read size at X → Read size lo (bind X (λ more at₂. done (fs ++ more) at₂))
+    both : (lo : ℕ) (fs : List Function) (at : ℕ) → StandBetween size lo fs at → (X : Result (List Function)) → Read size at X → Read size lo (bind X (λ more at₂. done (fs ++ more) at₂))
     both lo fs at h (done more at₂) k = joined size lo at at₂ fs more h k
     both lo fs at h (refused e) k = tt
 
@@ -286,12 +285,12 @@ module _ (bytes : List ℕ) where
   module _ (P : Reader (List Function)) (inside : (at : ℕ) → Read size at (P bytes at)) (at₀ : ℕ) where
     module _ (begun : at₀ < size) where
       r7 : (at₁ : ℕ) (ws : List ℕ) (at₂ : ℕ) (ks : List Constant) (n : ℕ) (inner : List Function) (at₅ at₆ : ℕ) (X : Result (List Text))
-          → Between size (at₀ + 1) inner at₅ → at₅ ≤ at₆ → Up at₆ X → Read size at₀ (bind X (then7 bytes P at₀ at₁ ws at₂ ks n inner at₅ at₆))
+          → StandBetween size (at₀ + 1) inner at₅ → at₅ ≤ at₆ → Up at₆ X → Read size at₀ (bind X (then7 bytes P at₀ at₁ ws at₂ ks n inner at₅ at₆))
       r7 at₁ ws at₂ ks n inner at₅ at₆ (done t at₇) b h u = (here at₀, (begun, (here at₇, higher size (at₀ + 1) at₅ at₇ inner (omega (arith, h, u)) b)))
       r7 at₁ ws at₂ ks n inner at₅ at₆ (refused e) b h u = tt
 
       r6 : (at₁ : ℕ) (ws : List ℕ) (at₂ : ℕ) (ks : List Constant) (n : ℕ) (inner : List Function) (at₅ : ℕ) (X : Result (List ℕ))
-          → Between size (at₀ + 1) inner at₅ → Up at₅ X → Read size at₀ (bind X (then6 bytes P at₀ at₁ ws at₂ ks n inner at₅))
+          → StandBetween size (at₀ + 1) inner at₅ → Up at₅ X → Read size at₀ (bind X (then6 bytes P at₀ at₁ ws at₂ ks n inner at₅))
       r6 at₁ ws at₂ ks n inner at₅ (done z at₆) b u = r7 at₁ ws at₂ ks n inner at₅ at₆ (loadNames n bytes at₆) b u (names bytes n at₆)
       r6 at₁ ws at₂ ks n inner at₅ (refused e) b u = tt
 

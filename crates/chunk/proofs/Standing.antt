@@ -7,8 +7,7 @@ use Prim.Native.Nat.{ℕ, zero, suc, _≤_}
 use native.Mathlib.Omega.{arith}
 use lib.Dec.{leb}
 use lib.ListN.{length}
-use Rattle.common.specs.Limits.{mostConstants, mostNames}
-use Rattle.chunk.specs.Limits.{levelsBelow}
+use Rattle.common.specs.Limits.{mostConstants, mostNames, levelsBelow}
 use Rattle.chunk.specs.Reading.{Result, done, refused, Reader, bind, only}
 use Rattle.chunk.specs.Lundump.{loadByte, Function, Constant, Text, loadInt, loadHead, loadCode, loadConstant, loadConstants, loadUpvalues, loadLines, loadNames, functionWith, several, noneOf, loadProtos, loadFunction, checkHeader, undump}
 use Rattle.chunk.specs.Chunk.{pick, chosen}

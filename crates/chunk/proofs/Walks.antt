@@ -16,7 +16,7 @@ use Rattle.chunk.specs.declared.functions.Search.the-variants.{Left, Fou
 use Rattle.chunk.specs.declared.functions.Walk.{Walk}
 use Rattle.chunk.specs.declared.functions.Walk.the-variants.{Past, Stopped}
 use Rattle.chunk.specs.Reading.{Result, done, refused, Reader, bind}
-use Rattle.chunk.specs.Cursors.{step, cursorOf, same, positionOf, valueOf, refusalOf, none}
+use Rattle.chunk.specs.Cursors.{step, cursorOf, same, positionOf, cursorValue, refusalOf, none}
 use Rattle.chunk.specs.Lundump.{Function, Constant, Text, loadInt, loadHead, loadCode, loadConstants, loadUpvalues, loadLines, loadNames, functionWith, several, noneOf, loadProtos, loadFunction}
 use Rattle.chunk.specs.Search.{layoutOf, search, walkOf, walk, cursorAt, searchOf, passed, settled, finished}
 use Rattle.chunk.proofs.Thens.{own, then1, then2, then3, then4, then5, then6, then7}
@@ -51,10 +51,10 @@ over-own (Left (suc n)) f inner = refl
 module _ (bytes : List ℕ) (P : Reader (List Function)) (s : Search) where
   abbrev end : ℕ → Cursor → Cursor → Cursor → Cursor → Walk → Cursor → Cursor → Walk
   end p h k q u w l n =
-      finished s (record { «first_at» = p; «code_at» = positionOf h; words = valueOf k; «constants_at» = positionOf k; constants = valueOf q; «lines_at» = positionOf (cursorAt w); «names_at» = positionOf l; names = valueOf u }) w n
+      finished s (record { «first_at» = p; «code_at» = positionOf h; words = cursorValue k; «constants_at» = positionOf k; constants = cursorValue q; «lines_at» = positionOf (cursorAt w); «names_at» = positionOf l; names = cursorValue u }) w n
 
   abbrev from6 : ℕ → Cursor → Cursor → Cursor → Cursor → Walk → Cursor → Walk
-  from6 p h k q u w l = end p h k q u w l (step none (loadNames (valueOf u)) bytes l)
+  from6 p h k q u w l = end p h k q u w l (step none (loadNames (cursorValue u)) bytes l)
 
   abbrev from5 : ℕ → Cursor → Cursor → Cursor → Cursor → Walk → Walk
   from5 p h k q u w = from6 p h k q u w (step length loadLines bytes (cursorAt w))
@@ -127,9 +127,9 @@ module _ (bytes : List ℕ) (P : Reader (List Function)) (s : Search) where
       → w ≡ walk P bytes u t
       → m ≡ cursorAt w
       → l ≡ step length loadLines bytes m
-      → v ≡ valueOf u
+      → v ≡ cursorValue u
       → n ≡ step none (loadNames v) bytes l
-      → a₀ ≡ positionOf c → a₁ ≡ positionOf h → a₂ ≡ valueOf k → a₃ ≡ positionOf k → a₄ ≡ valueOf q → a₇ ≡ positionOf m → a₅ ≡ positionOf l → a₆ ≡ valueOf u
+      → a₀ ≡ positionOf c → a₁ ≡ positionOf h → a₂ ≡ cursorValue k → a₃ ≡ positionOf k → a₄ ≡ cursorValue q → a₇ ≡ positionOf m → a₅ ≡ positionOf l → a₆ ≡ cursorValue u
       → x ≡ finished s (record { «first_at» = a₀; «code_at» = a₁; words = a₂; «constants_at» = a₃; constants = a₄; «lines_at» = a₇; «names_at» = a₅; names = a₆ }) w n
       → x ≡ walk (functionWith P) bytes c s
   joined c h k q u w m l n a₀ a₁ a₂ a₃ a₄ a₇ a₅ a₆ v t x eh ek eq eu et ew em el ev en e₀ e₁ e₂ e₃ e₄ e₇ e₅ e₆ ex =

@@ -1,6 +1,5 @@
 -- Compiled files: the format as lundump.c reads it, the chosen function, the names shown;
 -- then what contracts within the crate cite.
-pub mod Limits
 pub mod Numbers
 pub mod Reading
 pub mod Lundump

@@ -21,8 +21,7 @@ use Rattle.values.specs.Values.{
   «TAG_LONG_STRING»,
 }
 use Rattle.chunk.specs.declared.reading.Refusal.the-variants.{Header, Malformed, TooDeep, UnknownTag}
-use Rattle.common.specs.Limits.{mostWords, mostConstants, mostNames}
-use Rattle.chunk.specs.Limits.{levelsBelow, sizeMax, intMax}
+use Rattle.common.specs.Limits.{mostWords, mostConstants, mostNames, levelsBelow, sizeMax, intMax}
 use Rattle.chunk.specs.Reading.{Result, done, refused, Reader, bind, andThen, only, repeat, littleEnd}
 
 -- loadBlock: `size` bytes, or "truncated chunk". What they hold is looked up by position
@@ -117,8 +116,8 @@ loadCode bytes at =
 
 -- loadConstants: its `switch (t)`. "Payloads of nil, false and true are given as 0"; "An unknown constant tag
 -- is number 3 with its index"
-unfoldable pub constantOf : ℕ → ℕ → Reader Constant
-constantOf i t bytes at =
+unfoldable pub constantByTag : ℕ → ℕ → Reader Constant
+constantByTag i t bytes at =
     cond (eqb t «TAG_NIL») (done (plain «TAG_NIL» 0) at)
     (cond (eqb t «TAG_FALSE») (done (plain «TAG_FALSE» 0) at)
     (cond (eqb t «TAG_TRUE») (done (plain «TAG_TRUE» 0) at)
@@ -129,7 +128,7 @@ constantOf i t bytes at =
     (refused (UnknownTag i))))))))
 
 unfoldable pub loadConstant : ℕ → Reader Constant
-loadConstant i bytes at = bind (loadByte bytes at) (λ t at₁. constantOf i t bytes at₁)
+loadConstant i bytes at = bind (loadByte bytes at) (λ t at₁. constantByTag i t bytes at₁)
 
 abbrev pub loadConstants : Reader (List Constant)
 loadConstants = loadItems mostConstants loadConstant

@@ -5,8 +5,7 @@ use mathlib.Core.Path.{_≡_}
 use mathlib.Core.List.{List, [], _∷_}
 use Prim.Native.Nat.{ℕ, _+_, _≤_, _<_}
 use lib.ListN.{length}
-use Rattle.common.specs.Limits.{mostWords, mostConstants, mostNames}
-use Rattle.chunk.specs.Limits.{levelsBelow}
+use Rattle.common.specs.Limits.{mostWords, mostConstants, mostNames, levelsBelow}
 use Rattle.chunk.specs.Reading.{Result, done, refused}
 use Rattle.chunk.specs.Lundump.{
   Function,
@@ -56,11 +55,11 @@ OneRead bytes (refused e) = Unit
 
 -- functions one after another, from a position to a position: each starts at one of so many bytes, before
 -- those behind it, and ends in time
-abbrev pub Between : ℕ → ℕ → List Function → ℕ → Type 0
-Between size lo [] hi = lo ≤ hi
-Between size lo (f ∷ fs) hi =
-    (lo ≤ f .firstAt) × ((f .firstAt < size) × ((f .endAt ≤ hi) × Between size (f .firstAt + 1) fs hi))
+abbrev pub StandBetween : ℕ → ℕ → List Function → ℕ → Type 0
+StandBetween size lo [] hi = lo ≤ hi
+StandBetween size lo (f ∷ fs) hi =
+    (lo ≤ f .firstAt) × ((f .firstAt < size) × ((f .endAt ≤ hi) × StandBetween size (f .firstAt + 1) fs hi))
 
 abbrev pub ReadBetween : ℕ → ℕ → Result (List Function) → Type 0
-ReadBetween size lo (done fs at) = Between size lo fs at
+ReadBetween size lo (done fs at) = StandBetween size lo fs at
 ReadBetween size lo (refused e) = Unit

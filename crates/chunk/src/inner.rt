@@ -1,16 +1,14 @@
 // What other crates of this repository that read parts of a chunk call: its loaders, and the walk over its
 // functions. No entry of C or of a program is among them.
-pub use crate::counts::number;
-pub use crate::counts::place;
+pub use crate::counts::refusal_number;
+pub use crate::counts::refusal_place;
 pub use crate::counts::report;
 pub use crate::filling::fill_code;
 pub use crate::filling::with_room;
 pub use crate::functions::function;
-pub use crate::limits::LEVELS_BELOW;
-pub use crate::limits::MOST_BYTES;
-pub use crate::locating::answer;
 pub use crate::locating::header;
 pub use crate::locating::locate;
+pub use crate::locating::located_counts;
 pub use crate::parts::code;
 pub use crate::parts::constants;
 pub use crate::parts::head;

@@ -3,7 +3,7 @@ use crate::print;
 use chunk::lawendeb_chunk_count;
 use chunk::lawendeb_chunk_fill;
 use chunk::lawendeb_upvalue_name;
-use chunk::upvalue_name;
+use chunk::lent_name;
 use pages::first;
 use vectors::bytes_of;
 use vectors::number_of;
@@ -66,7 +66,7 @@ fn shown(bytes: &[u8], own: &[u64], list: &[u8], other: &[u64], i: usize) {
 
 fn name_of<'a>(bytes: &'a [u8], own: &[u64], list: &'a [u8], other: &[u64], i: usize) {
     print::text(b" '");
-    print::text(upvalue_name(bytes, own, list, other, i));
+    print::text(lent_name(bytes, own, list, other, i));
     print::text(b"'");
     print::end();
 }

@@ -5,7 +5,7 @@ use libc::STDOUT_FILENO;
 
 // Writes the line of function k, and answers its length.
 fn write_line(bytes: &[u8], k: usize) -> usize {
-    let mut page = survey::page();
+    let mut page = survey::line_page();
     let r = survey::line(bytes, k, &mut page);
     io::write_all(STDOUT_FILENO, &page[..r]);
     r

@@ -5,3 +5,4 @@ pub mod Put
 pub mod Clearing
 pub mod Stores
 pub mod Writing
+pub mod Refusing

@@ -2,8 +2,10 @@
 -- Assumes nothing.
 use mathlib.Core.Bool.{Bool, true, false, cond}
 use Prim.Native.Nat.{ℕ}
+use lib.Dec.{ltb, eqb}
 use Rattle.common.specs.declared.answer.Answer.{Answer}
-use Rattle.common.specs.Numbers.{«ACCEPTED»}
+use Rattle.common.specs.Limits.{mostWords}
+use Rattle.common.specs.Numbers.{«ACCEPTED», «TOO_MANY_WORDS», «SHORT_SLICE», «NO_WORDS»}
 
 -- where the test holds, that refusal; else what the later checks say
 abbrev pub refuseIf : {X : Type 0} → Bool → X → X → X
@@ -20,3 +22,18 @@ answer number place = record { number = number; place = place }
 
 abbrev pub accepted : Answer
 accepted = answer «ACCEPTED» 0
+
+-- 1, 6 and 7, in this order: of n words, whether a lent result slice is too short for them, and what the
+-- later checks say
+abbrev pub refuseSizes : {X : Type 0} → (ℕ → X) → ℕ → Bool → X → X
+refuseSizes refused n short later =
+    -- "more than 32,768 words"
+    refuseIf (ltb mostWords n) (refused «TOO_MANY_WORDS»)
+    -- "a lent result slice shorter than the words"
+    (refuseIf short (refused «SHORT_SLICE»)
+    -- "no words"
+    (refuseIf (eqb n 0) (refused «NO_WORDS») later))
+
+-- their number alone, 0 if none refuses: of n words, and the length of the shortest lent result slice
+unfoldable pub sizesNumber : ℕ → ℕ → ℕ
+sizesNumber n room = refuseSizes (λ (number : ℕ). number) n (ltb room n) «ACCEPTED»

@@ -2,5 +2,6 @@
 pub mod Limits
 pub mod Numbers
 pub mod Chain
+pub mod Flat
 pub mod Lowest
 pub mod Lists

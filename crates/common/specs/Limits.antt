@@ -17,3 +17,52 @@ mostNames = 255
 -- "line 4,097 exists"
 abbrev pub mostLines : ℕ
 mostLines = 4096
+
+-- "sheet line malformed or over 4,294,967,295"
+abbrev pub mostWord : ℕ
+mostWord = 4294967295
+
+-- request C-20: "a script number above 3"
+abbrev pub lastScript : ℕ
+lastScript = 3
+
+-- request C-20: "an allowance S, 1 to 16,777,216"
+abbrev pub mostBudget : ℕ
+mostBudget = 16777216
+
+-- request C-21: "1 to 4 accepted scripts"
+abbrev pub mostScripts : ℕ
+mostScripts = 4
+
+-- request C-21: "q from 1 to 1,000"
+abbrev pub mostQuantum : ℕ
+mostQuantum = 1000
+
+-- document 01, "Meter", RULES 4: the services, "staying at 4,294,967,295"
+abbrev pub mostServices : ℕ
+mostServices = 4294967295
+
+-- request C-17: "128 weights of 1 to 255": a weight is a byte
+abbrev pub heaviestWeight : ℕ
+heaviestWeight = 255
+
+-- request C-11: "the chunk passes 4,294,967,295 bytes"
+abbrev pub mostBytes : ℕ
+mostBytes = 4294967295
+
+-- request C-11: "the reader goes down at most 32 levels, the main function being level 1": so many levels lie
+-- below it
+abbrev pub levelsBelow : ℕ
+levelsBelow = 31
+
+-- llimits.h: MAX_SIZET of a 64-bit size_t, and limits.h's INT_MAX of a 32-bit int: the limits that
+-- loadSize and loadInt pass on
+abbrev pub sizeMax : ℕ
+sizeMax = 18446744073709551615
+
+abbrev pub intMax : ℕ
+intMax = 2147483647
+
+-- llimits.h: LUAI_MAXSHORTLEN; "A string's tag is 4 up to 40 bytes and 20 above"
+abbrev pub shortLength : ℕ
+shortLength = 40

@@ -19,6 +19,11 @@ over f n l = tabulate f 0 n ++ drop n l
 unfoldable pub put : List ℕ → ℕ → List ℕ → List ℕ
 put l i numbers = take i l ++ (numbers ++ drop (i + length numbers) l)
 
+-- n counts elements at the start of a list. The second part follows from the first; to write them out takes
+-- both
+abbrev pub Counted : ℕ → List ℕ → Type 0
+Counted n l = (n ≤ length l) × (n ≡ length (take n l))
+
 -- what callers go by: proofs/Over.antt proves it
 pub record OverLaws : Type 0 where
   pub length-tabulate : (f : ℕ → ℕ) (i k : ℕ) → length (tabulate f i k) ≡ k

@@ -11,7 +11,7 @@ use Rattle.values.specs.declared.ir.Writes.{Writes}
 use Rattle.values.specs.declared.ir.SemanticInstruction.{SemanticInstruction}
 use Rattle.records.specs.Lift.{liftOf}
 use Rattle.common.specs.Lists.{put}
-use Rattle.exports.specs.Record.{headNumbers, operandsNumbers, readsNumbers, writesNumbers, numbersOf, recordsNumbers}
+use Rattle.exports.specs.Flat.{headNumbers, operandsNumbers, readsNumbers, writesNumbers, numbersOf, recordsNumbers}
 use Rattle.common.proofs.Put.{put-laws}
 
 -- ---- lengths

@@ -10,7 +10,7 @@ use lib.Ieee.{Float, nan, inf, fin, Format, binary64, prec, emax, low, up, down,
 use lib.Ieee.Bits.{nanBits-is, toBits-ofBits}
 use borrow.Author.Tests.{eq-eqb}
 use Rattle.common.specs.Chain.{choose}
-use Rattle.exports.specs.Record.{floatBits}
+use Rattle.exports.specs.Flat.{floatBits}
 
 beq-self : (s : Bool) → Bool·beq s s ≡ true
 beq-self true = refl

@@ -1,10 +1,10 @@
 -- What leaves by the exports is what came in.
 -- Assumes nothing.
-use Prim.Native.Nat.{ℕ, _-_, _*_, _/_, _%_, _<_, _^_}
+use Prim.Native.Nat.{ℕ, _+_, _-_, _*_, _/_, _%_, _<_, _^_}
 use mathlib.Core.Path.{_≡_, refl, _∙_, ap}
 use mathlib.Core.Bool.{Bool, true, false}
 use mathlib.Core.List.{List}
-use native.Mathlib.Nat.{div-add-mod', add-comm}
+use native.Mathlib.Nat.{div-add-mod', add-comm, mul-comm}
 use native.Mathlib.Omega.{arith}
 use lib.Dec.{ltb}
 use lib.ListN.{getD}
@@ -21,12 +21,12 @@ use Rattle.values.specs.declared.ir.TypedOperand.the-variants as operand
 use Rattle.values.specs.declared.ir.EffectTarget.{EffectTarget}
 use Rattle.values.specs.declared.ir.EffectTarget.the-variants as target
 use Rattle.common.specs.Chain.{choose}
-use Rattle.values.specs.Values.{spanOf, signed64, floatOf, valueOf, constantOf, nameOf}
+use Rattle.values.specs.Values.{spanOf, spanNumber, signed64, floatOf, valueOf, constantOf, nameOf}
 use Rattle.records.specs.Lift.{liftOf}
 use Rattle.records.specs.Sources.{operandIn, immediateFloat}
 use Rattle.records.proofs.Sources.{sources}
 use Rattle.exports.specs.declared.parts.FlatPair.{FlatPair}
-use Rattle.exports.specs.Record.{spanNumber, floatBits, pair, flatName, flatValue, flatOperand, flatTarget}
+use Rattle.exports.specs.Flat.{floatBits, pair, flatName, flatValue, flatOperand, flatTarget}
 use Rattle.exports.specs.Payloads.{lentConstant, lentName, lentConstantAt, lentNameAt, OperandKept, TargetKept, Slice64, PayloadsKept}
 use Rattle.exports.proofs.Floats.{bits-of, bits-back, integer-number}
 
@@ -39,8 +39,8 @@ pick true x y p q a b = a
 pick false x y p q a b = b
 
 module _ (payload : ℕ) (h : payload < 2 ^ 64) where
-  span : spanNumber (spanOf payload) ≡ payload
-  span = add-comm (payload % 2 ^ 32) (payload / 2 ^ 32 * 2 ^ 32) ∙ div-add-mod' payload (2 ^ 32)
+  span : spanNumber (spanOf payload .start) (spanOf payload .len) ≡ payload
+  span = ap (λ (high : ℕ). payload % 2 ^ 32 + high) (mul-comm (2 ^ 32) (payload / 2 ^ 32)) ∙ add-comm (payload % 2 ^ 32) (payload / 2 ^ 32 * 2 ^ 32) ∙ div-add-mod' payload (2 ^ 32)
 
   signed-at : (t : Bool) → ofZ w64 (choose t (pos payload) (negsuc (2 ^ 64 - 1 - payload))) ≡ payload
   unfolding choose

@@ -13,7 +13,7 @@ use Rattle.common.specs.Chain.{choose}
 use Rattle.records.specs.Lift.{liftOf}
 use Rattle.records.specs.Refusals.{answerOf, planOf}
 use Rattle.records.proofs.Laws.{plan-laws}
-use Rattle.exports.specs.Record.{numbersOf, recordsNumbers, roomIn, numbersAfter, RecordWise}
+use Rattle.exports.specs.Flat.{numbersOf, recordsNumbers, roomIn, numbersAfter, RecordWise}
 use Rattle.common.proofs.Put.{put-laws}
 use Rattle.exports.proofs.Counted.{length-numbers, length-records}
 

@@ -26,7 +26,7 @@ use Rattle.records.specs.Lift.{liftOf}
 use Rattle.records.specs.Sources.{operandIn, targetIn, immediateFloat}
 use Rattle.exports.specs.declared.parts.FlatSlot.{FlatSlot}
 use Rattle.exports.specs.declared.parts.FlatPair.{FlatPair}
-use Rattle.exports.specs.Record.{pair, flatName, flatValue, flatOperand, flatTarget}
+use Rattle.exports.specs.Flat.{pair, flatName, flatValue, flatOperand, flatTarget}
 
 -- A constant as it was lent: the kind of its tag, and its payload. "Other payloads are ignored":
 -- those of nil, false and true.

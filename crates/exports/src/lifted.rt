@@ -5,7 +5,7 @@ ghost use Prim.Native.Nat.{_+_, _*_, _<_, _≤_};
 ghost use lib.ListN.{length};
 ghost use Rattle.common.specs.Lists.{put};
 ghost use Rattle.records.specs.Laws.{Recorded};
-ghost use Rattle.exports.specs.Record.{
+ghost use Rattle.exports.specs.Flat.{
   flatOperand,
   flatTarget,
   slotNumbers,
@@ -13,28 +13,19 @@ ghost use Rattle.exports.specs.Record.{
   headNumbers,
   operandsNumbers,
 };
-ghost use Rattle.exports.specs.Record.{
+ghost use Rattle.exports.specs.Flat.{
   readsNumbers,
   writesNumbers,
   numbersOf,
   recordsNumbers,
   recordLength,
-  numbersAfter,
-  liftAnswer,
 };
 use crate::parts::*;
 use records::lift::record_or_blank;
-use records::refusals::planned;
 use values::ir::*;
 
 // Numbers in a record.
-const RECORD_LENGTH: usize = 53;
-
-#[repr(C)]
-pub struct FlatAnswer {
-    pub number: u64,
-    pub place: u64,
-}
+pub(crate) const RECORD_LENGTH: usize = 53;
 
 fn put_one(numbers: &mut [u64], at: usize, a: u64)
     requires { ⌜ at + 1 ≤ length (now numbers) ⌝ }
@@ -165,7 +156,7 @@ pub fn numbers_of(i: SemanticInstruction) -> [u64; RECORD_LENGTH]
 }
 
 // The records of the first n words.
-fn put_records<'a, 'b>(
+pub(crate) fn put_records<'a, 'b>(
     words: &'a [u32],
     tags: &'a [u8],
     payloads: &'a [u64],
@@ -186,37 +177,5 @@ fn put_records<'a, 'b>(
             record_or_blank(words, tags, payloads, names, i),
         );
         i += 1;
-    }
-}
-
-// Lifts a whole function. All decisions are the plan's: a refusal is a loop of no turns,
-// so that nothing is written.
-#[no_mangle]
-pub extern "C" fn lawendeb_lift<'a, 'b>(
-    words: &'a [u32],
-    tags: &'a [u8],
-    payloads: &'a [u64],
-    names: &'a [u64],
-    bytes: &'a [u8],
-    numbers: &'b mut [u64],
-) -> FlatAnswer
-    ensures { λ r. ⌜ r ≡ liftAnswer (now (words .entry)) (now (tags .entry)) (now (payloads .entry))
-        (now (names .entry)) (length (now (bytes .entry))) (now (numbers .entry)) ⌝ }
-    ensures { λ _. ⌜ now (numbers .exit) ≡ numbersAfter (now (words .entry)) (now (tags .entry))
-        (now (payloads .entry)) (now (names .entry)) (length (now (bytes .entry))) (now (numbers .entry)) ⌝ }
-{
-    let plan = planned(
-        words,
-        tags,
-        payloads,
-        names,
-        bytes,
-        numbers.len() / RECORD_LENGTH,
-    );
-    let count = plan.count;
-    put_records(words, tags, payloads, names, count, numbers);
-    FlatAnswer {
-        number: plan.answer.number as u64,
-        place: plan.answer.place as u64,
     }
 }

@@ -2,7 +2,8 @@
 ghost use mathlib.Core.Path.{_≡_};
 ghost use mir.Syntax.{w64};
 ghost use mir.Val.{ofZ};
-ghost use Rattle.exports.specs.Record.{flagNumber, spanNumber, floatBits};
+ghost use Rattle.values.specs.Values.{spanNumber};
+ghost use Rattle.exports.specs.Flat.{flagNumber, floatBits};
 use values::model::Span;
 
 pub(crate) fn flag_number(flag: bool) -> u64
@@ -12,9 +13,9 @@ pub(crate) fn flag_number(flag: bool) -> u64
 }
 
 pub(crate) fn span_number(span: Span) -> u64
-    ensures { λ r. ⌜ r ≡ spanNumber span ⌝ }
+    ensures { λ r. ⌜ r ≡ spanNumber (span .start) (span .len) ⌝ }
 {
-    span.start as u64 + span.len as u64 * 4294967296
+    span.start as u64 + 4294967296 * span.len as u64
 }
 
 // The language's cast takes only numbers that fit, so a negative one goes by its complement.

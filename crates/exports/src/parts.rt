@@ -1,6 +1,6 @@
 // The parts of a record as numbers: one function for each enum of model.rs and ir.rs.
 ghost use mathlib.Core.Path.{_≡_};
-ghost use Rattle.exports.specs.Record.{
+ghost use Rattle.exports.specs.Flat.{
   slot,
   flatName,
   flatValue,

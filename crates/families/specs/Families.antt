@@ -48,8 +48,8 @@ abbrev pub load : RawInstruction54 → TypedOperand → ImplicitEffect → Body
 load raw value effect = body (O.Register (raw .a) ∷ value ∷ []) [] (E.Register (raw .a) ∷ []) effect NoPc
 
 -- Loadk, Loadkx
-abbrev pub loadConstant : List ℕ → List ℕ → RawInstruction54 → ℕ → ImplicitEffect → Body
-loadConstant tags payloads raw index effect =
+abbrev pub loadConstantBody : List ℕ → List ℕ → RawInstruction54 → ℕ → ImplicitEffect → Body
+loadConstantBody tags payloads raw index effect =
     body (O.Register (raw .a) ∷ constant tags payloads index ∷ []) (E.Constant index ∷ [])
     (E.Register (raw .a) ∷ []) effect NoPc
 

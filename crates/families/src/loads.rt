@@ -43,7 +43,7 @@ pub fn lift_load_constant(
     index: usize,
     effect: ImplicitEffect,
 ) -> Body
-    ensures { λ r. ⌜ r ≡ F.loadConstant (now (tags .entry)) (now (payloads .entry)) raw index effect ⌝ }
+    ensures { λ r. ⌜ r ≡ F.loadConstantBody (now (tags .entry)) (now (payloads .entry)) raw index effect ⌝ }
 {
     let operands = operands2(
         TypedOperand::Register { index: raw.a },

@@ -111,5 +111,5 @@ abbrev pub «TMS» : List ℕ
     ∷ []
 
 -- C numbers them from 0 on
-abbrev pub Enumerated : Type 0
-Enumerated = «TMS» ≡ numbers 0 25
+abbrev pub EventsEnumerated : Type 0
+EventsEnumerated = «TMS» ≡ numbers 0 25

@@ -9,8 +9,8 @@ use fields::opcodes::OP_TESTSET;
 use fields::opcodes::OP_TFORCALL;
 use fields::word::opcode;
 use pages::word_at;
-use runs::successors::successors;
 use std::num::wrapping_add_usize;
+use steps::successors::successors;
 use sweep::edges::Successors;
 use sweep::edges::serves;
 

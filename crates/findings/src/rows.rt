@@ -1,6 +1,6 @@
 // The rows of the longest run: the words that stand together on a line of the source.
 ghost use Prim.Native.Nat.{_<_};
-ghost use Rattle.findings.specs.Rows.{Row};
+ghost use Rattle.findings.specs.Rows.{RowOfWords};
 use crate::noting::Way;
 use crate::noting::is_behind;
 use crate::noting::is_joined;
@@ -66,7 +66,7 @@ fn ends_row(words: &[u32], lines: &[u32], path: &[u32], i: usize, count: usize) 
 
 // The last word of the row that starts at one of the run's words.
 pub fn row_end(words: &[u32], lines: &[u32], path: &[u32], from: usize, count: usize) -> usize
-    ensures { λ r. ⌜ (from < count → Row from count r) ⌝ }
+    ensures { λ r. ⌜ (from < count → RowOfWords from count r) ⌝ }
 {
     for i in from..count {
         if ends_row(words, lines, path, i, count) {

@@ -1,7 +1,7 @@
 // A function of a compiled script, as it is told. Nothing else here calls the libraries of compiled files,
 // of the path and of registers.
-use crate::order::key;
 use crate::order::is_refused_in;
+use crate::order::key;
 use crate::order::key_at;
 use crate::order::longest_in;
 use crate::order::number_in;
@@ -9,8 +9,8 @@ use crate::order::parent_in;
 use crate::order::set_key;
 use crate::order::sort;
 use crate::rooms;
-use index::Choice;
-use index::FlatHead;
+use lines::Choice;
+use lines::FlatHead;
 use pages::first;
 use pages::first_words;
 use pages::rest;
@@ -42,7 +42,7 @@ pub struct Function {
 
 // The name of the source, as the head at a place gives it; empty where there is none.
 pub fn source(bytes: &[u8], at: usize) -> &[u8] {
-    let head = index::head_from(bytes, at);
+    let head = lines::head_from(bytes, at);
     if head.source == NO_SOURCE {
         return first(bytes, 0);
     }
@@ -122,8 +122,8 @@ fn measured(
     lengths: &mut [u32],
     path: &mut [u32],
 ) -> Function {
-    let head = index::head_from(bytes, at);
-    let counts = index::words_by(bytes, Choice::Place(at), words);
+    let head = lines::head_from(bytes, at);
+    let counts = lines::words_by(bytes, Choice::Place(at), words);
     let n = counts.words as usize;
     let run = witness::longest_path(first_words(words, n), weights, marks, lengths, path);
     with_run(key, head, n, run)
@@ -131,7 +131,7 @@ fn measured(
 
 // The lines of its words, 0 where the file has none.
 fn fill_lines(bytes: &[u8], at: usize, lines: &mut [u32]) {
-    index::lines_by(bytes, Choice::Place(at), lines);
+    lines::lines_by(bytes, Choice::Place(at), lines);
 }
 
 // The same function, refused where some way reads a register that nothing has set. The marks are used.
@@ -174,7 +174,7 @@ pub fn load(
 // The function of a key that is not refused, without its words: what a line of its own tells.
 pub fn brief(bytes: &[u8], places: &[u64], key: u64) -> Function {
     let at = place_in(places, number_in(key));
-    with_head(key, index::head_from(bytes, at), 0)
+    with_head(key, lines::head_from(bytes, at), 0)
 }
 
 pub fn place_in(places: &[u64], k: u64) -> usize {

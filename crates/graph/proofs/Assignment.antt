@@ -14,7 +14,7 @@ use Rattle.common.proofs.Order.{split, same-or-not, past}
 use Rattle.graph.specs.Graph.{Graph, In, Lawful, Along, Path, Reachable}
 use Rattle.graph.specs.Marks.{markOf}
 use Rattle.graph.specs.Distance.{lastOf}
-use Rattle.graph.specs.Assignment.{Usage, Bounded, SetAlong, SetOn, UnsetAlong, SetBeforeUse, Breaks, without, cut, someBelow, readsUnset, unsetAt, lowestUnset, Assignments, Cutting}
+use Rattle.graph.specs.Assignment.{Usage, ReadsBounded, SetAlong, SetOn, UnsetAlong, SetBeforeUse, Breaks, without, cut, someBelow, readsUnset, unsetAt, lowestUnset, Assignments, Cutting}
 use Rattle.graph.proofs.Paths.{along-in}
 use Rattle.graph.proofs.Laws.{reaching, marking}
 
@@ -159,7 +159,7 @@ and-both : (a b : Bool) → a && b ≡ true → (a ≡ true) × (b ≡ true)
 and-both true b e = (refl, e)
 and-both false b e = absurd (false≢true e)
 
-module _ (g : Graph) (law : Lawful g) (u : Usage) (bounded : Bounded u) (k : ℕ) where
+module _ (g : Graph) (law : Lawful g) (u : Usage) (bounded : ReadsBounded u) (k : ℕ) where
   abbrev setting : ℕ → ℕ → ℕ → Bool
   setting r x y = u .sets x y r
 

@@ -12,7 +12,7 @@ use lib.ListN.{length}
 use Rattle.common.proofs.Order.{same-or-not, past}
 use Rattle.graph.specs.Graph.{Graph, In, Lawful, Reachable}
 use Rattle.graph.specs.Marks.{markOf}
-use Rattle.graph.specs.Crossing.{Edge, Crosses, crosses, crossingFrom, crossingBelow, crossingEdges, crossingOf, Listed, EachOnce, Different, Crossing, Crossings}
+use Rattle.graph.specs.Crossing.{Edge, Crosses, crosses, crossingFrom, crossingBelow, crossingEdges, crossingOf, EdgeListed, EachOnce, Different, Crossing, Crossings}
 use Rattle.graph.proofs.Laws.{reaching, marking}
 
 -- the test is right
@@ -40,21 +40,21 @@ true-crosses w p q (inr h) = simp (lt-ltb q w (h .0), lt-ltb w p (h .1)) (last (
     last false = refl
 
 -- lists one after the other
-listed-left : (e : Edge) (l r : List Edge) → Listed e l → Listed e (l ++ r)
+listed-left : (e : Edge) (l r : List Edge) → EdgeListed e l → EdgeListed e (l ++ r)
 listed-left e [] r i = absurd i
 listed-left e (x ∷ xs) r (inl d) = inl d
 listed-left e (x ∷ xs) r (inr i) = inr (listed-left e xs r i)
 
-listed-right : (e : Edge) (l r : List Edge) → Listed e r → Listed e (l ++ r)
+listed-right : (e : Edge) (l r : List Edge) → EdgeListed e r → EdgeListed e (l ++ r)
 listed-right e [] r i = i
 listed-right e (x ∷ xs) r i = inr (listed-right e xs r i)
 
-listed-either : (e : Edge) (l r : List Edge) → Listed e (l ++ r) → Listed e l ⊎ Listed e r
+listed-either : (e : Edge) (l r : List Edge) → EdgeListed e (l ++ r) → EdgeListed e l ⊎ EdgeListed e r
 listed-either e [] r i = inr i
 listed-either e (x ∷ xs) r (inl d) = inl (inl d)
 listed-either e (x ∷ xs) r (inr i) = ⊎-elim (λ j. inl (inr j)) (λ j. inr j) (listed-either e xs r i)
 
-once-both : (l r : List Edge) → EachOnce l → EachOnce r → ((e : Edge) → Listed e l → Listed e r → ⊥) → EachOnce (l ++ r)
+once-both : (l r : List Edge) → EachOnce l → EachOnce r → ((e : Edge) → EdgeListed e l → EdgeListed e r → ⊥) → EachOnce (l ++ r)
 once-both [] r a b d = b
 once-both (x ∷ xs) r a b d = (
   λ i. ⊎-elim (λ j. a .0 j) (λ j. d x (inl refl) j) (listed-either x xs r i),
@@ -63,22 +63,22 @@ once-both (x ∷ xs) r a b d = (
 
 -- the edges from one word
 module _ (w p : ℕ) where
-  from-is : (l : List ℕ) (e : Edge) → Listed e (crossingFrom w p l) → (e .from ≡ p) × In (e .to) l × Crosses w e
+  from-is : (l : List ℕ) (e : Edge) → EdgeListed e (crossingFrom w p l) → (e .from ≡ p) × In (e .to) l × Crosses w e
   from-is [] e i = absurd i
   from-is (q ∷ qs) e i = go (λ j. from-is qs e j) (crosses w p q) refl i
     where
-      go : (Listed e (crossingFrom w p qs) → (e .from ≡ p) × In (e .to) qs × Crosses w e) → (b : Bool) → crosses w p q ≡ b
-          → Listed e (cond b (record { from = p; to = q } ∷ crossingFrom w p qs) (crossingFrom w p qs)) → (e .from ≡ p) × In (e .to) (q ∷ qs) × Crosses w e
+      go : (EdgeListed e (crossingFrom w p qs) → (e .from ≡ p) × In (e .to) qs × Crosses w e) → (b : Bool) → crosses w p q ≡ b
+          → EdgeListed e (cond b (record { from = p; to = q } ∷ crossingFrom w p qs) (crossingFrom w p qs)) → (e .from ≡ p) × In (e .to) (q ∷ qs) × Crosses w e
       go rec true t (inl d) = (ap (λ (x : Edge). x .from) d, inl (ap (λ (x : Edge). x .to) d), subst (λ (x : Edge). Crosses w x) (sym d) (crosses-true w p q t))
       go rec true t (inr j) = let r = rec j in (r .0, inr (r .1), r .2)
       go rec false t j = let r = rec j in (r .0, inr (r .1), r .2)
 
-  is-from : (l : List ℕ) (q : ℕ) → In q l → ((p < w) × (w < q)) ⊎ ((q < w) × (w < p)) → Listed (record { from = p; to = q }) (crossingFrom w p l)
+  is-from : (l : List ℕ) (q : ℕ) → In q l → ((p < w) × (w < q)) ⊎ ((q < w) × (w < p)) → EdgeListed (record { from = p; to = q }) (crossingFrom w p l)
   is-from [] q i c = absurd i
   is-from (x ∷ xs) q i c = go (λ j. is-from xs q j c) (crosses w p x) refl i
     where
-      go : (In q xs → Listed (record { from = p; to = q }) (crossingFrom w p xs)) → (b : Bool) → crosses w p x ≡ b → In q (x ∷ xs)
-          → Listed (record { from = p; to = q }) (cond b (record { from = p; to = x } ∷ crossingFrom w p xs) (crossingFrom w p xs))
+      go : (In q xs → EdgeListed (record { from = p; to = q }) (crossingFrom w p xs)) → (b : Bool) → crosses w p x ≡ b → In q (x ∷ xs)
+          → EdgeListed (record { from = p; to = q }) (cond b (record { from = p; to = x } ∷ crossingFrom w p xs) (crossingFrom w p xs))
       go rec true t (inl d) = inl (ap (λ (y : ℕ). record { from = p; to = y }) d)
       go rec true t (inr j) = inr (rec j)
       go rec false t (inl d) = absurd (true≢false (sym (true-crosses w p q c) ∙ ap (crosses w p) d ∙ t))
@@ -97,14 +97,14 @@ module _ (g : Graph) (law : Lawful g) (w : ℕ) where
   abbrev ofWord : ℕ → List Edge
   ofWord k = cond (eqb (markOf g k) 1) (crossingFrom w k (g .successors k)) []
 
-  of-word : (k : ℕ) (e : Edge) → Listed e (ofWord k) → (markOf g k ≡ 1) × Listed e (crossingFrom w k (g .successors k))
+  of-word : (k : ℕ) (e : Edge) → EdgeListed e (ofWord k) → (markOf g k ≡ 1) × EdgeListed e (crossingFrom w k (g .successors k))
   of-word k e i = go (eqb (markOf g k) 1) refl i
     where
-      go : (b : Bool) → eqb (markOf g k) 1 ≡ b → Listed e (cond b (crossingFrom w k (g .successors k)) []) → (markOf g k ≡ 1) × Listed e (crossingFrom w k (g .successors k))
+      go : (b : Bool) → eqb (markOf g k) 1 ≡ b → EdgeListed e (cond b (crossingFrom w k (g .successors k)) []) → (markOf g k ≡ 1) × EdgeListed e (crossingFrom w k (g .successors k))
       go true t j = (eqb-true (markOf g k) 1 t, j)
       go false t j = absurd j
 
-  below-is : (k : ℕ) → k ≤ g .size → (e : Edge) → Listed e (crossingBelow g w k) → (e .from < k) × Reachable g (e .from) × In (e .to) (g .successors (e .from)) × Crosses w e
+  below-is : (k : ℕ) → k ≤ g .size → (e : Edge) → EdgeListed e (crossingBelow g w k) → (e .from < k) × Reachable g (e .from) × In (e .to) (g .successors (e .from)) × Crosses w e
   unfolding crossingBelow
   below-is zero h e i = absurd i
   below-is (suc k) h e i =
@@ -118,17 +118,17 @@ module _ (g : Graph) (law : Lawful g) (w : ℕ) where
       (λ j. let r = below-is k (omega arith) e j in (omega (arith, r .0), r .1, r .2, r .3))
       (listed-either e (ofWord k) (crossingBelow g w k) i)
 
-  is-below : (k p q : ℕ) → p < k → Reachable g p → In q (g .successors p) → ((p < w) × (w < q)) ⊎ ((q < w) × (w < p)) → Listed (record { from = p; to = q }) (crossingBelow g w k)
+  is-below : (k p q : ℕ) → p < k → Reachable g p → In q (g .successors p) → ((p < w) × (w < q)) ⊎ ((q < w) × (w < p)) → EdgeListed (record { from = p; to = q }) (crossingBelow g w k)
   unfolding crossingBelow
   is-below zero p q h r i c = absurd (not-suc-le-zero h)
   is-below (suc k) p q h r i c =
       ⊎-elim
-      (λ e. listed-left (record { from = p; to = q }) (ofWord k) (crossingBelow g w k) (subst (λ (x : ℕ). Listed (record { from = p; to = q }) (ofWord x)) e here))
+      (λ e. listed-left (record { from = p; to = q }) (ofWord k) (crossingBelow g w k) (subst (λ (x : ℕ). EdgeListed (record { from = p; to = q }) (ofWord x)) e here))
       (λ n. listed-right (record { from = p; to = q }) (ofWord k) (crossingBelow g w k) (is-below k p q (past (omega arith) (λ e. n (sym e))) r i c))
       (same-or-not p k)
     where
-      here : Listed (record { from = p; to = q }) (ofWord p)
-      here = subst (λ (b : Bool). Listed (record { from = p; to = q }) (cond b (crossingFrom w p (g .successors p)) [])) (sym (eq-eqb (markOf g p) 1 (marking g law .one p r))) (is-from w p (g .successors p) q i c)
+      here : EdgeListed (record { from = p; to = q }) (ofWord p)
+      here = subst (λ (b : Bool). EdgeListed (record { from = p; to = q }) (cond b (crossingFrom w p (g .successors p)) [])) (sym (eq-eqb (markOf g p) 1 (marking g law .one p r))) (is-from w p (g .successors p) q i c)
 
   below-once : ((p : ℕ) → Different (g .successors p)) → (k : ℕ) → k ≤ g .size → EachOnce (crossingBelow g w k)
   unfolding crossingBelow
@@ -141,7 +141,7 @@ module _ (g : Graph) (law : Lawful g) (w : ℕ) where
       own true = from-once w k (g .successors k) (d k)
       own false = tt
 
-  none-of : (l : List Edge) → ((e : Edge) → Listed e l → ⊥) → length l ≡ 0
+  none-of : (l : List Edge) → ((e : Edge) → EdgeListed e l → ⊥) → length l ≡ 0
   none-of [] n = refl
   none-of (x ∷ xs) n = absurd (n x (inl refl))
 

@@ -13,7 +13,7 @@ use lib.Dec.{eqb}
 use lib.ListN.{length, getD, set, replicate, length-set, length-replicate, getD-replicate}
 use lib.Seq.{getD-set-same}
 use Rattle.graph.specs.Graph.{Graph, In, Lawful}
-use Rattle.graph.specs.Laws.{ones}
+use Rattle.graph.specs.Laws.{markedCount}
 use Rattle.common.proofs.Stores.{at-set, stays}
 use Rattle.graph.proofs.Numbers.{ones-set, ones-le}
 use Rattle.graph.specs.Marks.{someOf, leads, markOf}
@@ -99,7 +99,7 @@ module _ (g : Graph) where
     long : g .size ≤ length m
     bits : (p : ℕ) → p < g .size → getD m p 0 ≤ 1
     root : getD m 0 0 ≡ 1
-    near : (p : ℕ) → p < g .size → getD m p 0 ≡ 1 → leads g (ones (g .size) m) 0 p ≡ true
+    near : (p : ℕ) → p < g .size → getD m p 0 ≡ 1 → leads g (markedCount (g .size) m) 0 p ≡ true
 
   -- a marked word with a successor that is not
   record Open (m : List ℕ) : Type 0 where
@@ -150,8 +150,8 @@ module _ (g : Graph) where
         in-m : o .to < length m
         in-m = omega (arith, new, w .long)
 
-        more : ones (g .size) (set m (o .to) 1) ≡ suc (ones (g .size) m)
-        more = ones-set (g .size) m (o .to) new in-m (o .unmarked) ∙ add-one (ones (g .size) m)
+        more : markedCount (g .size) (set m (o .to) 1) ≡ suc (markedCount (g .size) m)
+        more = ones-set (g .size) m (o .to) new in-m (o .unmarked) ∙ add-one (markedCount (g .size) m)
 
         grown-more : Grown (set m (o .to) 1)
         grown-more =
@@ -160,8 +160,8 @@ module _ (g : Graph) where
               bits = λ p h. ⊎-elim (λ x. omega arith) (λ x. omega (arith, w .bits p h)) (at-set m (o .to) 1 p in-m);
               root = stays m (o .to) 1 0 in-m (w .root);
               near = λ p h e. subst (λ (k : ℕ). leads g k 0 p ≡ true) (sym more) (⊎-elim
-                  (λ x. subst (λ (y : ℕ). leads g (suc (ones (g .size) m)) 0 y ≡ true) (sym (x .0)) (leads-last (ones (g .size) m) 0 (o .from) (o .to) (w .near (o .from) (o .inside) (o .marked)) (o .edge)))
-                  (λ x. leads-more (ones (g .size) m) 0 p (w .near p h (sym (x .1) ∙ e)))
+                  (λ x. subst (λ (y : ℕ). leads g (suc (markedCount (g .size) m)) 0 y ≡ true) (sym (x .0)) (leads-last (markedCount (g .size) m) 0 (o .from) (o .to) (w .near (o .from) (o .inside) (o .marked)) (o .edge)))
+                  (λ x. leads-more (markedCount (g .size) m) 0 p (w .near p h (sym (x .1) ∙ e)))
                   (at-set m (o .to) 1 p in-m));
             }
 
@@ -171,7 +171,7 @@ module _ (g : Graph) where
       grown : Grown marks
       closed : (p : ℕ) → p < g .size → getD marks p 0 ≡ 1 → Closed g marks p
 
-    grow : (j : ℕ) (m : List ℕ) → Grown m → g .size ≤ ones (g .size) m + j → Whole
+    grow : (j : ℕ) (m : List ℕ) → Grown m → g .size ≤ markedCount (g .size) m + j → Whole
     grow zero m w h =
         ⊎-elim
         (λ c. record { marks = m; grown = w; closed = c })
@@ -199,7 +199,7 @@ module _ (g : Graph) where
             bits = λ p h. ⊎-elim (λ x. omega arith) (λ x. omega (arith, getD-replicate {A = ℕ} (g .size) p 0 0 h)) (at-set zeros 0 1 p zeros-long);
             root = getD-set-same zeros 0 1 0 zeros-long;
             near = λ p h e. ⊎-elim
-                (λ x. subst (λ (y : ℕ). leads g (ones (g .size) (set zeros 0 1)) 0 y ≡ true) (sym (x .0)) (leads-none _ 0))
+                (λ x. subst (λ (y : ℕ). leads g (markedCount (g .size) (set zeros 0 1)) 0 y ≡ true) (sym (x .0)) (leads-none _ 0))
                 (λ x. absurd (omega (arith, getD-replicate {A = ℕ} (g .size) p 0 0 h)))
                 (at-set zeros 0 1 p zeros-long);
           }
@@ -217,7 +217,7 @@ module _ (g : Graph) where
         let h = whole-has z r in
         let w = whole z in
         let le = ones-le (g .size) (w .marks) (w .grown .bits) in
-        leads-le (g .size) (ones (g .size) (w .marks)) 0 p le (w .grown .near p (h .0) (h .1))
+        leads-le (g .size) (markedCount (g .size) (w .marks)) 0 p le (w .grown .near p (h .0) (h .1))
 
     mark-cond : (b : Bool) → _≡_ {A = ℕ} (cond b 1 0) 1 → b ≡ true
     mark-cond true e = refl

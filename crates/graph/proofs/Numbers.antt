@@ -11,7 +11,7 @@ use lib.Seq.{getD-set-other}
 use Rattle.common.proofs.Order.{split, same-or-not, past}
 use Rattle.common.proofs.Stores.{at-set}
 use Rattle.graph.specs.Longest.{most}
-use Rattle.graph.specs.Laws.{ones}
+use Rattle.graph.specs.Laws.{markedCount}
 
 -- the largest of the numbers f p below k
 pub most-upper : (f : ℕ → ℕ) (k p : ℕ) → p < k → f p ≤ most f k
@@ -46,13 +46,13 @@ most-same f h zero e = refl
 most-same f h (suc k) e = ap₂ max (most-same f h k (λ p l. e p (omega arith))) (e k (omega arith))
 
 -- marks counted
-ones-out : (k : ℕ) (m : List ℕ) (q v : ℕ) → k ≤ q → q < length m → ones k (set m q v) ≡ ones k m
-unfolding ones
+ones-out : (k : ℕ) (m : List ℕ) (q v : ℕ) → k ≤ q → q < length m → markedCount k (set m q v) ≡ markedCount k m
+unfolding markedCount
 ones-out zero m q v h l = refl
 ones-out (suc k) m q v h l = ap₂ (λ (a b : ℕ). a + b) (getD-set-other m q k v 0 (λ e. omega arith)) (ones-out k m q v (omega arith) l)
 
-pub ones-set : (k : ℕ) (m : List ℕ) (q : ℕ) → q < k → q < length m → getD m q 0 ≡ 0 → ones k (set m q 1) ≡ ones k m + 1
-unfolding ones
+pub ones-set : (k : ℕ) (m : List ℕ) (q : ℕ) → q < k → q < length m → getD m q 0 ≡ 0 → markedCount k (set m q 1) ≡ markedCount k m + 1
+unfolding markedCount
 ones-set zero m q h l e = absurd (not-suc-le-zero h)
 ones-set (suc k) m q h l e =
     ⊎-elim
@@ -60,7 +60,7 @@ ones-set (suc k) m q h l e =
     (λ w. let o = ones-set k m q (past (omega arith) (w .0)) l e in omega arith)
     (at-set m q 1 k l)
 
-pub ones-le : (k : ℕ) (m : List ℕ) → ((p : ℕ) → p < k → getD m p 0 ≤ 1) → ones k m ≤ k
-unfolding ones
+pub ones-le : (k : ℕ) (m : List ℕ) → ((p : ℕ) → p < k → getD m p 0 ≤ 1) → markedCount k m ≤ k
+unfolding markedCount
 ones-le zero m b = zero-le
 ones-le (suc k) m b = let h = ones-le k m (λ p d. b p (omega arith)) in omega (arith, b k (omega arith))

@@ -22,8 +22,8 @@ pub record Usage : Type 0 where
   -- a number above every register that is read
   pub registers : ℕ
 
-abbrev pub Bounded : Usage → Type 0
-Bounded u = (p r : ℕ) → u .reads p r ≡ true → r < u .registers
+abbrev pub ReadsBounded : Usage → Type 0
+ReadsBounded u = (p r : ℕ) → u .reads p r ≡ true → r < u .registers
 
 -- The relation
 
@@ -103,7 +103,8 @@ pub record Assignment (g : Graph) (u : Usage) (parameters : ℕ) : Type 0 where
   pub none : (g .size ≤ lowestUnset g u parameters) ↔ SetBeforeUse g u parameters
 
 abbrev pub Assignments : Type 0
-Assignments = (g : Graph) → Lawful g → (u : Usage) → Bounded u → (parameters : ℕ) → Assignment g u parameters
+Assignments =
+    (g : Graph) → Lawful g → (u : Usage) → ReadsBounded u → (parameters : ℕ) → Assignment g u parameters
 
 -- what a search over cut edges goes by
 pub record Cutting : Type 0 where

@@ -44,13 +44,13 @@ unfoldable pub crossingOf : Graph → ℕ → ℕ
 crossingOf g w = length (crossingEdges g w)
 
 -- an edge stands in a list, and a list has each edge once
-abbrev pub Listed : Edge → List Edge → Type 0
-Listed e [] = ⊥
-Listed e (x ∷ xs) = (e ≡ x) ⊎ Listed e xs
+abbrev pub EdgeListed : Edge → List Edge → Type 0
+EdgeListed e [] = ⊥
+EdgeListed e (x ∷ xs) = (e ≡ x) ⊎ EdgeListed e xs
 
 abbrev pub EachOnce : List Edge → Type 0
 EachOnce [] = Unit {0}
-EachOnce (x ∷ xs) = (Listed x xs → ⊥) × EachOnce xs
+EachOnce (x ∷ xs) = (EdgeListed x xs → ⊥) × EachOnce xs
 
 -- the successors of a word are all different: "Two equal steps are one"
 abbrev pub Different : List ℕ → Type 0
@@ -59,7 +59,7 @@ Different (x ∷ xs) = (In x xs → ⊥) × Different xs
 
 pub record Crossing (g : Graph) (w : ℕ) : Type 0 where
   -- what is counted are exactly the edges from reachable words that pass over w
-  pub listed : (e : Edge) → Listed e (crossingEdges g w)
+  pub listed : (e : Edge) → EdgeListed e (crossingEdges g w)
       ↔ (Reachable g (e .from) × In (e .to) (g .successors (e .from)) × Crosses w e)
   -- each of them once
   pub once : ((p : ℕ) → Different (g .successors p)) → EachOnce (crossingEdges g w)

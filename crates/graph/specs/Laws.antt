@@ -46,16 +46,16 @@ pub record Passing (g : Graph) (w : ℕ → ℕ) : Type 0 where
       → lowest (λ p. eqb (f p) (longest g w)) (g .size) ≡ first g w
 
 -- how many of the first k words are marked, each mark being 0 or 1
-unfoldable pub ones : ℕ → List ℕ → ℕ
-ones zero m = 0
-ones (suc k) m = getD m k 0 + ones k m
+unfoldable pub markedCount : ℕ → List ℕ → ℕ
+markedCount zero m = 0
+markedCount (suc k) m = getD m k 0 + markedCount k m
 
 -- marks counted, so that a search ends: each new mark counts, and there are no more than words
 pub record Counting : Type 0 where
   pub one-more :
       (k : ℕ) (m : List ℕ) (q : ℕ) → q < k → q < length m → getD m q 0 ≡ 0
-      → ones k (set m q 1) ≡ ones k m + 1
-  pub few : (k : ℕ) (m : List ℕ) → ((p : ℕ) → p < k → getD m p 0 ≤ 1) → ones k m ≤ k
+      → markedCount k (set m q 1) ≡ markedCount k m + 1
+  pub few : (k : ℕ) (m : List ℕ) → ((p : ℕ) → p < k → getD m p 0 ≤ 1) → markedCount k m ≤ k
 
 pub record Laws : Type 1 where
   -- the test is that of `In`

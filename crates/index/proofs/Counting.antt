@@ -9,6 +9,7 @@ use lib.ListN.{length, drop, set, length-set}
 use borrow.Author.Tests.{leb-true, le-leb, lt-leb}
 use Rattle.common.specs.Lists.{put}
 use Rattle.common.proofs.Put.{put-laws}
+use Rattle.common.specs.Limits.{mostBytes, levelsBelow}
 use Rattle.chunk.specs.declared.reading.Refusal.{Refusal}
 use Rattle.chunk.specs.declared.reading.Refusal.the-variants.{Malformed, Short}
 use Rattle.chunk.specs.declared.reading.Cursor.{Cursor}
@@ -18,15 +19,14 @@ use Rattle.chunk.specs.declared.functions.Search.{Search}
 use Rattle.chunk.specs.declared.functions.Search.the-variants.{Left, Found}
 use Rattle.chunk.specs.declared.functions.Walk.{Walk}
 use Rattle.chunk.specs.declared.functions.Walk.the-variants.{Past, Stopped}
-use Rattle.chunk.specs.Limits.{mostBytes, levelsBelow}
 use Rattle.chunk.specs.Reading.{Result, done, refused, bind, only}
 use Rattle.chunk.specs.Lundump.{Function, loadByte, loadFunction, checkHeader, undump}
 use Rattle.chunk.specs.Cursors.{step, cursorOf, same, none}
 use Rattle.chunk.specs.Search.{search, walkOf, walk}
 use Rattle.chunk.proofs.Laws.{laws}
 use Rattle.index.specs.declared.listing.Listed.{Listed}
-use Rattle.index.specs.declared.listing.Tally.{Tally}
-use Rattle.index.specs.declared.listing.Tally.the-variants as tally
+use Rattle.index.specs.declared.listing.FunctionTally.{FunctionTally}
+use Rattle.index.specs.declared.listing.FunctionTally.the-variants as tally
 use Rattle.index.specs.Listing.{functionsOf, placesOf, parentsFrom, parentsOf, noFunction, listedOf, roomForAll, listedIn, afterAll}
 use Rattle.index.specs.Noting.{tallied, told, roomy, Wrote, WroteBy, WroteAt}
 
@@ -117,7 +117,7 @@ told-is : (X : Result (List Function)) → told (tallied X) ≡ listedOf X
 told-is (done fs at) = refl
 told-is (refused e) = refl
 
-pub counted-is : (X : Result (List Function)) (t : Tally) (r : Listed) → t ≡ tallied X → r ≡ told t → r ≡ listedOf X
+pub counted-is : (X : Result (List Function)) (t : FunctionTally) (r : Listed) → t ≡ tallied X → r ≡ told t → r ≡ listedOf X
 counted-is X t r e h = h ∙ ap told e ∙ told-is X
 
 room-is : (a b : ℕ) (X : Result (List Function)) → roomy a b (tallied X) ≡ tallied (bind X (roomForAll a b))
@@ -129,12 +129,12 @@ room-is a b (done fs at) = go (leb (length fs) a && leb (length fs) b)
     go false = refl
 room-is a b (refused e) = refl
 
-pub with-room-is : (bytes : List ℕ) (a b : ℕ) (t s : Tally) → t ≡ tallied (functionsOf bytes) → s ≡ roomy a b t → s ≡ tallied (listedIn bytes a b)
+pub with-room-is : (bytes : List ℕ) (a b : ℕ) (t s : FunctionTally) → t ≡ tallied (functionsOf bytes) → s ≡ roomy a b t → s ≡ tallied (listedIn bytes a b)
 unfolding listedIn
 with-room-is bytes a b t s e h = h ∙ ap (roomy a b) e ∙ room-is a b (functionsOf bytes)
 
 -- ---- what is stored
-module _ (bytes : List ℕ) (a b : ℕ) (t : Tally) (h : t ≡ tallied (listedIn bytes a b)) where
+module _ (bytes : List ℕ) (a b : ℕ) (t : FunctionTally) (h : t ≡ tallied (listedIn bytes a b)) where
   refusal-of : (e : Refusal) → t ≡ tally.Not e → listedIn bytes a b ≡ refused e
   refusal-of e k = go (listedIn bytes a b) (sym h ∙ k)
     where
@@ -166,7 +166,7 @@ module _ (bytes : List ℕ) (a b : ℕ) where
   in-room true (refused x) u n d = absurd (let z : _≡_ {A = ℕ} 0 1 = cc in omega arith)
   in-room false X u n d = absurd (let z : _≡_ {A = ℕ} 0 1 = cc in omega arith)
 
-  room-for : (t : Tally) (n : ℕ) → t ≡ tallied (listedIn bytes a b) → t ≡ tally.All n → Room bytes a b (listedIn bytes a b)
+  room-for : (t : FunctionTally) (n : ℕ) → t ≡ tallied (listedIn bytes a b) → t ≡ tally.All n → Room bytes a b (listedIn bytes a b)
   unfolding listedIn functionsOf
   room-for t n e k = in-room (leb (length bytes) mostBytes) (undump bytes 0) refl n (sym e ∙ k)
 
@@ -187,7 +187,7 @@ module _ (bytes : List ℕ) (h c : Cursor) (eh : h ≡ cursorOf none (checkHeade
   unfolding undump
   whole = by-header (checkHeader bytes 0) (subst (λ (d : Cursor). WroteBy (loadFunction 31) bytes d noFunction 0 pl pa pl′ pa′) (ec ∙ ap (step same loadByte bytes) eh) (w .written))
 
-  pub all-stored : (t : Tally) (n : ℕ) → t ≡ tallied (listedIn bytes (length pl) (length pa)) → t ≡ tally.All n
+  pub all-stored : (t : FunctionTally) (n : ℕ) → t ≡ tallied (listedIn bytes (length pl) (length pa)) → t ≡ tally.All n
       → (pl′ ≡ afterAll placesOf (listedIn bytes (length pl) (length pa)) pl) × (pa′ ≡ afterAll parentsOf (listedIn bytes (length pl) (length pa)) pa)
   unfolding afterAll
   all-stored t n e k =

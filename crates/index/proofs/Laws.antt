@@ -11,17 +11,17 @@ use lib.ListN.{length, getD, drop}
 use lib.Seq.{drop-cons}
 use borrow.Author.Tests.{ltb-true, ltb-false, leb-true, le-leb}
 use Rattle.common.proofs.Order.{split}
+use Rattle.common.specs.Limits.{mostBytes, levelsBelow}
 use Rattle.chunk.specs.declared.reading.Refusal.{Refusal}
 use Rattle.chunk.specs.declared.reading.Refusal.the-variants.{Short}
-use Rattle.chunk.specs.Limits.{mostBytes, levelsBelow}
 use Rattle.chunk.specs.Reading.{Result, done, refused, bind, only}
 use Rattle.chunk.specs.Lundump.{Function, loadByte, loadFunction, checkHeader, undump}
 use Rattle.chunk.specs.Chunk.{pick, chosen, valuesOf, countsOf, Rooms, fits, roomFor, filled, after}
-use Rattle.chunk.specs.Stands.{Stands, OneRead, Between, ReadBetween}
+use Rattle.chunk.specs.Stands.{Stands, OneRead, StandBetween, ReadBetween}
 use Rattle.chunk.proofs.Laws as chunk
-use Rattle.index.specs.declared.choosing.Choice.the-variants.{Number, Place}
-use Rattle.index.specs.Choices.{functionAt, chosenBy, filledBy}
-use Rattle.index.specs.Heads.{readHead, headOf, headFrom}
+use Rattle.lines.specs.declared.choosing.Choice.the-variants.{Number, Place}
+use Rattle.lines.specs.Choices.{functionAt, chosenBy, filledBy}
+use Rattle.lines.specs.Heads.{readHead, headOf, headFrom}
 use Rattle.index.specs.Listing.{functionsOf, placesOf, standsIn, parentsFrom, parentsOf, noFunction}
 use Rattle.index.specs.Laws.{AtItsPlace, Inner, Listing, Laws}
 use Rattle.index.proofs.Levels.{levels-grow}
@@ -141,7 +141,7 @@ module _ (d : Function) (fs : List Function) where
       go true h x = inl (record { before = omega arith; goes-on = ltb-true at (getD fs n d .endAt) h; nearest = λ i a b. absurd (omega (arith, a, b)) })
       go false h x = later (ltb-false at (getD fs n d .endAt) h) x
 
-below : (size lo hi : ℕ) (fs : List Function) (k : ℕ) (d : Function) → Between size lo fs hi → k < length fs → getD fs k d .firstAt < hi
+below : (size lo hi : ℕ) (fs : List Function) (k : ℕ) (d : Function) → StandBetween size lo fs hi → k < length fs → getD fs k d .firstAt < hi
 below size lo hi [] k d b h = absurd (omega arith)
 below size lo hi (f ∷ fs) zero d b h = omega (arith, ends size (f .firstAt + 1) hi fs (b .1 .1 .1))
 below size lo hi (f ∷ fs) (suc k) d b h = below size (f .firstAt + 1) hi fs k d (b .1 .1 .1) (omega arith)
@@ -182,7 +182,7 @@ module _ (bytes : List ℕ) (fs : List Function) (at : ℕ) where
     main-encloses k d h =
         let w = from-first (both e .all) in
         let f = function-read levelsBelow bytes (w .first) fs at 0 (w .whole) in
-        let b : Between (length bytes) (w .first) fs at = subst (λ (X : Result (List Function)). ReadBetween (length bytes) (w .first) X) (w .whole) (chunk.laws .all-between levelsBelow bytes (w .first)) in
+        let b : StandBetween (length bytes) (w .first) fs at = subst (λ (X : Result (List Function)). ReadBetween (length bytes) (w .first) X) (w .whole) (chunk.laws .all-between levelsBelow bytes (w .first)) in
         let z : getD fs 0 d .endAt ≡ at = ap (λ (gs : List Function). getD gs 0 d .endAt) (f .is) ∙ f .last in
         omega (arith, z, below (length bytes) (w .first) at fs k d b h)
 

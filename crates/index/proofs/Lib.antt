@@ -1,9 +1,3 @@
-pub mod Cursors
-pub mod Ldebug
-pub mod Passes
-pub mod Infos
-pub mod HeadsRead
-pub mod LineReads
 pub mod Thens
 pub mod Parents
 pub mod Notes

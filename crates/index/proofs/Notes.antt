@@ -15,22 +15,22 @@ use Rattle.chunk.specs.declared.reading.Cursor.the-variants.{At, Refused}
 use Rattle.chunk.specs.Reading.{Result, done, refused, Reader, bind}
 use Rattle.chunk.specs.Lundump.{Function, Constant, Text, loadInt, loadHead, loadCode, loadConstants, loadUpvalues, loadLines, loadNames, functionWith, several, noneOf, loadProtos, loadFunction}
 use Rattle.chunk.specs.Chunk.{valuesOf}
-use Rattle.chunk.specs.Cursors.{step, cursorOf, valued, positionOf, valueOf, same, none}
-use Rattle.chunk.specs.Stands.{Between, ReadBetween}
+use Rattle.chunk.specs.Cursors.{step, cursorOf, valued, positionOf, cursorValue, same, none}
+use Rattle.chunk.specs.Stands.{StandBetween, ReadBetween}
 use Rattle.chunk.proofs.Laws.{laws}
 use Rattle.index.specs.Listing.{placesOf, parentsFrom}
 use Rattle.index.specs.Noting.{Noted, Wrote, WroteBy, WroteAt}
-use Rattle.index.proofs.Cursors.{refused-is, done-is}
+use Rattle.lines.proofs.Cursors.{refused-is, done-is}
 use Rattle.index.proofs.Thens.{own, then1, then2, then3, then4, then5, then6, then7}
 use Rattle.index.proofs.Parents.{places-both, places-count, parents-count, ends, fewer, parents-both, parents-function}
 
 -- ---- the answer: how many functions were read
 module _ (bytes : List ℕ) (P : Reader (List Function)) where
   abbrev end : Cursor → Cursor → Cursor
-  end w n = valued (valueOf w + 1) n
+  end w n = valued (cursorValue w + 1) n
 
   abbrev from6 : Cursor → Cursor → Cursor → Cursor
-  from6 u w l = end w (step none (loadNames (valueOf u)) bytes l)
+  from6 u w l = end w (step none (loadNames (cursorValue u)) bytes l)
 
   abbrev from5 : Cursor → Cursor → Cursor
   from5 u w = from6 u w (step length loadLines bytes w)
@@ -99,9 +99,9 @@ module _ (bytes : List ℕ) (P : Reader (List Function)) where
       → u ≡ step same loadUpvalues bytes q
       → w ≡ step length P bytes u
       → l ≡ step length loadLines bytes w
-      → v ≡ valueOf u
+      → v ≡ cursorValue u
       → n ≡ step none (loadNames v) bytes l
-      → t ≡ valueOf w
+      → t ≡ cursorValue w
       → x ≡ valued (t + 1) n
       → x ≡ step length (functionWith P) bytes c
   function-counted c h k q u w l n x v t eh ek eq eu ew el ev en et ex = ex ∙ (rw (et, en, ev, el, ew, eu, eq, ek, eh) (a0 c))
@@ -189,7 +189,7 @@ renumbered (refused x) outer i j pl pa pl′ pa′ e w = tt
 module _ (level : ℕ) (bytes : List ℕ) (outer i : ℕ) (pl pa pl₁ pa₁ pl₂ pa₂ : List ℕ) where
   one-more :
       (at past from behind : ℕ) (main : Function) (inner : List Function) → main .firstAt ≡ at → main .endAt ≡ past
-      → Between (length bytes) at (main ∷ inner) past → Noted i at outer pl pa pl₁ pa₁
+      → StandBetween (length bytes) at (main ∷ inner) past → Noted i at outer pl pa pl₁ pa₁
       → Wrote (done inner behind) i (i + 1) pl₁ pa₁ pl₂ pa₂ → Wrote (done (main ∷ inner) past) outer i pl pa pl₂ pa₂
   unfolding valuesOf
   one-more at past from behind main inner ea ep b o w x y =
@@ -216,7 +216,7 @@ module _ (level : ℕ) (bytes : List ℕ) (outer i : ℕ) (pl pa pl₁ pa₁ pl�
       (subst (λ (d : Cursor). WroteBy (loadProtos level) bytes d i (i + 1) pl₁ pa₁ pl₂ pa₂) (eu ∙ f .cursor) w) in
       subst (λ (gs : List Function). Wrote (done gs past) outer i pl pa pl₂ pa₂) (sym (f .is))
       (one-more at past (f .from) (f .behind) (f .main) (f .inner) (f .first) (f .last)
-      (subst (λ (gs : List Function). Between (length bytes) at gs past) (f .is) b) o w′)
+      (subst (λ (gs : List Function). StandBetween (length bytes) at gs past) (f .is) b) o w′)
   all-read at v u eu o w (refused x) e b = tt
 
   by-cursor : (c u : Cursor) (p : ℕ) → u ≡ step same loadUpvalues bytes (step length loadConstants bytes (step length loadCode bytes (step same loadHead bytes c)))
@@ -245,11 +245,11 @@ module _ (level : ℕ) (bytes : List ℕ) (outer i : ℕ) (pl pa pl₁ pa₁ pl�
       }
 
 -- those within are fewer than the bytes
-within-few : (level : ℕ) (bytes : List ℕ) (at : ℕ) (X : Result (List Function)) → ReadBetween (length bytes) at X → valueOf (cursorOf length X) ≤ length bytes
+within-few : (level : ℕ) (bytes : List ℕ) (at : ℕ) (X : Result (List Function)) → ReadBetween (length bytes) at X → cursorValue (cursorOf length X) ≤ length bytes
 within-few level bytes at (done fs past) b = let h = fewer (length bytes) at past fs b in omega arith
 within-few level bytes at (refused e) b = omega arith
 
-pub count-few : (level : ℕ) (bytes : List ℕ) (u w : Cursor) (t : ℕ) → w ≡ step length (loadProtos level) bytes u → t ≡ valueOf w → t ≤ length bytes
+pub count-few : (level : ℕ) (bytes : List ℕ) (u w : Cursor) (t : ℕ) → w ≡ step length (loadProtos level) bytes u → t ≡ cursorValue w → t ≤ length bytes
 unfolding step
 count-few level bytes (At at v) w t ew et = rw (et, ew) (within-few level bytes at (loadProtos level bytes at) (laws .within-between level bytes at))
 count-few level bytes (Refused e) w t ew et = rw (et, ew) (omega arith)
@@ -282,7 +282,7 @@ module _ (level : ℕ) (bytes : List ℕ) where
 
   module _ (outer i : ℕ) (pl pa pl₁ pa₁ pl₂ pa₂ : List ℕ) (samePl : length pl₁ ≡ length pl) (samePa : length pa₁ ≡ length pa) where
     both-wrote :
-        (lo mid hi : ℕ) (fs more : List Function) → Between (length bytes) lo fs mid → Between (length bytes) mid more hi
+        (lo mid hi : ℕ) (fs more : List Function) → StandBetween (length bytes) lo fs mid → StandBetween (length bytes) mid more hi
         → Wrote (done fs mid) outer i pl pa pl₁ pa₁ → Wrote (done more hi) outer (i + length fs) pl₁ pa₁ pl₂ pa₂
         → Wrote (done (fs ++ more) hi) outer i pl pa pl₂ pa₂
     both-wrote lo mid hi fs more b c w v x y =
@@ -298,7 +298,7 @@ module _ (level : ℕ) (bytes : List ℕ) where
         )
 
     then-wrote :
-        (lo mid : ℕ) (fs : List Function) (X : Result (List Function)) → Between (length bytes) lo fs mid → ReadBetween (length bytes) mid X
+        (lo mid : ℕ) (fs : List Function) (X : Result (List Function)) → StandBetween (length bytes) lo fs mid → ReadBetween (length bytes) mid X
         → Wrote (done fs mid) outer i pl pa pl₁ pa₁ → Wrote X outer (i + length fs) pl₁ pa₁ pl₂ pa₂
         → Wrote (bind X (λ more at₂. done (fs ++ more) at₂)) outer i pl pa pl₂ pa₂
     then-wrote lo mid fs (done more hi) b c w v = both-wrote lo mid hi fs more b c w v
@@ -353,7 +353,7 @@ module _ (level : ℕ) (bytes : List ℕ) (start n outer first : ℕ) (pl₀ pa�
 
       more-by : (fs : List Function) (behind : ℕ) → loadFunction level bytes at ≡ done fs behind → Midway level bytes start n outer first pl₀ pa₀ pl₁ pa₁ behind (total + length fs) (i + 1)
       more-by fs behind e =
-          let b : Between (length bytes) at fs behind = subst (λ (X : Result (List Function)). ReadBetween (length bytes) at X) e (laws .all-between level bytes at) in
+          let b : StandBetween (length bytes) at fs behind = subst (λ (X : Result (List Function)). ReadBetween (length bytes) at X) e (laws .all-between level bytes at) in
           let l = ends (length bytes) at behind fs b in
           record {
             upto = omega arith;

@@ -9,7 +9,7 @@ use lib.ListN.{length}
 use borrow.Author.Tests.{lt-ltb, le-ltb}
 use Rattle.chunk.specs.Lundump.{Function}
 use Rattle.chunk.specs.Chunk.{valuesOf}
-use Rattle.chunk.specs.Stands.{Between}
+use Rattle.chunk.specs.Stands.{StandBetween}
 use Rattle.index.specs.Listing.{placesOf, standsIn, parentsFrom}
 
 -- a number for each
@@ -29,12 +29,12 @@ parents-count outer seen i [] = refl
 parents-count outer seen i (f ∷ fs) = ap suc (parents-count outer ((f .endAt, i) ∷ seen) (i + 1) fs)
 
 module _ (size : ℕ) where
-  pub ends : (lo hi : ℕ) (fs : List Function) → Between size lo fs hi → lo + length fs ≤ hi
+  pub ends : (lo hi : ℕ) (fs : List Function) → StandBetween size lo fs hi → lo + length fs ≤ hi
   ends lo hi [] b = omega (arith, b)
   ends lo hi (f ∷ fs) b = omega (arith, b .0, ends (f .firstAt + 1) hi fs (b .1 .1 .1))
 
   -- each has a first byte of its own
-  pub fewer : (lo hi : ℕ) (fs : List Function) → Between size lo fs hi → length fs ≤ size - lo
+  pub fewer : (lo hi : ℕ) (fs : List Function) → StandBetween size lo fs hi → length fs ≤ size - lo
   fewer lo hi [] b = omega arith
   fewer lo hi (f ∷ fs) b = omega (arith, b .0, b .1 .0, fewer (f .firstAt + 1) hi fs (b .1 .1 .1))
 
@@ -45,7 +45,7 @@ module _ (size : ℕ) where
   stands-own outer k end (s ∷ seen) at h = ap (λ (x : ℕ). cond (ltb at (s .0)) (s .1) x) (stands-own outer k end seen at h)
 
   pub parents-own :
-      (outer k end lo hi : ℕ) (seen : List (ℕ × ℕ)) (i : ℕ) (fs : List Function) → Between size lo fs hi → hi ≤ end
+      (outer k end lo hi : ℕ) (seen : List (ℕ × ℕ)) (i : ℕ) (fs : List Function) → StandBetween size lo fs hi → hi ≤ end
       → parentsFrom k seen i fs ≡ parentsFrom outer (seen ++ ((end, k) ∷ [])) i fs
   unfolding parentsFrom
   parents-own outer k end lo hi seen i [] b h = refl
@@ -75,7 +75,7 @@ module _ (size : ℕ) where
   stands-past outer lo (s ∷ mine) seen at o h = ap (λ (x : ℕ). cond (ltb at (s .0)) (s .1) x) (stands-past outer lo mine seen at o h)
 
   parents-past :
-      (outer lo hi : ℕ) (mine seen : List (ℕ × ℕ)) (i : ℕ) (fs : List Function) → Over lo seen → Between size lo fs hi
+      (outer lo hi : ℕ) (mine seen : List (ℕ × ℕ)) (i : ℕ) (fs : List Function) → Over lo seen → StandBetween size lo fs hi
       → parentsFrom outer (mine ++ seen) i fs ≡ parentsFrom outer mine i fs
   unfolding parentsFrom
   parents-past outer lo hi mine seen i [] o b = refl
@@ -90,7 +90,7 @@ module _ (size : ℕ) where
   seenAfter seen i [] = seen
   seenAfter seen i (f ∷ fs) = seenAfter ((f .endAt, i) ∷ seen) (i + 1) fs
 
-  over-after : (lo hi : ℕ) (seen : List (ℕ × ℕ)) (i : ℕ) (fs : List Function) → Between size lo fs hi → Over hi seen → Over hi (seenAfter seen i fs)
+  over-after : (lo hi : ℕ) (seen : List (ℕ × ℕ)) (i : ℕ) (fs : List Function) → StandBetween size lo fs hi → Over hi seen → Over hi (seenAfter seen i fs)
   unfolding seenAfter
   over-after lo hi seen i [] b o = o
   over-after lo hi seen i (f ∷ fs) b o = over-after (f .firstAt + 1) hi ((f .endAt, i) ∷ seen) (i + 1) fs (b .1 .1 .1) (b .1 .1 .0, o)
@@ -107,7 +107,7 @@ module _ (size : ℕ) where
       ∙ ap (λ (k : ℕ). parentsFrom outer ((f .endAt, i) ∷ seen) (i + 1) fs ++ parentsFrom outer (seenAfter ((f .endAt, i) ∷ seen) (i + 1) fs) k gs) z)
 
   pub parents-both :
-      (outer lo mid hi i : ℕ) (fs gs : List Function) → Between size lo fs mid → Between size mid gs hi
+      (outer lo mid hi i : ℕ) (fs gs : List Function) → StandBetween size lo fs mid → StandBetween size mid gs hi
       → parentsFrom outer [] i (fs ++ gs) ≡ parentsFrom outer [] i fs ++ parentsFrom outer [] (i + length fs) gs
   parents-both outer lo mid hi i fs gs b c =
       parents-split outer [] i fs gs
@@ -116,7 +116,7 @@ module _ (size : ℕ) where
 
   -- a function and those within it
   pub parents-function :
-      (outer lo hi i : ℕ) (f : Function) (fs : List Function) → Between size lo fs hi → hi ≤ f .endAt
+      (outer lo hi i : ℕ) (f : Function) (fs : List Function) → StandBetween size lo fs hi → hi ≤ f .endAt
       → parentsFrom outer [] i (f ∷ fs) ≡ outer ∷ parentsFrom i [] (i + 1) fs
   unfolding parentsFrom standsIn
   parents-function outer lo hi i f fs b h = ap (λ (xs : List ℕ). outer ∷ xs) (sym (parents-own outer i (f .endAt) lo hi [] (i + 1) fs b h))

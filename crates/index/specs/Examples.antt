@@ -7,9 +7,9 @@ use mathlib.Core.List.{List, [], _∷_, _++_}
 use Prim.Native.Nat.{ℕ}
 use lib.ListN.{replicate}
 use Rattle.chunk.specs.Examples.{header}
-use Rattle.index.specs.declared.choosing.Choice.{Choice}
-use Rattle.index.specs.declared.choosing.Choice.the-variants.{Number, Place}
-use Rattle.index.specs.declared.heads.FlatHead.{FlatHead}
+use Rattle.lines.specs.declared.choosing.Choice.{Choice}
+use Rattle.lines.specs.declared.choosing.Choice.the-variants.{Number, Place}
+use Rattle.lines.specs.declared.heads.FlatHead.{FlatHead}
 use Rattle.index.specs.declared.refusing.Why.the-variants.{
   NotLua,
   Lua53,
@@ -17,7 +17,7 @@ use Rattle.index.specs.declared.refusing.Why.the-variants.{
   OtherNumbers,
   Damaged,
 }
-use Rattle.index.specs.Heads.{headOf, headTold}
+use Rattle.lines.specs.Heads.{headOf, headTold}
 use Rattle.index.specs.Refusing.{whyRefused, endsEarly}
 
 -- Two functions, of which the second, from byte 48 on, stands in the first. loadFunction reads of each the

@@ -10,9 +10,9 @@ use Rattle.chunk.specs.declared.reading.Refusal.the-variants.{Malformed}
 use Rattle.chunk.specs.Reading.{done, refused}
 use Rattle.chunk.specs.Lundump.{Function}
 use Rattle.chunk.specs.Chunk.{chosen, countsOf, Rooms, filled, after}
-use Rattle.index.specs.declared.choosing.Choice.the-variants.{Number, Place}
-use Rattle.index.specs.Choices.{functionAt, filledBy}
-use Rattle.index.specs.Heads.{headOf, headFrom}
+use Rattle.lines.specs.declared.choosing.Choice.the-variants.{Number, Place}
+use Rattle.lines.specs.Choices.{functionAt, filledBy}
+use Rattle.lines.specs.Heads.{headOf, headFrom}
 use Rattle.index.specs.Listing.{functionsOf, placesOf, parentsOf, noFunction}
 
 -- function k of a chunk, f, and the place that is listed for it

@@ -1,8 +1,4 @@
--- Functions by number or by place: words, lines, heads; all functions of a chunk.
-pub mod Choices
-pub mod Ldebug
-pub mod Lines
-pub mod Heads
+-- All functions of a chunk; why a file is refused.
 pub mod Listing
 pub mod Noting
 pub mod Refusing

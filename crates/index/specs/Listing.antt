@@ -6,9 +6,9 @@ use Prim.Native.Nat.{ℕ, _+_}
 use lib.Dec.{ltb, leb}
 use lib.ListN.{length, drop}
 use Rattle.common.specs.Numbers.{«ACCEPTED»}
+use Rattle.common.specs.Limits.{mostBytes}
 use Rattle.chunk.specs.declared.reading.Refusal.the-variants.{Short}
-use Rattle.chunk.specs.Limits.{mostBytes}
-use Rattle.chunk.specs.Numbers.{numberOf, placeOf}
+use Rattle.chunk.specs.Numbers.{refusalNumber, refusalPlace}
 use Rattle.chunk.specs.Reading.{Result, done, refused, bind, only}
 use Rattle.chunk.specs.Lundump.{Function, undump}
 use Rattle.chunk.specs.Chunk.{valuesOf}
@@ -45,7 +45,7 @@ parentsOf fs = parentsFrom noFunction [] 0 fs
 -- the answer: "a refusal reports 0 for every number but its own and its place"
 abbrev pub listedOf : Result (List Function) → Listed
 listedOf (done fs at) = record { number = «ACCEPTED»; place = 0; functions = length fs }
-listedOf (refused e) = record { number = numberOf e; place = placeOf e; functions = 0 }
+listedOf (refused e) = record { number = refusalNumber e; place = refusalPlace e; functions = 0 }
 
 -- "6 covers each slice to be filled", and comes last
 abbrev pub roomForAll : ℕ → ℕ → List Function → ℕ → Result (List Function)

@@ -13,24 +13,24 @@ use Rattle.common.specs.Lists.{put}
 use Rattle.chunk.specs.declared.reading.Refusal.the-variants.{Short}
 use Rattle.chunk.specs.declared.reading.Cursor.{Cursor}
 use Rattle.chunk.specs.declared.reading.Cursor.the-variants.{At, Refused}
-use Rattle.chunk.specs.Numbers.{numberOf, placeOf}
+use Rattle.chunk.specs.Numbers.{refusalNumber, refusalPlace}
 use Rattle.chunk.specs.Reading.{Result, done, refused, Reader}
 use Rattle.chunk.specs.Lundump.{Function}
 use Rattle.index.specs.declared.listing.Listed.{Listed}
-use Rattle.index.specs.declared.listing.Tally.{Tally}
-use Rattle.index.specs.declared.listing.Tally.the-variants.{All, Not}
+use Rattle.index.specs.declared.listing.FunctionTally.{FunctionTally}
+use Rattle.index.specs.declared.listing.FunctionTally.the-variants.{All, Not}
 use Rattle.index.specs.Listing.{placesOf, parentsFrom}
 
 -- how many there are
-abbrev pub tallied : Result (List Function) → Tally
+abbrev pub tallied : Result (List Function) → FunctionTally
 tallied (done fs at) = All (length fs)
 tallied (refused e) = Not e
 
-abbrev pub told : Tally → Listed
+abbrev pub told : FunctionTally → Listed
 told (All n) = record { number = «ACCEPTED»; place = 0; functions = n }
-told (Not e) = record { number = numberOf e; place = placeOf e; functions = 0 }
+told (Not e) = record { number = refusalNumber e; place = refusalPlace e; functions = 0 }
 
-unfoldable pub roomy : ℕ → ℕ → Tally → Tally
+unfoldable pub roomy : ℕ → ℕ → FunctionTally → FunctionTally
 roomy places parents (All n) = cond (leb n places && leb n parents) (All n) (Not Short)
 roomy places parents (Not e) = Not e
 

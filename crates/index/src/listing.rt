@@ -11,8 +11,6 @@ use chunk::Cursor;
 use chunk::Refusal;
 use chunk::Search;
 use chunk::Walk;
-use chunk::inner::LEVELS_BELOW;
-use chunk::inner::MOST_BYTES;
 use chunk::inner::byte;
 use chunk::inner::code;
 use chunk::inner::constants;
@@ -22,11 +20,13 @@ use chunk::inner::header;
 use chunk::inner::int;
 use chunk::inner::lines;
 use chunk::inner::names;
-use chunk::inner::number;
-use chunk::inner::place;
 use chunk::inner::position;
+use chunk::inner::refusal_number;
+use chunk::inner::refusal_place;
 use chunk::inner::upvalues;
 use chunk::inner::value;
+use common::limits::LEVELS_BELOW;
+use common::limits::MOST_BYTES;
 
 // Of a refusal the count is 0.
 #[repr(C)]
@@ -36,7 +36,7 @@ pub struct Listed {
     pub functions: u64,
 }
 
-pub enum Tally {
+pub enum FunctionTally {
     All(usize),
     Not(Refusal),
 }
@@ -45,58 +45,58 @@ pub enum Tally {
 const NO_FUNCTION: usize = 18446744073709551615;
 
 // How many functions there are, by the search for one that no chunk has.
-fn take_tally(chunk: &[u8]) -> Tally
+fn take_tally(chunk: &[u8]) -> FunctionTally
     ensures { λ r. ⌜ r ≡ tallied (functionsOf (now (chunk .entry))) ⌝ }
 {
     if MOST_BYTES < chunk.len() {
-        return Tally::Not(Refusal::Malformed);
+        return FunctionTally::Not(Refusal::Malformed);
     }
     let main = byte(chunk, header(chunk));
     let w = function(chunk, main, LEVELS_BELOW, Search::Left(MOST_BYTES));
     match w {
         Walk::Past(_, s) => match s {
             Search::Left(n) => {
-                return Tally::All(MOST_BYTES - n);
+                return FunctionTally::All(MOST_BYTES - n);
             }
             Search::Found(_) => {
-                return Tally::Not(Refusal::Malformed);
+                return FunctionTally::Not(Refusal::Malformed);
             }
         },
         Walk::Stopped(e) => {
-            return Tally::Not(e);
+            return FunctionTally::Not(e);
         }
     }
 }
 
-fn tell(t: Tally) -> Listed
+fn tell(t: FunctionTally) -> Listed
     ensures { λ r. ⌜ r ≡ told t ⌝ }
 {
     match t {
-        Tally::All(n) => Listed {
+        FunctionTally::All(n) => Listed {
             number: 0,
             place: 0,
             functions: n as u64,
         },
-        Tally::Not(e) => Listed {
-            number: number(e) as u64,
-            place: place(e),
+        FunctionTally::Not(e) => Listed {
+            number: refusal_number(e) as u64,
+            place: refusal_place(e),
             functions: 0,
         },
     }
 }
 
 // Number 6, where a slice has too little room.
-fn with_rooms(t: Tally, places: usize, parents: usize) -> Tally
+fn with_rooms(t: FunctionTally, places: usize, parents: usize) -> FunctionTally
     ensures { λ r. ⌜ r ≡ roomy places parents t ⌝ }
 {
-    let Tally::All(n) = t else {
+    let FunctionTally::All(n) = t else {
         return t;
     };
     if places < n {
-        return Tally::Not(Refusal::Short);
+        return FunctionTally::Not(Refusal::Short);
     }
     if parents < n {
-        return Tally::Not(Refusal::Short);
+        return FunctionTally::Not(Refusal::Short);
     }
     t
 }
@@ -235,7 +235,7 @@ pub fn list_functions(chunk: &[u8], places: &mut [u64], parents: &mut [u64]) -> 
         (length (now (places .entry))) (length (now (parents .entry)))) (now (parents .entry)) ⌝ }
 {
     let t = with_rooms(take_tally(chunk), places.len(), parents.len());
-    let Tally::All(_) = t else {
+    let FunctionTally::All(_) = t else {
         return tell(t);
     };
     let main = byte(chunk, header(chunk));

@@ -1,8 +1,8 @@
 // What the cases print.
 use chunk::Counts;
-use index::FlatHead;
 use index::Listed;
 use index::Why;
+use lines::FlatHead;
 pub use print_cases::end;
 use print_cases::number;
 pub use print_cases::numbers;

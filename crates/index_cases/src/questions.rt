@@ -1,11 +1,11 @@
 // The questions. A line has what each is lent, in the order of its parameters.
 use crate::print;
-use index::Choice;
-use index::head_by;
-use index::lines_by;
 use index::list_functions;
 use index::why_refused;
-use index::words_by;
+use lines::Choice;
+use lines::head_by;
+use lines::lines_by;
+use lines::words_by;
 use vectors::bytes_of;
 use vectors::number_of;
 use vectors::numbers_of;

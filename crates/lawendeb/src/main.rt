@@ -10,7 +10,7 @@ use asking::Wish;
 use asking::read_all;
 use libc::STDERR_FILENO;
 use owner::Options;
-use pages::Sheet;
+use pages::PageState;
 use pages::first;
 use reading::Reading;
 use reading::read_file;
@@ -21,7 +21,7 @@ use usage::put_version;
 
 // What came of a script: all is told, or it is refused, by number and place.
 pub enum Outcome {
-    Told(Sheet),
+    Told(PageState),
     Refused(u64, u64),
 }
 
@@ -32,7 +32,7 @@ fn tell_listed(
     o: Options,
     weights: &[u8],
     page: &mut [u8],
-    s: Sheet,
+    s: PageState,
 ) -> Outcome {
     let mut places = rooms::places();
     let mut keys = rooms::places();
@@ -54,8 +54,8 @@ fn tell_refused(
     number: u64,
     place: u64,
     page: &mut [u8],
-    s: Sheet,
-) -> Sheet {
+    s: PageState,
+) -> PageState {
     let is_cut = index::ends_early(room, n);
     owner::put_refused(page, s, file, o, first(room, n), number, place, is_cut)
 }
@@ -68,8 +68,8 @@ fn tell_bytes(
     o: Options,
     weights: &[u8],
     page: &mut [u8],
-    s: Sheet,
-) -> Sheet {
+    s: PageState,
+) -> PageState {
     let r = tell_listed(first(room, n), file, o, weights, page, s);
     match r {
         Outcome::Told(t) => {
@@ -82,7 +82,14 @@ fn tell_bytes(
 }
 
 // Tells of an open script.
-fn tell_open(fd: i32, file: &[u8], o: Options, weights: &[u8], page: &mut [u8], s: Sheet) -> Sheet {
+fn tell_open(
+    fd: i32,
+    file: &[u8],
+    o: Options,
+    weights: &[u8],
+    page: &mut [u8],
+    s: PageState,
+) -> PageState {
     let mut bytes = rooms::bytes();
     let r = read_file(fd, &mut bytes);
     match r {
@@ -100,7 +107,7 @@ fn tell_open(fd: i32, file: &[u8], o: Options, weights: &[u8], page: &mut [u8], 
 }
 
 // Tells of a script by its name.
-fn tell_file(file: &[u8], o: Options, weights: &[u8], page: &mut [u8], s: Sheet) -> Sheet {
+fn tell_file(file: &[u8], o: Options, weights: &[u8], page: &mut [u8], s: PageState) -> PageState {
     let fd = os::open_read(file);
     if fd < 0 {
         os::fail(file);
@@ -112,14 +119,14 @@ fn tell_file(file: &[u8], o: Options, weights: &[u8], page: &mut [u8], s: Sheet)
 }
 
 // Tells of a script by its argument.
-fn tell_argument(i: usize, o: Options, weights: &[u8], page: &mut [u8], s: Sheet) -> Sheet {
+fn tell_argument(i: usize, o: Options, weights: &[u8], page: &mut [u8], s: PageState) -> PageState {
     let mut file = io::buffer();
     let n = os::arg(i, &mut file);
     tell_file(&file[..n], o, weights, page, s)
 }
 
 // The weights in an open file; or which of its lines can't be read, and then nothing more is told.
-fn tell_weighed(fd: i32, name: &[u8], a: Asked, page: &mut [u8], s: Sheet) -> Sheet {
+fn tell_weighed(fd: i32, name: &[u8], a: Asked, page: &mut [u8], s: PageState) -> PageState {
     let mut text = io::large_buffer();
     let mut weights = rooms::weights();
     let r = read_file(fd, &mut text);
@@ -150,7 +157,7 @@ fn options(a: Asked, is_weighted: bool) -> Options {
 }
 
 // With the weights of a file.
-fn tell_by_weights(a: Asked, page: &mut [u8], s: Sheet) -> Sheet {
+fn tell_by_weights(a: Asked, page: &mut [u8], s: PageState) -> PageState {
     let mut name = io::buffer();
     let n = os::arg(a.weights, &mut name);
     let fd = os::open_read(&name[..n]);
@@ -164,12 +171,12 @@ fn tell_by_weights(a: Asked, page: &mut [u8], s: Sheet) -> Sheet {
 }
 
 // With weights of 1.
-fn tell_by_words(a: Asked, page: &mut [u8], s: Sheet) -> Sheet {
+fn tell_by_words(a: Asked, page: &mut [u8], s: PageState) -> PageState {
     let weights = rooms::weights();
     tell_argument(a.file, options(a, false), &weights, page, s)
 }
 
-fn answer(a: Asked, page: &mut [u8], s: Sheet) -> Sheet {
+fn answer(a: Asked, page: &mut [u8], s: PageState) -> PageState {
     let wish = a.wish;
     match wish {
         Wish::Telling => {

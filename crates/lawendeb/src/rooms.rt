@@ -5,15 +5,15 @@ ghost use mathlib.Core.Path.{_≡_};
 ghost use lib.ListN.{length};
 
 // Bytes of a file.
-pub(crate) const MOST_BYTES: usize = 4194304;
+pub(crate) const FILE_BYTES: usize = 4194304;
 
 // Functions of a file.
 pub(crate) const MOST_FUNCTIONS: usize = 131072;
 
-pub(crate) fn bytes() -> [u8; MOST_BYTES]
+pub(crate) fn bytes() -> [u8; FILE_BYTES]
     ensures { λ r. ⌜ 4194304 ≡ length r ⌝ }
 {
-    [0; MOST_BYTES]
+    [0; FILE_BYTES]
 }
 
 pub(crate) fn places() -> [u64; MOST_FUNCTIONS]

@@ -1,9 +1,7 @@
 // The page on which an answer is written, before it goes out at once; and how large it
 // and the input's buffer are.
 ghost use mathlib.Core.Path.{_≡_};
-ghost use Prim.Native.Nat.{_+_, _≤_};
 ghost use lib.ListN.{length};
-ghost use Rattle.common.specs.Lists.{put};
 ghost use Rattle.listing.specs.Claims.{pageLength};
 
 // Of an input 45,057 bytes decide, 4,096 lines of 11 and one byte more, so a longer
@@ -18,16 +16,4 @@ pub fn page() -> [u8; PAGE]
     ensures { λ r. ⌜ pageLength ≡ length r ⌝ }
 {
     [0; PAGE]
-}
-
-// Puts text from index at on.
-pub(crate) fn put_text(page: &mut [u8], at: usize, text: &[u8])
-    requires { ⌜ at + length (now text) ≤ length (now page) ⌝ }
-    ensures { λ _. ⌜ now (page .exit) ≡ put (now (page .entry)) at (now (text .entry)) ⌝ }
-{
-    let mut i = 0;
-    while i < text.len() {
-        page[at + i] = text[i];
-        i += 1;
-    }
 }

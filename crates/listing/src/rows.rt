@@ -4,8 +4,8 @@ ghost use Prim.Native.Nat.{_+_, _*_, _≤_, _<_};
 ghost use lib.ListN.{length};
 ghost use Rattle.common.specs.Lists.{put};
 ghost use Rattle.listing.specs.Answer.{firstCell, secondCell, lineAt, listingOf};
-use crate::paper::put_text;
 use sheet::Cell;
+use sheet::inner::put_text;
 use sweep::edges::Successors;
 
 // Bytes in a word's line.
@@ -38,7 +38,7 @@ fn line(words: &[u32], lengths: &[u32], p: usize) -> [u8; 31]
     requires { ⌜ (p < length (now words)) × (p < length (now lengths)) ⌝ }
     ensures { λ r. ⌜ r ≡ lineAt (now (words .entry)) (now (lengths .entry)) p ⌝ }
 {
-    let s = runs::successors::successors(words, p);
+    let s = steps::successors::successors(words, p);
     sheet::row(
         p,
         fields::word::opcode(words[p]),

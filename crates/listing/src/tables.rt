@@ -3,17 +3,17 @@ ghost use mathlib.Core.Path.{_≡_};
 ghost use Prim.Native.Nat.{_≤_};
 ghost use lib.ListN.{length, take};
 ghost use Rattle.common.specs.Limits.{mostLines};
-ghost use Rattle.common.specs.Lists.{put};
+ghost use Rattle.common.specs.Lists.{put, Counted};
 ghost use Rattle.sheet.specs.Rows.{refusalLineOf};
-ghost use Rattle.listing.specs.Answer.{runText, answerOf};
-ghost use Rattle.listing.specs.Claims.{pageLength, Enough, Counted};
+ghost use Rattle.listing.specs.Answer.{runText, listingAnswer};
+ghost use Rattle.listing.specs.Claims.{pageLength, EnoughRead};
 use crate::paper::BUFFER;
 use crate::paper::PAGE;
-use crate::paper::put_text;
 use crate::rows::put_listing;
 use fields::version::Version;
 use runs::Run;
 use sheet::Sheet;
+use sheet::inner::put_text;
 
 // Puts the only line of a refusal, and answers how long it is.
 fn put_refusal(number: u8, place: usize, page: &mut [u8]) -> usize
@@ -57,8 +57,8 @@ fn put_run(words: &[u32], page: &mut [u8]) -> usize
 // Puts what is to be written for a sheet's text, and answers how long it is.
 fn put_answer(text: &[u8], page: &mut [u8]) -> usize
     requires { ⌜ pageLength ≤ length (now page) ⌝ }
-    ensures { λ r. ⌜ r ≡ length (answerOf (now (text .entry))) ⌝ }
-    ensures { λ _. ⌜ now (page .exit) ≡ put (now (page .entry)) 0 (answerOf (now (text .entry))) ⌝ }
+    ensures { λ r. ⌜ r ≡ length (listingAnswer (now (text .entry))) ⌝ }
+    ensures { λ _. ⌜ now (page .exit) ≡ put (now (page .entry)) 0 (listingAnswer (now (text .entry))) ⌝ }
 {
     let mut words = [0u32; 4096];
     let s = sheet::read(text, &mut words);
@@ -67,10 +67,10 @@ fn put_answer(text: &[u8], page: &mut [u8]) -> usize
             return put_run(&words[..n], page);
         }
         Sheet::Malformed(_) => {
-            return put_refusal(sheet::number(s), sheet::place(s), page);
+            return put_refusal(sheet::sheet_number(s), sheet::sheet_place(s), page);
         }
         Sheet::TooLong => {
-            return put_refusal(sheet::number(s), sheet::place(s), page);
+            return put_refusal(sheet::sheet_number(s), sheet::sheet_place(s), page);
         }
     }
 }
@@ -78,9 +78,9 @@ fn put_answer(text: &[u8], page: &mut [u8]) -> usize
 // Puts what is to be written for the first n bytes of a buffer, or for all of them if there are fewer.
 fn put_held(buffer: &[u8], n: usize, page: &mut [u8]) -> usize
     requires { ⌜ pageLength ≤ length (now page) ⌝ }
-    ensures { λ r. ⌜ r ≡ length (answerOf (take n (now (buffer .entry)))) ⌝ }
+    ensures { λ r. ⌜ r ≡ length (listingAnswer (take n (now (buffer .entry)))) ⌝ }
     ensures { λ _. ⌜ now (page .exit)
-        ≡ put (now (page .entry)) 0 (answerOf (take n (now (buffer .entry)))) ⌝ }
+        ≡ put (now (page .entry)) 0 (listingAnswer (take n (now (buffer .entry)))) ⌝ }
 {
     if n < buffer.len() {
         return put_answer(&buffer[..n], page);
@@ -89,13 +89,13 @@ fn put_held(buffer: &[u8], n: usize, page: &mut [u8]) -> usize
 }
 
 // From what was read to what the program writes. The buffer is lent whole, so that its size is in the type,
-// and n of its bytes were read: they decide, however long the input is (`Enough`). What is to be written
+// and n of its bytes were read: they decide, however long the input is (`EnoughRead`). What is to be written
 // stands at the start of the page, and its count is answered.
 pub fn answer(buffer: &[u8; BUFFER], n: usize, page: &mut [u8; PAGE]) -> usize
-    ensures { λ r. ⌜ r ≡ length (answerOf (take n (now (buffer .entry)))) ⌝ }
+    ensures { λ r. ⌜ r ≡ length (listingAnswer (take n (now (buffer .entry)))) ⌝ }
     ensures { λ _. ⌜ now (page .exit)
-        ≡ put (now (page .entry)) 0 (answerOf (take n (now (buffer .entry)))) ⌝ }
-    ensures { λ _. ⌜ Enough (now (buffer .entry)) n ⌝ }
+        ≡ put (now (page .entry)) 0 (listingAnswer (take n (now (buffer .entry)))) ⌝ }
+    ensures { λ _. ⌜ EnoughRead (now (buffer .entry)) n ⌝ }
     ensures { λ r. ⌜ Counted r (now (page .exit)) ⌝ }
 {
     put_held(buffer, n, page)

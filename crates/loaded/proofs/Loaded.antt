@@ -8,12 +8,11 @@ use native.Mathlib.Omega.{arith}
 use lib.Dec.{leb, ltb}
 use lib.ListN.{length, getD}
 use borrow.Author.Tests.{eq-eqb, lt-ltb, le-ltb}
-use Rattle.common.specs.Limits.{mostWords, mostConstants, mostNames}
+use Rattle.common.specs.Limits.{mostWords, mostConstants, mostNames, shortLength}
 use Rattle.common.specs.Chain.{choose, answer, accepted}
 use Rattle.common.proofs.Lowest.{lowest-laws}
 use Rattle.values.specs.Spans.{past, firstNamePast}
 use Rattle.records.specs.Refusals.{unknownTag, unknownTagAt, isString, stringPastAt, firstUnknownTag, firstStringPast, answerOf}
-use Rattle.chunk.specs.Limits.{shortLength}
 use Rattle.chunk.specs.Reading.{Result, done}
 use Rattle.chunk.specs.Lundump.{Constant, plain, string, Function}
 use Rattle.chunk.specs.Chunk.{chosen, tagOf, payloadOf, nameNumber, stringTag, valuesOf, wordsOf, tagsOf, payloadsOf, namesOf}

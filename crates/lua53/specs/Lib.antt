@@ -1,2 +1,2 @@
 -- The flat forms that are 5.3's alone.
-pub mod Decoded
+pub mod Flat

@@ -5,10 +5,10 @@ pub use print_cases::number;
 pub use print_cases::number_u32;
 use print_cases::numbers;
 pub use print_cases::text;
-use runs::flat::FlatRun;
-use runs::flat::FlatSuccessors;
-use service::exported::FlatCrossed;
-use service::exported::FlatNearest;
+use runs::c::FlatRun;
+use runs::c::FlatSuccessors;
+use service::c::FlatCrossed;
+use service::c::FlatNearest;
 
 pub fn steps(s: FlatSuccessors) {
     if s.kind == 0 {

@@ -9,10 +9,11 @@ use lib.Dec.{eqb}
 use lib.ListN.{length, replicate}
 use borrow.Author.Tests.{eq-eqb, lt-ltb}
 use Rattle.common.specs.Numbers.{«ACCEPTED»}
+use Rattle.common.specs.Limits.{mostServices}
 use Rattle.graph.specs.Graph.{In, Graph, Along, Path, Unserved, Segment, weigh}
 use Rattle.graph.proofs.Laws.{laws}
 use Rattle.meter.specs.declared.step.Meter.{Meter}
-use Rattle.meter.specs.Feed.{Scale, follows, ceiling, beginOf, resetOf, feedOf}
+use Rattle.meter.specs.Feed.{Scale, follows, beginOf, resetOf, feedOf}
 use Rattle.meter.specs.Model.{Call, begin, feed, reset, Model, emptyModel, lastFrom, writes, servesTo, fed, called, answerTo, modelAfter, modelAnswers, anyServes, sinceService, weightSince}
 use Rattle.meter.specs.Calls.{meterAfter}
 use Rattle.meter.specs.Highest.{countsShown, largest, hasReset}
@@ -167,7 +168,7 @@ module _ (scale : Scale) (sound : Sound scale) where
 
   -- The bound.
 
-  module _ (m : Meter) (fits : m .services ≤ ceiling) (longest : ℕ) (most : AtMost longest) where
+  module _ (m : Meter) (fits : m .services ≤ mostServices) (longest : ℕ) (most : AtMost longest) where
     never : (calls : List Call) → meterAfter scale (beginOf m) calls .count ≤ longest
     never calls =
         rw (follows-model scale sound m calls fits .count)

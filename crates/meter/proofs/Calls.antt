@@ -7,26 +7,26 @@ use mathlib.Core.List.{List, [], _∷_, _++_}
 use native.Mathlib.Omega.{arith}
 use lib.Dec.{ltb, eqb}
 use borrow.Author.Tests.{ltb-true, ltb-false, eqb-true, le-ltb, lt-leb, le-leb, ne-eqb}
-use Rattle.common.specs.Limits.{mostWords}
+use Rattle.common.specs.Limits.{mostWords, mostServices, heaviestWeight}
 use Rattle.graph.specs.Graph.{Graph, Lawful}
 use Rattle.graph.proofs.Laws.{laws}
 use Rattle.meter.specs.declared.step.Meter.{Meter}
 use Rattle.meter.specs.declared.step.Fed.{Fed}
-use Rattle.runs.specs.Weights.{heaviestWeight, refusesWeights}
-use Rattle.meter.specs.Feed.{Scale, follows, ceiling, oneService, showing, movedTo, isForeign, isStray, beginOf, resetOf, feedOf}
+use Rattle.runs.specs.Weights.{refusesWeights}
+use Rattle.meter.specs.Feed.{Scale, follows, oneService, showing, movedTo, isForeign, isStray, beginOf, resetOf, feedOf}
 use Rattle.meter.specs.Model.{Call, begin, feed, reset, Model, emptyModel, lastFrom, writes, fed, called, answerTo, modelAfter, modelAnswers, hasWord, lastOr0, weightSince}
 use Rattle.meter.specs.Calls.{meterAfter, meterAnswers, FollowsModel}
 use Rattle.meter.proofs.Paths.{last-more, weight-more}
 
 -- The ceiling.
 
-pub more-services : (s k : ℕ) → oneService (min (s + k) ceiling) ≡ min (s + (k + 1)) ceiling
+pub more-services : (s k : ℕ) → oneService (min (s + k) mostServices) ≡ min (s + (k + 1)) mostServices
 unfolding oneService
-more-services s k = go (ltb (min (s + k) ceiling) ceiling) refl
+more-services s k = go (ltb (min (s + k) mostServices) mostServices) refl
   where
-    go : (t : Bool) → ltb (min (s + k) ceiling) ceiling ≡ t → cond t (min (s + k) ceiling + 1) ceiling ≡ min (s + (k + 1)) ceiling
-    go true e = omega (arith, ltb-true (min (s + k) ceiling) ceiling e)
-    go false e = omega (arith, ltb-false (min (s + k) ceiling) ceiling e)
+    go : (t : Bool) → ltb (min (s + k) mostServices) mostServices ≡ t → cond t (min (s + k) mostServices + 1) mostServices ≡ min (s + (k + 1)) mostServices
+    go true e = omega (arith, ltb-true (min (s + k) mostServices) mostServices e)
+    go false e = omega (arith, ltb-false (min (s + k) mostServices) mostServices e)
 
 -- the meter that shows a model, from these services on, and with this highest
 abbrev shows : Scale → ℕ → Model → ℕ → Meter
@@ -35,7 +35,7 @@ shows s start b highest =
       begun = cond (hasWord (b .path)) 1 0;
       last = lastOr0 (b .path);
       count = weightSince (s .graph) (s .weight) (b .path);
-      services = min (start + b .tally) ceiling;
+      services = min (start + b .tally) mostServices;
       highest = highest;
     }
 
@@ -165,7 +165,7 @@ module _ (s : Scale) (sound : Sound s) where
       let rest : Same start b (weightSince g w (b .path)) cs = same start b (weightSince g w (b .path)) c (omega arith) cs in
       record { highest = rest .highest; answers = rest .answers; after = rest .after }
 
-  begun-empty : (m : Meter) → m .services ≤ ceiling → beginOf m ≡ shows s (m .services) emptyModel (m .highest)
+  begun-empty : (m : Meter) → m .services ≤ mostServices → beginOf m ≡ shows s (m .services) emptyModel (m .highest)
   unfolding beginOf
   begun-empty m h = ap (λ (n : ℕ). record { begun = 0; last = 0; count = 0; services = n; highest = m .highest }) (omega arith)
 
@@ -173,7 +173,7 @@ module _ (s : Scale) (sound : Sound s) where
   begun-if [] n e = rw e
   begun-if (p ∷ ps) n e = rw e
 
-  pub follows-model : (m : Meter) (calls : List Call) → m .services ≤ ceiling → FollowsModel s m calls
+  pub follows-model : (m : Meter) (calls : List Call) → m .services ≤ mostServices → FollowsModel s m calls
   follows-model m calls fits =
       let all : Same (m .services) emptyModel (m .highest) calls = same (m .services) emptyModel (m .highest) tt (omega arith) calls in
       let start : beginOf m ≡ shows s (m .services) emptyModel (m .highest) = begun-empty m fits in

@@ -7,55 +7,55 @@ use native.Mathlib.Omega.{arith}
 use lib.Dec.{ltb, eqb}
 use lib.ListN.{getD}
 use borrow.Author.Tests.{ltb-true, ltb-false, le-ltb, lt-leb, le-leb, eqb-true, ne-eqb}
-use Rattle.common.specs.Limits.{mostWords}
+use Rattle.common.specs.Limits.{mostWords, mostServices, heaviestWeight}
 use Rattle.graph.specs.Graph.{Graph, Lawful}
 use Rattle.graph.proofs.Laws.{laws}
 use Rattle.runs.specs.Script.{Script, graphOf, weightOf}
 use Rattle.runs.specs.Script as script
-use Rattle.runs.specs.Weights.{refusesWeights, weightsPlace, heaviestWeight}
+use Rattle.runs.specs.Weights.{refusesWeights, weightsPlace}
 use Rattle.runs.proofs.Laws as runs
 use Rattle.meter.specs.declared.step.Meter.{Meter}
 use Rattle.meter.specs.declared.step.Fed.{Fed}
-use Rattle.meter.specs.Feed.{scaleOf, follows, ceiling, showing, movedTo, isForeign, isStray, beginOf, resetOf, feedOf}
+use Rattle.meter.specs.Feed.{scaleOf, follows, showing, movedTo, isForeign, isStray, beginOf, resetOf, feedOf}
 use Rattle.meter.specs.Model.{lastFrom, writes, servesTo, hasWord, lastOr0, anyServes}
-use Rattle.meter.specs.Changing.{Call, begin, feed, reset, Entry, Book, empty, wordsOf, sumOf, sinceService, weighedSince, written, bookFed, bookCalled, bookAfter, bookAnswer, bookAnswers, meterAfter, meterAnswers, Bytes, FollowsBook}
+use Rattle.meter.specs.Changing.{ChangingCall, begin, feed, reset, Entry, Book, empty, entryWords, entriesSum, entriesSinceService, weighedSince, written, bookFed, bookCalled, bookAfter, bookAnswer, bookAnswers, changingAfter, changingAnswers, Bytes, FollowsBook}
 use Rattle.meter.proofs.Calls.{more-services}
 
 -- One word more at a path's end.
 
-last-on : (e : Entry) (es : List Entry) (f : Entry) → lastFrom (e .word) (wordsOf (es ++ (f ∷ []))) ≡ f .word
+last-on : (e : Entry) (es : List Entry) (f : Entry) → lastFrom (e .word) (entryWords (es ++ (f ∷ []))) ≡ f .word
 last-on e [] f = refl
 last-on e (x ∷ es) f = last-on x es f
 
 module _ (g : Graph) where
-  any-on : (p : ℕ) (es : List Entry) (f : Entry) → anyServes g p (wordsOf (es ++ (f ∷ []))) ≡ anyServes g p (wordsOf es) || g .serves (lastFrom p (wordsOf es)) (f .word)
+  any-on : (p : ℕ) (es : List Entry) (f : Entry) → anyServes g p (entryWords (es ++ (f ∷ []))) ≡ anyServes g p (entryWords es) || g .serves (lastFrom p (entryWords es)) (f .word)
   any-on p [] f = or-false (g .serves p (f .word))
-  any-on p (x ∷ es) f = rw (any-on (x .word) es f) (sym (or-assoc (g .serves p (x .word)) (anyServes g (x .word) (wordsOf es)) (g .serves (lastFrom (x .word) (wordsOf es)) (f .word))))
+  any-on p (x ∷ es) f = rw (any-on (x .word) es f) (sym (or-assoc (g .serves p (x .word)) (anyServes g (x .word) (entryWords es)) (g .serves (lastFrom (x .word) (entryWords es)) (f .word))))
 
-  since-served : (e : Entry) (es : List Entry) (f : Entry) → g .serves (lastFrom (e .word) (wordsOf es)) (f .word) ≡ true → sinceService g e (es ++ (f ∷ [])) ≡ f ∷ []
+  since-served : (e : Entry) (es : List Entry) (f : Entry) → g .serves (lastFrom (e .word) (entryWords es)) (f .word) ≡ true → entriesSinceService g e (es ++ (f ∷ [])) ≡ f ∷ []
   since-served e [] f h = rw h
   since-served e (x ∷ es) f h = rw (any-on (x .word) es f, h, or-true, or-true) (since-served x es f h)
 
-  since-more : (e : Entry) (es : List Entry) (f : Entry) → g .serves (lastFrom (e .word) (wordsOf es)) (f .word) ≡ false → sinceService g e (es ++ (f ∷ [])) ≡ sinceService g e es ++ (f ∷ [])
+  since-more : (e : Entry) (es : List Entry) (f : Entry) → g .serves (lastFrom (e .word) (entryWords es)) (f .word) ≡ false → entriesSinceService g e (es ++ (f ∷ [])) ≡ entriesSinceService g e es ++ (f ∷ [])
   since-more e [] f h = rw h
-  since-more e (x ∷ es) f h = rw (any-on (x .word) es f, h, or-false) (go (g .serves (e .word) (x .word) || anyServes g (x .word) (wordsOf es)) (since-more x es f h))
+  since-more e (x ∷ es) f h = rw (any-on (x .word) es f, h, or-false) (go (g .serves (e .word) (x .word) || anyServes g (x .word) (entryWords es)) (since-more x es f h))
     where
-      go : (t : Bool) → sinceService g x (es ++ (f ∷ [])) ≡ sinceService g x es ++ (f ∷ [])
-          → cond t (sinceService g x (es ++ (f ∷ []))) (e ∷ x ∷ (es ++ (f ∷ []))) ≡ cond t (sinceService g x es) (e ∷ x ∷ es) ++ (f ∷ [])
+      go : (t : Bool) → entriesSinceService g x (es ++ (f ∷ [])) ≡ entriesSinceService g x es ++ (f ∷ [])
+          → cond t (entriesSinceService g x (es ++ (f ∷ []))) (e ∷ x ∷ (es ++ (f ∷ []))) ≡ cond t (entriesSinceService g x es) (e ∷ x ∷ es) ++ (f ∷ [])
       go true later = later
       go false later = refl
 
-  sum-more : (es : List Entry) (f : Entry) → sumOf (es ++ (f ∷ [])) ≡ sumOf es + f .weight
+  sum-more : (es : List Entry) (f : Entry) → entriesSum (es ++ (f ∷ [])) ≡ entriesSum es + f .weight
   sum-more [] f = omega arith
   sum-more (x ∷ es) f = omega (arith, sum-more es f)
 
   weighed-on : (e : Entry) (es : List Entry) (f : Entry)
-      → weighedSince g (e ∷ (es ++ (f ∷ []))) ≡ cond (g .serves (lastFrom (e .word) (wordsOf es)) (f .word)) (f .weight) (weighedSince g (e ∷ es) + f .weight)
-  weighed-on e es f = go (g .serves (lastFrom (e .word) (wordsOf es)) (f .word)) refl
+      → weighedSince g (e ∷ (es ++ (f ∷ []))) ≡ cond (g .serves (lastFrom (e .word) (entryWords es)) (f .word)) (f .weight) (weighedSince g (e ∷ es) + f .weight)
+  weighed-on e es f = go (g .serves (lastFrom (e .word) (entryWords es)) (f .word)) refl
     where
-      go : (t : Bool) → g .serves (lastFrom (e .word) (wordsOf es)) (f .word) ≡ t → weighedSince g (e ∷ (es ++ (f ∷ []))) ≡ cond t (f .weight) (weighedSince g (e ∷ es) + f .weight)
-      go true h = ap sumOf (since-served e es f h) ∙ omega arith
-      go false h = ap sumOf (since-more e es f h) ∙ sum-more (sinceService g e es) f
+      go : (t : Bool) → g .serves (lastFrom (e .word) (entryWords es)) (f .word) ≡ t → weighedSince g (e ∷ (es ++ (f ∷ []))) ≡ cond t (f .weight) (weighedSince g (e ∷ es) + f .weight)
+      go true h = ap entriesSum (since-served e es f h) ∙ omega arith
+      go false h = ap entriesSum (since-more e es f h) ∙ sum-more (entriesSinceService g e es) f
 
 module _ (ws : Script) (sound : script.Sound ws) (few : ws .size ≤ mostWords) where
   abbrev g : Graph
@@ -67,10 +67,10 @@ module _ (ws : Script) (sound : script.Sound ws) (few : ws .size ≤ mostWords) 
   abbrev shows : ℕ → Book → ℕ → Meter
   shows start b highest =
       record {
-        begun = cond (hasWord (wordsOf (b .path))) 1 0;
-        last = lastOr0 (wordsOf (b .path));
+        begun = cond (hasWord (entryWords (b .path))) 1 0;
+        last = lastOr0 (entryWords (b .path));
         count = weighedSince g (b .path);
-        services = min (start + b .tally) ceiling;
+        services = min (start + b .tally) mostServices;
         highest = highest;
       }
 
@@ -82,7 +82,7 @@ module _ (ws : Script) (sound : script.Sound ws) (few : ws .size ≤ mostWords) 
 
   abbrev Counted : List Entry → Type 0
   Counted [] = Unit {0}
-  Counted (e ∷ es) = Fits (lastFrom (e .word) (wordsOf es)) (weighedSince g (e ∷ es))
+  Counted (e ∷ es) = Fits (lastFrom (e .word) (entryWords es)) (weighedSince g (e ∷ es))
 
   -- a table that 18 lets through
   module _ (weights : List ℕ) (accepted : refusesWeights weights ≡ false) (bytes : (i : ℕ) → getD weights i 0 ≤ heaviestWeight) where
@@ -110,13 +110,13 @@ module _ (ws : Script) (sound : script.Sound ws) (few : ws .size ≤ mostWords) 
         go true e d = (eqb-true q 0 e, ltb-true 0 (g .size) d)
         go false e d = absurd (false≢true d)
 
-    counted-more : (es : List Entry) (q : ℕ) → Counted es → writes g (wordsOf es) q ≡ true → Counted (es ++ (entry q ∷ []))
+    counted-more : (es : List Entry) (q : ℕ) → Counted es → writes g (entryWords es) q ≡ true → Counted (es ++ (entry q ∷ []))
     counted-more [] q c h = let f = first-word q h in (omega (arith, f .0, f .1), omega (arith, some q), omega (arith, light q))
     counted-more (e ∷ es) q c h =
         rw (last-on e es (entry q), weighed-on g e es (entry q))
-        (fits-next (lastFrom (e .word) (wordsOf es)) q (weighedSince g (e ∷ es)) (g .serves (lastFrom (e .word) (wordsOf es)) q) refl h (c .2))
+        (fits-next (lastFrom (e .word) (entryWords es)) q (weighedSince g (e ∷ es)) (g .serves (lastFrom (e .word) (entryWords es)) q) refl h (c .2))
 
-    counted-written : (b : Book) (q : ℕ) (t : Bool) → writes g (wordsOf (b .path)) q ≡ t → Counted (b .path) → Counted (written ws b weights q t .path)
+    counted-written : (b : Book) (q : ℕ) (t : Bool) → writes g (entryWords (b .path)) q ≡ t → Counted (b .path) → Counted (written ws b weights q t .path)
     counted-written b q true e c = counted-more (b .path) q c e
     counted-written b q false e c = c
 
@@ -127,19 +127,19 @@ module _ (ws : Script) (sound : script.Sound ws) (few : ws .size ≤ mostWords) 
     unfolding isForeign
     not-foreign start k h [] c l = rw (le-ltb h 0 l)
     not-foreign start k h (e ∷ es) c l =
-        rw (le-ltb h (weighedSince g (e ∷ es)) l, lt-leb (g .size) (lastFrom (e .word) (wordsOf es)) (c .0), ne-eqb (weighedSince g (e ∷ es)) 0 (λ z. omega (arith, c .1, z)), le-ltb (heaviestWeight * (lastFrom (e .word) (wordsOf es) + 1)) (weighedSince g (e ∷ es)) (c .2))
+        rw (le-ltb h (weighedSince g (e ∷ es)) l, lt-leb (g .size) (lastFrom (e .word) (entryWords es)) (c .0), ne-eqb (weighedSince g (e ∷ es)) 0 (λ z. omega (arith, c .1, z)), le-ltb (heaviestWeight * (lastFrom (e .word) (entryWords es) + 1)) (weighedSince g (e ∷ es)) (c .2))
 
     abbrev rises : List Entry → ℕ → ℕ → ℕ
-    rises es h q = cond (writes g (wordsOf es) q) (max h (weighedSince g (es ++ (entry q ∷ [])))) h
+    rises es h q = cond (writes g (entryWords es) q) (max h (weighedSince g (es ++ (entry q ∷ [])))) h
 
     abbrev Told : ℕ → Book → ℕ → ℕ → Fed
     Told start b h q =
         record {
-          meter = shows start (written ws b weights q (writes g (wordsOf (b .path)) q)) (rises (b .path) h q);
-          answer = record { number = cond (writes g (wordsOf (b .path)) q) 0 10; place = 0 };
+          meter = shows start (written ws b weights q (writes g (entryWords (b .path)) q)) (rises (b .path) h q);
+          answer = record { number = cond (writes g (entryWords (b .path)) q) 0 10; place = 0 };
         }
 
-    covered-written : (b : Book) (h q : ℕ) (t : Bool) → writes g (wordsOf (b .path)) q ≡ t → Covered (b .path) h
+    covered-written : (b : Book) (h q : ℕ) (t : Bool) → writes g (entryWords (b .path)) q ≡ t → Covered (b .path) h
         → Covered (written ws b weights q t .path) (cond t (max h (weighedSince g (b .path ++ (entry q ∷ [])))) h)
     covered-written b h q true e l = omega arith
     covered-written b h q false e l = l
@@ -154,20 +154,20 @@ module _ (ws : Script) (sound : script.Sound ws) (few : ws .size ≤ mostWords) 
     first-fed start k h q true false e d = rw (le-ltb mostWords (g .size) few, accepted, le-ltb h 0 (omega arith), eqb-true q 0 e, le-leb (g .size) 0 (ltb-false 0 (g .size) d), d)
     first-fed start k h q false u e d = rw (le-ltb mostWords (g .size) few, accepted, le-ltb h 0 (omega arith), e, or-true)
 
-    next-fed : (start k h : ℕ) (e : Entry) (es : List Entry) (q : ℕ) (t u : Bool) → follows g (lastFrom (e .word) (wordsOf es)) q ≡ t → g .serves (lastFrom (e .word) (wordsOf es)) q ≡ u
+    next-fed : (start k h : ℕ) (e : Entry) (es : List Entry) (q : ℕ) (t u : Bool) → follows g (lastFrom (e .word) (entryWords es)) q ≡ t → g .serves (lastFrom (e .word) (entryWords es)) q ≡ u
         → Counted (e ∷ es) → Covered (e ∷ es) h
         → feedOf (scaleOf ws weights) (shows start (record { path = e ∷ es; tally = k }) h) q ≡ Told start (record { path = e ∷ es; tally = k }) h q
     unfolding feedOf isStray movedTo showing
     next-fed start k h x es q true true e d c l =
-        rw (le-ltb mostWords (g .size) few, accepted, not-foreign start k h (x ∷ es) c l, lt-leb (g .size) q (step-inside (lastFrom (x .word) (wordsOf es)) q e), e, d, last-on x es (entry q), weighed-on g x es (entry q), d, more-services start k)
+        rw (le-ltb mostWords (g .size) few, accepted, not-foreign start k h (x ∷ es) c l, lt-leb (g .size) q (step-inside (lastFrom (x .word) (entryWords es)) q e), e, d, last-on x es (entry q), weighed-on g x es (entry q), d, more-services start k)
     next-fed start k h x es q true false e d c l =
-        rw (le-ltb mostWords (g .size) few, accepted, not-foreign start k h (x ∷ es) c l, lt-leb (g .size) q (step-inside (lastFrom (x .word) (wordsOf es)) q e), e, d, last-on x es (entry q), weighed-on g x es (entry q), d)
+        rw (le-ltb mostWords (g .size) few, accepted, not-foreign start k h (x ∷ es) c l, lt-leb (g .size) q (step-inside (lastFrom (x .word) (entryWords es)) q e), e, d, last-on x es (entry q), weighed-on g x es (entry q), d)
     next-fed start k h x es q false u e d c l = rw (le-ltb mostWords (g .size) few, accepted, not-foreign start k h (x ∷ es) c l, e, or-true)
 
     fed-as : (start k h : ℕ) (es : List Entry) (q : ℕ) → Counted es → Covered es h
         → feedOf (scaleOf ws weights) (shows start (record { path = es; tally = k }) h) q ≡ Told start (record { path = es; tally = k }) h q
     fed-as start k h [] q c l = first-fed start k h q (eqb q 0) (ltb 0 (g .size)) refl refl
-    fed-as start k h (e ∷ es) q c l = next-fed start k h e es q (follows g (lastFrom (e .word) (wordsOf es)) q) (g .serves (lastFrom (e .word) (wordsOf es)) q) refl refl c l
+    fed-as start k h (e ∷ es) q c l = next-fed start k h e es q (follows g (lastFrom (e .word) (entryWords es)) q) (g .serves (lastFrom (e .word) (entryWords es)) q) refl refl c l
 
   -- a table that 18 refuses
   refused-as : (weights : List ℕ) → refusesWeights weights ≡ true → (m : Meter) (q : ℕ)
@@ -177,12 +177,12 @@ module _ (ws : Script) (sound : script.Sound ws) (few : ws .size ≤ mostWords) 
 
   -- Every list of calls, by induction.
 
-  record Same (start : ℕ) (b : Book) (h : ℕ) (calls : List Call) : Type 0 where
+  record Same (start : ℕ) (b : Book) (h : ℕ) (calls : List ChangingCall) : Type 0 where
     highest : ℕ
-    answers : meterAnswers ws (shows start b h) calls ≡ bookAnswers ws b calls
-    after : meterAfter ws (shows start b h) calls ≡ shows start (bookAfter ws b calls) highest
+    answers : changingAnswers ws (shows start b h) calls ≡ bookAnswers ws b calls
+    after : changingAfter ws (shows start b h) calls ≡ shows start (bookAfter ws b calls) highest
 
-  same : (start : ℕ) (b : Book) (h : ℕ) → Counted (b .path) → weighedSince g (b .path) ≤ h → (calls : List Call) → Bytes calls → Same start b h calls
+  same : (start : ℕ) (b : Book) (h : ℕ) → Counted (b .path) → weighedSince g (b .path) ≤ h → (calls : List ChangingCall) → Bytes calls → Same start b h calls
   unfolding beginOf resetOf
   same start b h c l [] y = record { highest = h; answers = refl; after = refl }
   same start b h c l (begin ∷ cs) y =
@@ -202,11 +202,11 @@ module _ (ws : Script) (sound : script.Sound ws) (few : ws .size ≤ mostWords) 
             highest = rest .highest;
             answers = rw (told, e) (ap (λ (xs : List ℕ). 18 ∷ xs) (rest .answers));
             after =
-                ap (λ (f : Fed). meterAfter ws (f .meter) cs) told
-                ∙ (rest .after ∙ ap (λ (u : Bool). shows start (bookAfter ws (cond u b (written ws b weights q (writes g (wordsOf (b .path)) q))) cs) (rest .highest)) (sym e));
+                ap (λ (f : Fed). changingAfter ws (f .meter) cs) told
+                ∙ (rest .after ∙ ap (λ (u : Bool). shows start (bookAfter ws (cond u b (written ws b weights q (writes g (entryWords (b .path)) q))) cs) (rest .highest)) (sym e));
           }
       go false e later =
-          let t = writes g (wordsOf (b .path)) q in
+          let t = writes g (entryWords (b .path)) q in
           let r : ℕ = rises weights e (y .0) (b .path) h q in
           let rest : Same start (written ws b weights q t) r cs =
           later (written ws b weights q t) r (counted-written weights e (y .0) b q t refl c) (covered-written weights e (y .0) b h q t refl l) in
@@ -215,26 +215,26 @@ module _ (ws : Script) (sound : script.Sound ws) (few : ws .size ≤ mostWords) 
             highest = rest .highest;
             answers = rw (told, e) (ap (λ (xs : List ℕ). cond t 0 10 ∷ xs) (rest .answers));
             after =
-                ap (λ (f : Fed). meterAfter ws (f .meter) cs) told
+                ap (λ (f : Fed). changingAfter ws (f .meter) cs) told
                 ∙ (rest .after ∙ ap (λ (u : Bool). shows start (bookAfter ws (cond u b (written ws b weights q t)) cs) (rest .highest)) (sym e));
           }
 
-  begun-empty : (m : Meter) → m .services ≤ ceiling → beginOf m ≡ shows (m .services) empty (m .highest)
+  begun-empty : (m : Meter) → m .services ≤ mostServices → beginOf m ≡ shows (m .services) empty (m .highest)
   unfolding beginOf
   begun-empty m h = ap (λ (n : ℕ). record { begun = 0; last = 0; count = 0; services = n; highest = m .highest }) (omega arith)
 
-  begun-if : (es : List Entry) (n : ℕ) → n ≡ cond (hasWord (wordsOf es)) 1 0 → not (eqb n 0) ≡ hasWord (wordsOf es)
+  begun-if : (es : List Entry) (n : ℕ) → n ≡ cond (hasWord (entryWords es)) 1 0 → not (eqb n 0) ≡ hasWord (entryWords es)
   begun-if [] n e = rw e
   begun-if (e ∷ es) n d = rw d
 
-  pub follows-book : (m : Meter) → m .services < 4294967296 → (calls : List Call) → Bytes calls → FollowsBook ws m calls
+  pub follows-book : (m : Meter) → m .services < 4294967296 → (calls : List ChangingCall) → Bytes calls → FollowsBook ws m calls
   follows-book m fits calls y =
       let all : Same (m .services) empty (m .highest) calls = same (m .services) empty (m .highest) tt (omega arith) calls y in
       let start : beginOf m ≡ shows (m .services) empty (m .highest) = begun-empty m (omega (arith, fits)) in
-      let after : meterAfter ws (beginOf m) calls ≡ shows (m .services) (bookAfter ws empty calls) (all .highest) = rw start (all .after) in
+      let after : changingAfter ws (beginOf m) calls ≡ shows (m .services) (bookAfter ws empty calls) (all .highest) = rw start (all .after) in
       record {
         answers = rw start (all .answers);
-        begun = begun-if (bookAfter ws empty calls .path) (meterAfter ws (beginOf m) calls .begun) (ap (λ (z : Meter). z .begun) after);
+        begun = begun-if (bookAfter ws empty calls .path) (changingAfter ws (beginOf m) calls .begun) (ap (λ (z : Meter). z .begun) after);
         last = ap (λ (z : Meter). z .last) after;
         count = ap (λ (z : Meter). z .count) after;
         services = ap (λ (z : Meter). z .services) after;

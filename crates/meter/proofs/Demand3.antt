@@ -4,7 +4,7 @@ use Prim.Native.Nat.{ℕ, _≤_}
 use mathlib.Core.Path.{_≡_, refl}
 use mathlib.Core.List.{List, _∷_}
 use native.Mathlib.Omega.{arith}
-use Rattle.common.specs.Limits.{mostWords}
+use Rattle.common.specs.Limits.{mostWords, mostServices}
 use Rattle.graph.specs.Graph.{weigh}
 use Rattle.runs.specs.declared.longest.Run.{Run}
 use Rattle.runs.specs.Script.{Script, weightOf}
@@ -15,7 +15,7 @@ use Rattle.runs.specs.Run.{runOf, numberOf, longestOf, firstOf}
 use Rattle.runs.specs.Laws.{Enough}
 use Rattle.runs.proofs.Laws.{laws}
 use Rattle.meter.specs.declared.step.Meter.{Meter}
-use Rattle.meter.specs.Feed.{scaleOf, ceiling}
+use Rattle.meter.specs.Feed.{scaleOf}
 use Rattle.meter.specs.Bound.{Bound, Worst}
 use Rattle.meter.specs.Demand3.{Demand3}
 use Rattle.meter.proofs.Calls.{Sound, follows-model}
@@ -46,12 +46,12 @@ module _ (ws : Script) (steps : script.Sound ws) (weights : List ℕ) (weighs : 
     most : AtMost (scaleOf ws weights) (sound (enough .few)) (longestOf r)
     most p ps t = demand .bounded accepted p (weigh (weightOf ws weights) (p ∷ ps)) (record { rest = ps; segment = t; weight = refl })
 
-    pub bounded-by-run : (m : Meter) → m .services ≤ ceiling → Bound (scaleOf ws weights) m (longestOf r)
+    pub bounded-by-run : (m : Meter) → m .services ≤ mostServices → Bound (scaleOf ws weights) m (longestOf r)
     bounded-by-run m fits =
         let s : Passes ws weights (firstOf r) (longestOf r) = demand .reached accepted in
         bound (scaleOf ws weights) (sound (enough .few)) m fits (longestOf r) most (firstOf r) (s .rest) (s .segment) (s .weight)
 
-    pub worst-by-run : (m : Meter) → m .services ≤ ceiling → Worst (scaleOf ws weights) m (longestOf r)
+    pub worst-by-run : (m : Meter) → m .services ≤ mostServices → Worst (scaleOf ws weights) m (longestOf r)
     worst-by-run m fits = worst (scaleOf ws weights) (sound (enough .few)) m fits (longestOf r) most
 
   pub demand3 : ws .size ≤ mostWords → Demand3 ws weights

@@ -41,16 +41,16 @@ use denote.Triple.Clauses.{Clauses, ensured, lasts, closing}
 use Rattle.runs.specs.Script.{Script}
 use Rattle.meter.specs.declared.step.Meter.{Meter}
 use Rattle.meter.specs.declared.step.Fed.{Fed}
-use Rattle.meter.specs.declared.step.FeedAnswer.{FeedAnswer}
+use Rattle.common.specs.declared.c.FlatAnswer.{FlatAnswer}
 use Rattle.meter.specs.Feed.{scaleOf, feedOf}
 use Rattle.meter.proofs.step.Meter as T
 use Rattle.meter.proofs.step.Meter.Laws as T′
-use Rattle.meter.proofs.step.FeedAnswer as N
-use Rattle.meter.proofs.step.FeedAnswer.Laws as N′
+use Rattle.common.proofs.c.FlatAnswer as N
+use Rattle.common.proofs.c.FlatAnswer.Laws as N′
 use Rattle.meter.proofs.step.Fed as F
 use Rattle.meter.proofs.step.Fed.Laws as F′
 use Rattle.meter.proofs.step.feed_step as step
-use Rattle.meter.proofs.lent.lawendeb_feed_4 as f
+use Rattle.meter.proofs.c.lawendeb_feed_4 as f
 
 abbrev stayed : Stays (f.ended .signature .params) (f.ended .kept)
 stayed = (stay-none-slice (0 ∷ []) tt (plain (λ _. u32)) yes, (stay-none-slice (1 ∷ []) tt (plain (λ _. u8)) yes, (stay-ref (2 ∷ []) tt (plain (λ _. T.the-row)), (stay-none (λ _. usize) yes, tt))))
@@ -58,7 +58,7 @@ stayed = (stay-none-slice (0 ∷ []) tt (plain (λ _. u32)) yes, (stay-none-slic
 abbrev vals : Meter → List Val
 vals = LL.vals T.the-type T′.the-laws
 
-abbrev answer-vals : FeedAnswer → List Val
+abbrev answer-vals : FlatAnswer → List Val
 answer-vals = LL.vals N.the-type N′.the-laws
 
 -- what whoever holds a `Fed` knows of its two fields

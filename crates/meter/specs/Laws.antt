@@ -42,10 +42,10 @@ pub record Laws : Type 0 where
   -- bits, and weights are bytes
   pub follows-book :
       (ws : Script) → Sound ws → ws .size ≤ mostWords → (m : Meter) → m .services < 4294967296
-      → (calls : List changing.Call) → changing.Bytes calls → changing.FollowsBook ws m calls
+      → (calls : List changing.ChangingCall) → changing.Bytes calls → changing.FollowsBook ws m calls
   pub follows-book-of :
       (version : Version) (ws : List ℕ) → length ws ≤ mostWords → (m : Meter) → m .services < 4294967296
-      → (calls : List changing.Call)
+      → (calls : List changing.ChangingCall)
       → changing.Bytes calls → changing.FollowsBook (scriptOf version ws) m calls
   -- of a course that goes on by one word: its last word, and the weight since the last service, which a
   -- serving step makes that word's alone

@@ -34,17 +34,17 @@ module _ (s : Scale) (m : Meter) (q : ℕ) where
   number = feedOf s m q .answer .number
 
   -- the words are not too many, and 18 lets the weights through
-  abbrev pub Weighed : Type 0
-  Weighed = (s .graph .size ≤ 32768) × (refusesWeights (s .table) ≡ false)
+  abbrev pub FeedWeighed : Type 0
+  FeedWeighed = (s .graph .size ≤ 32768) × (refusesWeights (s .table) ≡ false)
 
   -- 10 before 11, 11 before 18, 18 before 1, a highest that 11 leaves out, in definition and
   -- code alike, is refused here
   pub record Order : Type 0 where
     pub one : (number ≡ 1) ↔ (32768 < s .graph .size)
     pub eighteen : (number ≡ 18) ↔ ((s .graph .size ≤ 32768) × (refusesWeights (s .table) ≡ true))
-    pub eleven : (number ≡ 11) ↔ (Weighed × Foreign (s .graph .size) m)
-    pub ten : (number ≡ 10) ↔ (Weighed × (Foreign (s .graph .size) m → ⊥) × Stray s m q)
-    pub accepted : (number ≡ 0) ↔ (Weighed × (Foreign (s .graph .size) m → ⊥) × (Stray s m q → ⊥))
+    pub eleven : (number ≡ 11) ↔ (FeedWeighed × Foreign (s .graph .size) m)
+    pub ten : (number ≡ 10) ↔ (FeedWeighed × (Foreign (s .graph .size) m → ⊥) × Stray s m q)
+    pub accepted : (number ≡ 0) ↔ (FeedWeighed × (Foreign (s .graph .size) m → ⊥) × (Stray s m q → ⊥))
     -- 18 alone names a place; a refusal leaves the meter, and what is accepted moves it
     pub place-18 : number ≡ 18 → feedOf s m q .answer .place ≡ weightsPlace (s .table)
     pub no-place : (number ≡ 18 → ⊥) → feedOf s m q .answer .place ≡ 0

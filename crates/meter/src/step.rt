@@ -1,9 +1,8 @@
 // Begin, feed and reset by value: a meter goes in, a meter comes out.
 ghost use mathlib.Core.Path.{_≡_};
-ghost use Prim.Native.Nat.{_*_, _<_, _≤_, max};
-ghost use Rattle.common.specs.Limits.{mostWords};
+ghost use Prim.Native.Nat.{_*_, _<_, _≤_};
+ghost use Rattle.common.specs.Limits.{mostWords, heaviestWeight};
 ghost use Rattle.runs.specs.Script.{scriptOf, lua54, graphOf};
-ghost use Rattle.runs.specs.Weights.{heaviestWeight};
 ghost use Rattle.meter.specs.Feed.{
   scaleOf,
   beginOf,
@@ -16,7 +15,12 @@ ghost use Rattle.meter.specs.Feed.{
   refusal,
   feedOf,
 };
+use common::c::FlatAnswer;
+use common::limits::HEAVIEST_WEIGHT;
+use common::limits::MOST_SERVICES;
 use common::limits::MOST_WORDS;
+use common::widths::larger;
+use common::widths::wide;
 use fields::version::Version;
 
 // A feed's number has 64 bits, as C gets it.
@@ -30,12 +34,6 @@ const NO_STEP: u64 = common::numbers::NO_STEP as u64;
 const FOREIGN_METER: u64 = common::numbers::FOREIGN_METER as u64;
 
 const WEIGHTS_REFUSED: u64 = common::numbers::WEIGHTS_REFUSED as u64;
-
-// A meter's count is at most so much for each word up to the last (request C-17).
-const HEAVIEST: usize = 255;
-
-// Document 01, "Meter", RULES 4: services stay at this.
-const CEILING: u32 = 4294967295;
 
 // Four numbers in the order of document 01 and the highest of request C-19, laid out as C lays them out.
 // A number for `begun`, not a bool: a bool of 2 from a C caller would have no meaning, while a number does:
@@ -51,18 +49,10 @@ pub struct Meter {
     pub highest: u32,
 }
 
-// "Each answer carries its number, 0 when accepted, and a place, 0 unless named.":
-// what a feed answers, as C gets it.
-#[repr(C)]
-pub struct FeedAnswer {
-    pub number: u64,
-    pub place: u64,
-}
-
 // A meter after a feed, and the feed's answer.
 pub struct Fed {
     pub meter: Meter,
-    pub answer: FeedAnswer,
+    pub answer: FlatAnswer,
 }
 
 // Begin: not begun, 0, 0; the services and the highest stay.
@@ -91,20 +81,14 @@ pub fn reset_step(m: Meter) -> Meter
     }
 }
 
-fn wide(x: u32) -> usize
-    ensures { λ r. ⌜ r ≡ x ⌝ }
-{
-    x as usize
-}
-
 // One service more, up to the ceiling.
 fn one_service(s: u32) -> u32
     ensures { λ r. ⌜ r ≡ oneService s ⌝ }
 {
-    if s < CEILING {
+    if s < MOST_SERVICES {
         return s + 1;
     }
-    CEILING
+    MOST_SERVICES
 }
 
 // Number 11: no meter of a function of n words, or one whose highest is below its count.
@@ -128,7 +112,7 @@ fn is_foreign(n: usize, m: Meter) -> bool
     if count == 0 {
         return true;
     }
-    HEAVIEST * (last + 1) < count
+    HEAVIEST_WEIGHT * (last + 1) < count
 }
 
 // Number 10: no word that can follow.
@@ -142,15 +126,6 @@ fn is_stray(version: Version, words: &[u32], m: Meter, q: usize) -> bool
         return q != 0;
     }
     !runs::script::is_successor(version, words, wide(m.last), q)
-}
-
-fn larger(x: u32, y: u32) -> u32
-    ensures { λ r. ⌜ r ≡ max x y ⌝ }
-{
-    if x < y {
-        return y;
-    }
-    x
 }
 
 // A begun meter, and a count that it shows now, after `before` was its highest.
@@ -189,7 +164,7 @@ fn refused(m: Meter, number: u64, place: usize) -> Fed
 {
     Fed {
         meter: m,
-        answer: FeedAnswer {
+        answer: FlatAnswer {
             number,
             place: place as u64,
         },
@@ -217,7 +192,7 @@ pub fn feed_script(version: Version, words: &[u32], weights: &[u8], m: Meter, q:
     let next = moved(version, words, weights, m, q);
     Fed {
         meter: next,
-        answer: FeedAnswer {
+        answer: FlatAnswer {
             number: ACCEPTED,
             place: 0,
         },

@@ -1,6 +1,6 @@
 // The calls. A line has what each is lent, in the order of its parameters.
+use common::c::FlatAnswer;
 use meter::Fed;
-use meter::FeedAnswer;
 use meter::Meter;
 use meter::feed_step;
 use pages::word_at;
@@ -93,7 +93,7 @@ fn straight_on(words: &mut [u32], weights: &mut [u8], m: &mut [u32]) {
     let start = meter_of(m);
     let mut fed = Fed {
         meter: start,
-        answer: FeedAnswer {
+        answer: FlatAnswer {
             number: 0,
             place: 0,
         },

@@ -8,7 +8,7 @@ use findings::longest_in;
 use findings::order_all;
 use findings::place_in;
 use findings::source;
-use pages::Sheet;
+use pages::PageState;
 use pages::first_words;
 use reports::put_rows;
 use reports::put_title;
@@ -24,8 +24,8 @@ pub struct Options {
 }
 
 // How the page stands, and what was counted on it.
-pub struct Tally {
-    pub sheet: Sheet,
+pub struct ToldTally {
+    pub sheet: PageState,
     pub over: u64,
     pub refused: u64,
 }
@@ -57,15 +57,15 @@ fn how_much(o: Options, key: u64) -> Share {
     Share::Whole
 }
 
-fn begun(sheet: Sheet) -> Tally {
-    Tally {
+fn begun(sheet: PageState) -> ToldTally {
+    ToldTally {
         sheet,
         over: 0,
         refused: 0,
     }
 }
 
-fn counted(sheet: Sheet, t: Tally, f: Function, limit: u64) -> Tally {
+fn counted(sheet: PageState, t: ToldTally, f: Function, limit: u64) -> ToldTally {
     let mut over = t.over;
     let mut refused = t.refused;
     if f.number != 0 {
@@ -73,7 +73,7 @@ fn counted(sheet: Sheet, t: Tally, f: Function, limit: u64) -> Tally {
     } else if limit < f.longest {
         over = wrapping_add_u64(over, 1);
     }
-    Tally {
+    ToldTally {
         sheet,
         over,
         refused,
@@ -83,7 +83,7 @@ fn counted(sheet: Sheet, t: Tally, f: Function, limit: u64) -> Tally {
 // Tells of a function.
 fn put_function(
     page: &mut [u8],
-    s: Sheet,
+    s: PageState,
     file: &[u8],
     source: &[u8],
     o: Options,
@@ -92,7 +92,7 @@ fn put_function(
     lines: &[u32],
     lengths: &[u32],
     path: &[u32],
-) -> Sheet {
+) -> PageState {
     if o.is_json {
         return json::put_function(page, s, f, words, lines, lengths, path);
     }
@@ -106,7 +106,7 @@ fn put_function(
 // Tells of a function that is loaded.
 fn tell_loaded(
     page: &mut [u8],
-    t: Tally,
+    t: ToldTally,
     file: &[u8],
     source: &[u8],
     o: Options,
@@ -115,7 +115,7 @@ fn tell_loaded(
     lines: &[u32],
     lengths: &[u32],
     path: &[u32],
-) -> Tally {
+) -> ToldTally {
     let n = f.words;
     let s = t.sheet;
     let sheet = put_function(
@@ -136,12 +136,12 @@ fn tell_loaded(
 // Tells of a function that is not refused by a line of its own.
 fn tell_title(
     page: &mut [u8],
-    t: Tally,
+    t: ToldTally,
     file: &[u8],
     source: &[u8],
     o: Options,
     f: Function,
-) -> Tally {
+) -> ToldTally {
     let s = t.sheet;
     let sheet = put_title(page, s, file, source, f, o.limit, o.is_weighted);
     counted(sheet, t, f, o.limit)
@@ -162,8 +162,8 @@ fn tell_one(
     lengths: &mut [u32],
     path: &mut [u32],
     page: &mut [u8],
-    t: Tally,
-) -> Tally {
+    t: ToldTally,
+) -> ToldTally {
     let much = how_much(o, key);
     match much {
         Share::Nothing => {
@@ -205,8 +205,8 @@ fn tell_all(
     lengths: &mut [u32],
     path: &mut [u32],
     page: &mut [u8],
-    t: Tally,
-) -> Tally {
+    t: ToldTally,
+) -> ToldTally {
     let mut u = t;
     for i in 0..n {
         u = tell_one(
@@ -230,7 +230,7 @@ fn tell_all(
 }
 
 // The last lines: the most that can pass, and how many functions there are, over the limit and refused.
-fn put_sum(page: &mut [u8], t: Tally, o: Options, n: u64, most: u64) -> Sheet {
+fn put_sum(page: &mut [u8], t: ToldTally, o: Options, n: u64, most: u64) -> PageState {
     let s = t.sheet;
     if o.is_json {
         return json::put_sum(page, s, n, t.over, t.refused, most);
@@ -241,14 +241,14 @@ fn put_sum(page: &mut [u8], t: Tally, o: Options, n: u64, most: u64) -> Sheet {
 // A file that is refused: the only line. Whether its bytes end early counts where the number is 15.
 pub fn put_refused(
     page: &mut [u8],
-    s: Sheet,
+    s: PageState,
     file: &[u8],
     o: Options,
     bytes: &[u8],
     refusal: u64,
     place: u64,
     is_cut: bool,
-) -> Sheet {
+) -> PageState {
     if o.is_json {
         return json::put_refused_file(page, s, file, bytes, refusal, place, is_cut);
     }
@@ -256,14 +256,14 @@ pub fn put_refused(
 }
 
 // A file that is longer than the room for it.
-pub fn put_too_long(page: &mut [u8], s: Sheet, file: &[u8], o: Options) -> Sheet {
+pub fn put_too_long(page: &mut [u8], s: PageState, file: &[u8], o: Options) -> PageState {
     if o.is_json {
         return json::put_too_long(page, s, file);
     }
     reports::put_too_long(page, s, file)
 }
 
-fn put_head(page: &mut [u8], s: Sheet, file: &[u8], source: &[u8], o: Options) -> Sheet {
+fn put_head(page: &mut [u8], s: PageState, file: &[u8], source: &[u8], o: Options) -> PageState {
     if o.is_json {
         return json::put_head(page, s, file, source, o.limit, o.is_weighted);
     }
@@ -281,8 +281,8 @@ fn tell_sorted(
     keys: &[u64],
     n: usize,
     page: &mut [u8],
-    s: Sheet,
-) -> Sheet {
+    s: PageState,
+) -> PageState {
     let mut words = findings::words();
     let mut lines = findings::words();
     let mut marks = findings::marks();
@@ -321,8 +321,8 @@ pub fn tell(
     keys: &mut [u64],
     n: usize,
     page: &mut [u8],
-    s: Sheet,
-) -> Sheet {
+    s: PageState,
+) -> PageState {
     order_all(bytes, weights, places, n, keys);
     tell_sorted(bytes, file, o, weights, places, keys, n, page, s)
 }

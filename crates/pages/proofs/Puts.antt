@@ -6,10 +6,10 @@ use native.Mathlib.Omega.{arith}
 use lib.ListN.{length, take, replicate, length-append}
 use Rattle.common.specs.Lists.{put}
 use Rattle.common.proofs.Put.{put-laws}
-use Rattle.pages.specs.declared.text.Sheet.{Sheet}
+use Rattle.pages.specs.declared.text.PageState.{PageState}
 use Rattle.pages.specs.Text.{Puts}
 
-pub puts-then : (page page₁ page₂ a b : List ℕ) (s s₁ s₂ : Sheet)
+pub puts-then : (page page₁ page₂ a b : List ℕ) (s s₁ s₂ : PageState)
     → Puts page s a page₁ s₁ → Puts page₁ s₁ b page₂ s₂ → Puts page s (a ++ b) page₂ s₂
 unfolding Puts
 puts-then page page₁ page₂ a b s s₁ s₂ p q h =

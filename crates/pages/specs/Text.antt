@@ -7,10 +7,10 @@ use Prim.Native.Nat.{ℕ, _+_, _-_, _≤_}
 use lib.ListN.{length, replicate}
 use Rattle.io.specs.Digits.{digits, Fewest}
 use Rattle.common.specs.Lists.{put}
-use Rattle.pages.specs.declared.text.Sheet.{Sheet}
+use Rattle.pages.specs.declared.text.PageState.{PageState}
 
 -- text that fits stands on the page afterwards, right behind what stood there, and nothing else has changed
-unfoldable pub Puts : List ℕ → Sheet → List ℕ → List ℕ → Sheet → Type 0
+unfoldable pub Puts : List ℕ → PageState → List ℕ → List ℕ → PageState → Type 0
 Puts page s text page′ s′ =
     s .at + length text ≤ length page
     → (page′ ≡ put page (s .at) text) × (s′ .at ≡ s .at + length text) × (s′ .«is_lost» ≡ s .«is_lost»)
@@ -22,14 +22,15 @@ pub record Decimal (n : ℕ) (text : List ℕ) : Type 0 where
   pub is : text ≡ digits 10 count n
 
 -- they are put
-pub record PutsNumber (n : ℕ) (page : List ℕ) (s : Sheet) (page′ : List ℕ) (s′ : Sheet) : Type 0 where
+pub record PutsNumber (n : ℕ) (page : List ℕ) (s : PageState) (page′ : List ℕ) (s′ : PageState) : Type 0 where
   pub text : List ℕ
   pub decimal : Decimal n text
   pub puts : Puts page s text page′ s′
 
 -- the same at the right of six columns, blanks to its left, and other text behind it; it is wider where the
 -- number has more digits
-pub record PutsCell (n : ℕ) (after page : List ℕ) (s : Sheet) (page′ : List ℕ) (s′ : Sheet) : Type 0 where
+pub record PutsCell (n : ℕ) (after page : List ℕ) (s : PageState) (page′ : List ℕ)
+    (s′ : PageState) : Type 0 where
   pub text : List ℕ
   pub decimal : Decimal n text
   pub puts : Puts page s (replicate (6 - length text) 32 ++ (text ++ after)) page′ s′

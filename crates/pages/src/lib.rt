@@ -11,7 +11,7 @@ pub use parts::first_words;
 pub use parts::is_same;
 pub use parts::rest;
 pub use parts::word_at;
-pub use text::Sheet;
+pub use text::PageState;
 pub use text::blank;
 pub use text::cell;
 pub use text::fill;

@@ -11,14 +11,14 @@ use libc::STDOUT_FILENO;
 use std::num::wrapping_add_usize;
 
 // How much of the page is filled, and whether a write has failed.
-pub struct Sheet {
+pub struct PageState {
     pub at: usize,
     pub is_lost: bool,
 }
 
 // Nothing is on the page, nothing is lost.
-pub fn blank() -> Sheet {
-    Sheet {
+pub fn blank() -> PageState {
+    PageState {
         at: 0,
         is_lost: false,
     }
@@ -45,29 +45,29 @@ fn write(text: &[u8], is_lost: bool) -> bool {
 }
 
 // Writes out what is on the page.
-pub fn finish(page: &[u8], s: Sheet) -> Sheet {
+pub fn finish(page: &[u8], s: PageState) -> PageState {
     let is_lost = write(first(page, s.at), s.is_lost);
-    Sheet { at: 0, is_lost }
+    PageState { at: 0, is_lost }
 }
 
 // Text on a page that has no room left for it: what is there goes out first, and the text by itself where
 // it is longer than the page.
-fn put_over(page: &mut [u8], s: Sheet, text: &[u8]) -> Sheet {
+fn put_over(page: &mut [u8], s: PageState, text: &[u8]) -> PageState {
     let f = finish(page, s);
     if page.len() < text.len() {
-        return Sheet {
+        return PageState {
             at: 0,
             is_lost: write(text, f.is_lost),
         };
     }
     copy(page, 0, text);
-    Sheet {
+    PageState {
         at: text.len(),
         is_lost: f.is_lost,
     }
 }
 
-pub fn put(page: &mut [u8], s: Sheet, text: &[u8]) -> Sheet
+pub fn put(page: &mut [u8], s: PageState, text: &[u8]) -> PageState
     ensures { λ r. ⌜ Puts (now (page .entry)) s (now (text .entry)) (now (page .exit)) r ⌝ }
 {
     let at = s.at;
@@ -78,14 +78,14 @@ pub fn put(page: &mut [u8], s: Sheet, text: &[u8]) -> Sheet
         return put_over(page, s, text);
     }
     copy(page, at, text);
-    Sheet {
+    PageState {
         at: at + text.len(),
         is_lost: s.is_lost,
     }
 }
 
 // A number in as many digits as it has.
-pub fn number(page: &mut [u8], s: Sheet, n: u64) -> Sheet
+pub fn number(page: &mut [u8], s: PageState, n: u64) -> PageState
     ensures { λ r. ⌜ PutsNumber n (now (page .entry)) s (now (page .exit)) r ⌝ }
 {
     let mut digits = [0u8; 20];
@@ -94,7 +94,7 @@ pub fn number(page: &mut [u8], s: Sheet, n: u64) -> Sheet
 }
 
 // Text in which each # stands for the next of the numbers.
-pub fn fill(page: &mut [u8], s: Sheet, text: &[u8], numbers: [u64; 4]) -> Sheet {
+pub fn fill(page: &mut [u8], s: PageState, text: &[u8], numbers: [u64; 4]) -> PageState {
     let mut t = s;
     let mut from = 0;
     for i in 0..4 {
@@ -111,7 +111,7 @@ pub fn fill(page: &mut [u8], s: Sheet, text: &[u8], numbers: [u64; 4]) -> Sheet 
 }
 
 // Blanks for so many of six columns as a number of k digits leaves.
-fn indent(page: &mut [u8], s: Sheet, k: usize) -> Sheet
+fn indent(page: &mut [u8], s: PageState, k: usize) -> PageState
     ensures { λ r. ⌜ Puts (now (page .entry)) s (replicate (6 - k) 32) (now (page .exit)) r ⌝ }
 {
     let blanks = [b' '; 6];
@@ -123,7 +123,7 @@ fn indent(page: &mut [u8], s: Sheet, k: usize) -> Sheet
 
 // A number at the right of a column of six, blanks to the left, and what stands behind it; wider where the
 // number has more digits.
-pub fn cell(page: &mut [u8], s: Sheet, n: u64, after: &[u8]) -> Sheet
+pub fn cell(page: &mut [u8], s: PageState, n: u64, after: &[u8]) -> PageState
     ensures { λ r. ⌜
         PutsCell n (now (after .entry)) (now (page .entry)) s (now (page .exit)) r ⌝ }
 {

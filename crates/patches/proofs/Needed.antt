@@ -16,8 +16,8 @@ use Rattle.graph.specs.Longest.{within, heaviest, lengthOf, most, longest, firs
 use Rattle.graph.proofs.Laws as graph
 use Rattle.runs.specs.Script.{scriptOf, graphOf}
 use Rattle.sweep.specs.Steps.{unless, one, ordered, two, servesOf}
-use Rattle.runs.specs.Successors.{opcodeAt, isBetween, companionPresent, successorsOf}
-use Rattle.runs.specs.Successors53 as steps53
+use Rattle.steps.specs.Successors.{opcodeAt, isBetween, companionPresent, successorsOf}
+use Rattle.steps.specs.Successors53 as steps53
 use Rattle.runs.specs.Weights.{lowestZero, refusesWeights}
 use Rattle.runs.specs.Run.{numberOf, lowestInvalid, runOf}
 use Rattle.runs.proofs.Laws.{laws}

@@ -16,7 +16,7 @@ use Rattle.fields.proofs.Laws as fields
 use Rattle.graph.specs.Graph.{In}
 use Rattle.sweep.specs.declared.edges.Successors.{Successors}
 use Rattle.sweep.specs.Steps.{unless, one, two, isInvalid, listOf}
-use Rattle.runs.specs.Successors53.{opcodeAt, nextOf, standsAt, companionPresent, successorsOf}
+use Rattle.steps.specs.Successors53.{opcodeAt, nextOf, standsAt, companionPresent, successorsOf}
 use Rattle.patches.specs.Reading.{SameAt}
 use Rattle.patches.specs.Reading53.{speaksOfNext, looksAtNext, SameAround, Reading}
 use Rattle.patches.proofs.Reading.{holds, through, Onward, one-there, two-there, onward-by}

@@ -60,8 +60,8 @@ abbrev pub prepare : ℕ
 prepare = 32843
 
 -- with x at word 2, the word that TFORPREP at word 0 enters
-abbrev pub entered : ℕ → List ℕ
-entered x = prepare ∷ «OP_MOVE» ∷ x ∷ «OP_TFORLOOP» ∷ «OP_RETURN0» ∷ []
+abbrev pub enteredLoop : ℕ → List ℕ
+enteredLoop x = prepare ∷ «OP_MOVE» ∷ x ∷ «OP_TFORLOOP» ∷ «OP_RETURN0» ∷ []
 
 -- the lists differ only in words that are neither reachable in the first nor right before a reachable one
 abbrev pub DifferBeforeNone : Version → List ℕ → List ℕ → Type 0
@@ -105,8 +105,8 @@ pub record Needed : Type 0 where
       → runOf (scriptOf version ws) weights marks lengths ≡ runOf (scriptOf version vs) weights marks lengths
   -- a word that is dead by the second list alone: "TFORPREP 75 .. that word is TFORCALL"
   pub second-unreachable :
-      (markOf (graphOf (lua54 (entered «OP_MOVE»))) 1 ≡ 0)
-      × (markOf (graphOf (lua54 (entered «OP_MOVE»))) 2 ≡ 0)
-      × (markOf (graphOf (lua54 (entered «OP_MOVE»))) 3 ≡ 0)
-  pub second-accepted : runAlone Lua54 (entered «OP_TFORCALL») ≡ Accepted 4 0
-  pub second-refused : runAlone Lua54 (entered «OP_MOVE») ≡ Refused «REACHES_INVALID» 0
+      (markOf (graphOf (lua54 (enteredLoop «OP_MOVE»))) 1 ≡ 0)
+      × (markOf (graphOf (lua54 (enteredLoop «OP_MOVE»))) 2 ≡ 0)
+      × (markOf (graphOf (lua54 (enteredLoop «OP_MOVE»))) 3 ≡ 0)
+  pub second-accepted : runAlone Lua54 (enteredLoop «OP_TFORCALL») ≡ Accepted 4 0
+  pub second-refused : runAlone Lua54 (enteredLoop «OP_MOVE») ≡ Refused «REACHES_INVALID» 0

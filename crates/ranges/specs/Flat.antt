@@ -2,7 +2,7 @@
 -- Assumes nothing.
 use Rattle.runs.specs.declared.range.RunRange.{RunRange}
 use Rattle.runs.specs.declared.range.RunRange.the-variants.{Accepted, Refused}
-use Rattle.ranges.specs.declared.FlatRange.{FlatRange}
+use Rattle.ranges.specs.declared.c.FlatRange.{FlatRange}
 
 -- number and place, L and its first word by the low table and by the high one. "On refusal L
 -- and its first word are 0"

@@ -331,7 +331,7 @@ module _ (n : ℕ) (tags payloads names : List ℕ) (bytes room : ℕ) where
   named : (i : ℕ) → (namePastAt names bytes i ≡ true) ↔ ((getD names i 0 ≡ 2 ^ 64 - 1 → ⊥) × EndsPast bytes (getD names i 0))
   named = name-says tags payloads names bytes
 
-  counted : ltb mostWords n ≡ false → differ ≡ false → ltb mostConstants (length tags) ≡ false → order.Counted n tags payloads names bytes room
+  counted : ltb mostWords n ≡ false → differ ≡ false → ltb mostConstants (length tags) ≡ false → order.TablesCounted n tags payloads names bytes room
   counted a b c = (few a, (same b, ltb-false mostConstants (length tags) c))
 
   no-unknown : ltb (firstUnknownTag tags) (length tags) ≡ false → (i : ℕ) → UnknownAt n tags payloads names bytes room i → ⊥

@@ -22,7 +22,7 @@ use Rattle.families.specs.declared.builders.Body.{Body}
 use Rattle.families.specs.Shapes.{operandsOf, readsOf, writesOf, body}
 use Rattle.families.specs.Parts.{constant, upvalue, upvalueTarget, rk, rkTarget, countLess, arguments, results}
 use Rattle.families.specs.Families as F
-use Rattle.records.specs.Lift.{loads, tables, arithmetic, control, calls, bodyOf, liftOf}
+use Rattle.records.specs.Lift.{loads, tables, arithmetic, control, calls, recordBody, liftOf}
 use Rattle.records.specs.Sources.{operandIn, targetIn, immediateFloat, Sources}
 
 module _ (tags payloads names : List ℕ) (float : Float) where
@@ -182,7 +182,7 @@ module _ (tags payloads names : List ℕ) (float : Float) where
     a-load : (value : TypedOperand) (effect : ImplicitEffect) → FromOperand value → From (F.load raw value effect)
     a-load value effect h = pushed _ _ _ _ _ (tt, (h, tt)) tt (tt, tt)
 
-    a-load-constant : (i : ℕ) (effect : ImplicitEffect) → From (F.loadConstant tags payloads raw i effect)
+    a-load-constant : (i : ℕ) (effect : ImplicitEffect) → From (F.loadConstantBody tags payloads raw i effect)
     a-load-constant i effect = pushed _ _ _ _ _ (tt, (a-constant i, tt)) (tt, tt) (tt, tt)
 
     a-loadnil : From (F.loadnil raw)
@@ -344,12 +344,12 @@ module _ (tags payloads names : List ℕ) (float : Float) where
         (either _ _ _ (a-closure raw)
         (either _ _ _ (a-vararg raw) (either _ _ _ (a-varargprep raw) (either _ _ _ (an-extraarg raw) (a-bare _)))))))))))))))
 
-    in-body : ofInt binary64 (raw .sbx) ≡ float → From (bodyOf words tags payloads names pc word raw opcode)
-    unfolding bodyOf
+    in-body : ofInt binary64 (raw .sbx) ≡ float → From (recordBody words tags payloads names pc word raw opcode)
+    unfolding recordBody
     in-body e = either _ _ _ (in-loads e) (either _ _ _ in-tables (either _ _ _ in-arithmetic (either _ _ _ in-control in-calls)))
 
 module _ (words tags payloads names : List ℕ) (pc : ℕ) where
-  abbrev all : From tags payloads names (immediateFloat words pc) (bodyOf words tags payloads names pc (getD words pc 0) (fieldsOf (getD words pc 0)) (opcodeOf (getD words pc 0)))
+  abbrev all : From tags payloads names (immediateFloat words pc) (recordBody words tags payloads names pc (getD words pc 0) (fieldsOf (getD words pc 0)) (opcodeOf (getD words pc 0)))
   all = in-body tags payloads names (immediateFloat words pc) words pc (getD words pc 0) (fieldsOf (getD words pc 0)) (opcodeOf (getD words pc 0)) refl
 
   pub sources : Sources words tags payloads names pc

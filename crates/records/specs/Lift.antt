@@ -62,9 +62,9 @@ loads words tags payloads pc raw opcode =
     choose (eqb opcode op.«OP_MOVE») (F.unary raw)
     (choose (eqb opcode op.«OP_LOADI») (F.load raw (O.ImmediateInt (raw .sbx)) NoEffect)
     (choose (eqb opcode op.«OP_LOADF») (F.load raw (O.ImmediateFloat (ofInt binary64 (raw .sbx))) NoEffect)
-    (choose (eqb opcode op.«OP_LOADK») (F.loadConstant tags payloads raw (raw .bx) NoEffect)
+    (choose (eqb opcode op.«OP_LOADK») (F.loadConstantBody tags payloads raw (raw .bx) NoEffect)
     (choose (eqb opcode op.«OP_LOADKX»)
-    (F.loadConstant tags payloads raw (extendedIndex words pc) (CompanionPair (pc + 1) role.ExtraArg))
+    (F.loadConstantBody tags payloads raw (extendedIndex words pc) (CompanionPair (pc + 1) role.ExtraArg))
     (choose (eqb opcode op.«OP_LOADFALSE») (F.load raw (O.Flag false) NoEffect)
     (choose (eqb opcode op.«OP_LFALSESKIP») (F.load raw (O.Flag false) (ConditionalSkip (pc + 2)))
     (choose (eqb opcode op.«OP_LOADTRUE») (F.load raw (O.Flag true) NoEffect)
@@ -140,8 +140,8 @@ calls pc word raw opcode =
     -- unknown
     (F.bare NoEffect)))))))))))))))
 
-unfoldable pub bodyOf : List ℕ → List ℕ → List ℕ → List ℕ → ℕ → ℕ → RawInstruction54 → ℕ → Body
-bodyOf words tags payloads names pc word raw opcode =
+unfoldable pub recordBody : List ℕ → List ℕ → List ℕ → List ℕ → ℕ → ℕ → RawInstruction54 → ℕ → Body
+recordBody words tags payloads names pc word raw opcode =
     choose (leb opcode op.«OP_LOADNIL») (loads words tags payloads pc raw opcode)
     (choose (leb opcode op.«OP_SELF») (tables tags payloads names raw opcode)
     (choose (leb opcode op.«OP_CONCAT») (arithmetic tags payloads pc raw opcode)
@@ -194,7 +194,7 @@ recordOf pc word body =
 
 abbrev pub liftWordOf : List ℕ → List ℕ → List ℕ → List ℕ → ℕ → ℕ → SemanticInstruction
 liftWordOf words tags payloads names pc word =
-    recordOf pc word (bodyOf words tags payloads names pc word (fieldsOf word) (opcodeOf word))
+    recordOf pc word (recordBody words tags payloads names pc word (fieldsOf word) (opcodeOf word))
 
 -- the record of word pc
 unfoldable pub liftOf : List ℕ → List ℕ → List ℕ → List ℕ → ℕ → SemanticInstruction

@@ -45,26 +45,26 @@ module _ (n : ℕ) (tags payloads names : List ℕ) (bytes room : ℕ) where
   abbrev pub Few : Type 0
   Few = n ≤ 32768
 
-  abbrev pub Counted : Type 0
-  Counted = Few × ((length tags ≡ length payloads) × (length tags ≤ 65536))
+  abbrev pub TablesCounted : Type 0
+  TablesCounted = Few × ((length tags ≡ length payloads) × (length tags ≤ 65536))
 
   abbrev pub Tagged : Type 0
-  Tagged = Counted × Nowhere UnknownAt
+  Tagged = TablesCounted × Nowhere UnknownAt
 
-  abbrev pub Placed : Type 0
-  Placed = Tagged × Nowhere StringPastAt
+  abbrev pub StringsPlaced : Type 0
+  StringsPlaced = Tagged × Nowhere StringPastAt
 
   abbrev pub Named : Type 0
-  Named = Placed × ((length names ≤ 255) × Nowhere NamePastAt)
+  Named = StringsPlaced × ((length names ≤ 255) × Nowhere NamePastAt)
 
   pub record Order : Type 0 where
     pub one : (number ≡ 1) ↔ (32768 < n)
     -- "tag and payload counts differ, or over 65,536"
     pub two : (number ≡ 2) ↔ (Few × ((length tags ≡ length payloads → ⊥) ⊎ (65536 < length tags)))
-    pub three : (number ≡ 3) ↔ (Counted × ((i : ℕ) × UnknownAt i))
+    pub three : (number ≡ 3) ↔ (TablesCounted × ((i : ℕ) × UnknownAt i))
     pub four : (number ≡ 4) ↔ (Tagged × ((i : ℕ) × StringPastAt i))
     -- "over 255 names, or a name past the string bytes"
-    pub five : (number ≡ 5) ↔ (Placed × ((255 < length names) ⊎ ((i : ℕ) × NamePastAt i)))
+    pub five : (number ≡ 5) ↔ (StringsPlaced × ((255 < length names) ⊎ ((i : ℕ) × NamePastAt i)))
     -- "a lent result slice shorter than the words"
     pub six : (number ≡ 6) ↔ (Named × (room < n))
     pub accepted : (number ≡ 0) ↔ (Named × (n ≤ room))

@@ -22,17 +22,17 @@ use Rattle.records.specs.Lift.{liftOf}
 use Rattle.records.specs.Refusals.{answerOf, planOf}
 
 -- the records of the first n words, in the first n places of a list
-abbrev pub filled : List ℕ → List ℕ → List ℕ → List ℕ → ℕ → List SemanticInstruction
+abbrev pub filledRecords : List ℕ → List ℕ → List ℕ → List ℕ → ℕ → List SemanticInstruction
     → List SemanticInstruction
-filled words tags payloads names zero records = records
-filled words tags payloads names (suc pc) records =
-    set (filled words tags payloads names pc records) pc (liftOf words tags payloads names pc)
+filledRecords words tags payloads names zero records = records
+filledRecords words tags payloads names (suc pc) records =
+    set (filledRecords words tags payloads names pc records) pc (liftOf words tags payloads names pc)
 
 -- the caller's records afterwards, as many as the plan says
 abbrev pub recordsAfter : List ℕ → List ℕ → List ℕ → List ℕ → ℕ → List SemanticInstruction
     → List SemanticInstruction
 recordsAfter words tags payloads names bytes records =
-    filled words tags payloads names
+    filledRecords words tags payloads names
     (planOf (length words) tags payloads names bytes (length records) .count) records
 
 -- What that list is, element by element: `d` stands for what is read past its end.

@@ -12,7 +12,7 @@ ghost use Rattle.records.specs.Lift.{
   arithmetic,
   control,
   calls,
-  bodyOf,
+  recordBody,
 };
 use families::arithmetic::*;
 use families::builders::Body;
@@ -247,7 +247,7 @@ pub(crate) fn lift_body(
     opcode: u8,
 ) -> Body
     requires { ⌜ pc < mostWords ⌝ }
-    ensures { λ r. ⌜ r ≡ bodyOf (now (words .entry)) (now (tags .entry)) (now (payloads .entry))
+    ensures { λ r. ⌜ r ≡ recordBody (now (words .entry)) (now (tags .entry)) (now (payloads .entry))
         (now (names .entry)) pc word raw opcode ⌝ }
 {
     if opcode <= OP_LOADNIL {

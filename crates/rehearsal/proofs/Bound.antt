@@ -15,8 +15,8 @@ use Rattle.rehearsal.specs.declared.machine.Task.{Task}
 use Rattle.rehearsal.specs.declared.machine.Move.{Move}
 use Rattle.rehearsal.specs.declared.machine.Move.the-variants.{Return, Starve, Go}
 use Rattle.rehearsal.specs.Machine.{Event, State, Step, halt, ran, taskAt, moveOf, moved, stepFrom, followed, trace, tasksFrom, startOf}
-use Rattle.rehearsal.specs.Waits.{waitsSince, waitsOf, longestOf, longestWait}
-use Rattle.rehearsal.specs.Bound.{AllAtMost, Bounded}
+use Rattle.rehearsal.specs.Waits.{waitsSince, waitsOf, longestOfWaits, longestWait}
+use Rattle.rehearsal.specs.Bound.{AllAtMost, WaitsBounded}
 
 -- script i, after n words of others, waits at most b in all if each task before its own takes q
 abbrev Fits : ℕ → ℕ → ℕ → ℕ → List Task → Type 0
@@ -185,7 +185,7 @@ from-first b i n (e ∷ es) a = go (eqb (e .script) i) (eqb (e .nth) 0) a (from-
   go true false a more = a
   go false y a more = more a
 
-longest-most : (b : ℕ) (ws : List ℕ) → AllAtMost b ws → longestOf ws ≤ b
+longest-most : (b : ℕ) (ws : List ℕ) → AllAtMost b ws → longestOfWaits ws ≤ b
 longest-most b [] a = omega arith
 longest-most b (w ∷ ws) a = max-le (a .0) (longest-most b ws (a .1))
 
@@ -193,7 +193,7 @@ length-tasks : (i k : ℕ) → length (tasksFrom i k) ≡ k
 length-tasks i zero = refl
 length-tasks i (suc k) = ap suc (length-tasks (suc i) k)
 
-pub bounded : (graphs : ℕ → Graph) (k q : ℕ) (choices : List ℕ) (limit : ℕ) → 0 < q → Bounded graphs k q choices limit
+pub bounded : (graphs : ℕ → Graph) (k q : ℕ) (choices : List ℕ) (limit : ℕ) → 0 < q → WaitsBounded graphs k q choices limit
 unfolding longestWait
 bounded graphs k q choices limit some =
     let ran = trace graphs q choices limit (startOf k) in

@@ -9,11 +9,11 @@ use Rattle.common.proofs.Order.{split, same-or-not}
 use Rattle.graph.specs.Graph.{Graph}
 use Rattle.rehearsal.specs.Machine.{Event}
 use Rattle.rehearsal.specs.Schedule as S
-use Rattle.rehearsal.specs.Schedule.{needed, Between}
+use Rattle.rehearsal.specs.Schedule.{needed, BetweenInTurn}
 use Rattle.rehearsal.proofs.Schedule.{leads-once}
 
 -- of two scripts one comes first after a
-first-of : (a s t : ℕ) → (s ≡ t → ⊥) → Between a s t ⊎ Between a t s
+first-of : (a s t : ℕ) → (s ≡ t → ⊥) → BetweenInTurn a s t ⊎ BetweenInTurn a t s
 first-of a s t n =
     ⊎-elim
     (λ low. ⊎-elim
@@ -31,7 +31,7 @@ first-of a s t n =
     (split s t))
     (split t a))
     (split s a) where
-      inl′ : (a low high : ℕ) → low ≤ a → a < high → Between a high low
+      inl′ : (a low high : ℕ) → low ≤ a → a < high → BetweenInTurn a high low
       inl′ a low high l h = inr (l, inl h)
 
 same-event : (f g : Event) → f .script ≡ g .script → f .word ≡ g .word → f .nth ≡ g .nth → f ≡ g

@@ -14,21 +14,21 @@ use Rattle.graph.specs.Graph.{Graph, In, Lawful, Along, Path}
 use Rattle.rehearsal.specs.Machine.{Event}
 use Rattle.rehearsal.specs.Waits.{waitsSince, waitsOf, turnsOf}
 use Rattle.rehearsal.specs.Schedule as S
-use Rattle.rehearsal.specs.Paths.{wordsOf, OnPath}
+use Rattle.rehearsal.specs.Paths.{eventWords, OnPath}
 
 -- an event of the trace is among its script's words
-pub in-words : (e : Event) (es : List Event) → In e es → In (e .word) (wordsOf (e .script) es)
+pub in-words : (e : Event) (es : List Event) → In e es → In (e .word) (eventWords (e .script) es)
 in-words e [] h = absurd h
 in-words e (f ∷ es) h = go (eqb (f .script) (e .script)) refl h (in-words e es) where
-  go : (x : Bool) → eqb (f .script) (e .script) ≡ x → In e (f ∷ es) → (In e es → In (e .word) (wordsOf (e .script) es))
-      → In (e .word) (cond x (f .word ∷ wordsOf (e .script) es) (wordsOf (e .script) es))
+  go : (x : Bool) → eqb (f .script) (e .script) ≡ x → In e (f ∷ es) → (In e es → In (e .word) (eventWords (e .script) es))
+      → In (e .word) (cond x (f .word ∷ eventWords (e .script) es) (eventWords (e .script) es))
   go true p h more = ⊎-elim (λ d. inl (ap (λ (g : Event). g .word) d)) (λ d. inr (more d)) h
   go false p h more =
       ⊎-elim (λ d. absurd (eqb-false _ _ p (ap (λ (g : Event). g .script) (sym d)))) (λ d. more d) h
 
 module _ (graphs : ℕ → Graph) (k q : ℕ) (choices : List ℕ) (limit : ℕ) where
   abbrev LeadsTo : List ℕ → ℕ → ℕ → Type 0
-  LeadsTo = S.LeadsTo graphs k q choices limit
+  LeadsTo = S.EventLeadsTo graphs k q choices limit
 
   abbrev At : List Event → ℕ → ℕ → Type 0
   At = S.At graphs k q choices limit
@@ -73,12 +73,12 @@ module _ (graphs : ℕ → Graph) (k q : ℕ) (choices : List ℕ) (limit : ℕ)
 
     module _ (law : Lawful (graphs i)) (some : 0 < graphs i .size) where
       along : (before es : List Event) (p : ℕ) → p < graphs i .size → From before p → Scheduled before es
-          → Along (graphs i) p (wordsOf i es)
+          → Along (graphs i) p (eventWords i es)
       along before [] p h from s = h
       along before (f ∷ es) p h from s = go (eqb (f .script) i) refl (λ r l g. along (f ∷ before) es r l g (s .1)) where
         go : (x : Bool) → eqb (f .script) i ≡ x
-            → ((r : ℕ) → r < graphs i .size → From (f ∷ before) r → Along (graphs i) r (wordsOf i es))
-            → Along (graphs i) p (cond x (f .word ∷ wordsOf i es) (wordsOf i es))
+            → ((r : ℕ) → r < graphs i .size → From (f ∷ before) r → Along (graphs i) r (eventWords i es))
+            → Along (graphs i) p (cond x (f .word ∷ eventWords i es) (eventWords i es))
         go true e more =
             let own : f .script ≡ i = eqb-true _ _ e in
             let next : In (f .word) (graphs i .successors p) = from (f .word) (at-own before f own (s .0 .due .at)) in
@@ -90,9 +90,9 @@ module _ (graphs : ℕ → Graph) (k q : ℕ) (choices : List ℕ) (limit : ℕ)
       on-path before [] from s = inl refl
       on-path before (f ∷ es) from s = go (eqb (f .script) i) refl (λ g. on-path (f ∷ before) es g (s .1)) where
         go : (x : Bool) → eqb (f .script) i ≡ x
-            → (((w : ℕ) → At (f ∷ before) i w → w ≡ 0) → (wordsOf i es ≡ []) ⊎ Path (graphs i) (wordsOf i es))
-            → (cond x (f .word ∷ wordsOf i es) (wordsOf i es) ≡ [])
-            ⊎ Path (graphs i) (cond x (f .word ∷ wordsOf i es) (wordsOf i es))
+            → (((w : ℕ) → At (f ∷ before) i w → w ≡ 0) → (eventWords i es ≡ []) ⊎ Path (graphs i) (eventWords i es))
+            → (cond x (f .word ∷ eventWords i es) (eventWords i es) ≡ [])
+            ⊎ Path (graphs i) (cond x (f .word ∷ eventWords i es) (eventWords i es))
         go true e more =
             let own : f .script ≡ i = eqb-true _ _ e in
             let zero : f .word ≡ 0 = from (f .word) (at-own before f own (s .0 .due .at)) in
@@ -105,7 +105,7 @@ module _ (graphs : ℕ → Graph) (k q : ℕ) (choices : List ℕ) (limit : ℕ)
     Apart (e ∷ before) = e .script ≡ i → ⊥
 
     starts : (before : List Event) (f : Event) → Apart before → f .script ≡ i
-        → S.Next graphs k q choices limit before (f .script) (f .nth)
+        → S.NextEvent graphs k q choices limit before (f .script) (f .nth)
         → f .nth ≡ 0
     starts [] f a e n = n .1
     starts (g ∷ before) f a e n = ⊎-elim (λ x. absurd (a (sym (x .same) ∙ e))) (λ x. x .starts) n

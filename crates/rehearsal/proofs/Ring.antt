@@ -8,7 +8,7 @@ use Prim.Native.Nat.{ℕ, zero, suc, _≤_, _<_}
 use native.Mathlib.Omega.{arith}
 use Rattle.rehearsal.specs.declared.machine.Task.{Task}
 use Rattle.rehearsal.specs.Machine.{taskAt, tasksFrom}
-use Rattle.rehearsal.specs.Schedule.{Between}
+use Rattle.rehearsal.specs.Schedule.{BetweenInTurn}
 
 -- script j is in the queue
 abbrev pub Has : ℕ → List Task → Type 0
@@ -119,19 +119,19 @@ order-rotates t to (u ∷ us) o =
 pub first-once : (t : Task) (ts : List Task) (j : ℕ) → Order (t ∷ ts) → Has j ts → t .script ≡ j → ⊥
 first-once t ts j o h e = ⊎-elim (λ l. omega arith) (λ l. omega arith) (ring-range (t .script) (t .script) j ts o h)
 
-not-rising : (a b j : ℕ) → a < b → Between a j b → (b ≤ j) ⊎ (j ≤ a) → ⊥
+not-rising : (a b j : ℕ) → a < b → BetweenInTurn a j b → (b ≤ j) ⊎ (j ≤ a) → ⊥
 not-rising a b j h m n =
     ⊎-elim
     (λ x. ⊎-elim (λ l. omega (arith, x .0, x .1)) (λ l. omega (arith, x .0, x .1)) n)
     (λ x. omega (arith, x .0))
     m
 
-not-wrapped : (a b j : ℕ) → b ≤ a → Between a j b → b ≤ j → j ≤ a → ⊥
+not-wrapped : (a b j : ℕ) → b ≤ a → BetweenInTurn a j b → b ≤ j → j ≤ a → ⊥
 not-wrapped a b j h m l u =
     ⊎-elim (λ x. omega (arith, x .0, x .1)) (λ x. ⊎-elim (λ y. omega arith) (λ y. omega arith) (x .1)) m
 
 -- nobody stands between the first and the second, the first itself neither
-pub passed : (t u : Task) (us : List Task) (j : ℕ) → Order (t ∷ u ∷ us) → Between (t .script) j (u .script)
+pub passed : (t u : Task) (us : List Task) (j : ℕ) → Order (t ∷ u ∷ us) → BetweenInTurn (t .script) j (u .script)
     → Has j (u ∷ us) ⊎ (t .script ≡ j) → ⊥
 passed t u us j o m h =
     ⊎-elim
@@ -162,7 +162,7 @@ passed t u us j o m h =
           (λ e. (omega (arith, x .0), omega arith))
           h
 
-pub alone : (a j : ℕ) → Between a j a → a ≡ j → ⊥
+pub alone : (a j : ℕ) → BetweenInTurn a j a → a ≡ j → ⊥
 alone a j m e = not-wrapped a a j (omega arith) m (omega arith) (omega arith)
 
 ring-start : (first i n : ℕ) → Ring first i (tasksFrom (suc i) n)

@@ -20,7 +20,7 @@ use Rattle.rehearsal.proofs.Ring.{Has, has-append, has-last, Order, ord
 
 module _ (graphs : ℕ → Graph) (k q : ℕ) (choices : List ℕ) (limit : ℕ) where
   abbrev stepsOf : Event → List ℕ
-  stepsOf = S.stepsOf graphs k q choices limit
+  stepsOf = S.eventSteps graphs k q choices limit
 
   abbrev usedUp : List Event → ℕ
   usedUp = S.usedUp graphs k q choices limit
@@ -29,7 +29,7 @@ module _ (graphs : ℕ → Graph) (k q : ℕ) (choices : List ℕ) (limit : ℕ)
   Returned = S.Returned graphs k q choices limit
 
   abbrev LeadsTo : List ℕ → ℕ → ℕ → Type 0
-  LeadsTo = S.LeadsTo graphs k q choices limit
+  LeadsTo = S.EventLeadsTo graphs k q choices limit
 
   abbrev At : List Event → ℕ → ℕ → Type 0
   At = S.At graphs k q choices limit
@@ -38,7 +38,7 @@ module _ (graphs : ℕ → Graph) (k q : ℕ) (choices : List ℕ) (limit : ℕ)
   TurnEnds = S.TurnEnds graphs k q choices limit
 
   abbrev Next : List Event → ℕ → ℕ → Type 0
-  Next = S.Next graphs k q choices limit
+  Next = S.NextEvent graphs k q choices limit
 
   abbrev Due : List Event → Event → Type 0
   Due = S.Due graphs k q choices limit

@@ -20,8 +20,8 @@ use Rattle.rehearsal.specs.declared.machine.Tallies.{Tallies}
 use Rattle.rehearsal.specs.declared.machine.Queue.{Queue}
 use Rattle.rehearsal.specs.declared.machine.Stage.{Stage}
 use Rattle.rehearsal.specs.Machine.{Event, State, taskAt, moveOf, trace, tasksFrom, startOf}
-use Rattle.rehearsal.specs.Waits.{waitsSince, waitsOf, longestOf, longestWait}
-use Rattle.rehearsal.specs.Running.{turned, turnOf, tallyAt, withTally, notedTally, noted, queueOf, withoutFirst, toTheEnd, staged, firstTurn, nextStage, newTally, startStage, Listed, Fine}
+use Rattle.rehearsal.specs.Waits.{waitsSince, waitsOf, longestOfWaits, longestWait}
+use Rattle.rehearsal.specs.Running.{turned, turnOf, tallyAt, withTally, notedTally, notedTallies, queuedTasks, withoutFirst, toTheEnd, staged, firstTurn, nextStage, newTally, startStage, TasksListed, Fine}
 use Rattle.rehearsal.proofs.Turns.{Count, counted, scan, ranOf, ran-least, ran-most, traceAfter, turn-scan, scan-none}
 
 -- the numbers that a tally stands for
@@ -32,13 +32,13 @@ countOf t left = record { had = ltb 0 (t .turned); others = t .ended - left; lon
 abbrev pub restOf : Queue → List Task
 restOf q = take (q .size - 1) (q .b ∷ q .c ∷ q .d ∷ [])
 
-pub queue-first : (q : Queue) → 0 < q .size → queueOf q ≡ q .a ∷ restOf q
+pub queue-first : (q : Queue) → 0 < q .size → queuedTasks q ≡ q .a ∷ restOf q
 queue-first q h = go (q .size) h where
   go : (n : ℕ) → 0 < n → take n (q .a ∷ q .b ∷ q .c ∷ q .d ∷ []) ≡ q .a ∷ take (n - 1) (q .b ∷ q .c ∷ q .d ∷ [])
   go zero h = absurd (omega arith)
   go (suc n) h = let e : suc n - 1 ≡ n = omega arith in rw e
 
-pub queue-without : (q : Queue) → 0 < q .size → q .size ≤ 4 → queueOf (withoutFirst q) ≡ restOf q
+pub queue-without : (q : Queue) → 0 < q .size → q .size ≤ 4 → queuedTasks (withoutFirst q) ≡ restOf q
 unfolding withoutFirst
 queue-without q h k = go (q .size) h k where
   go : (n : ℕ) → 0 < n → n ≤ 4 → take (n - 1) (q .b ∷ q .c ∷ q .d ∷ q .d ∷ []) ≡ take (n - 1) (q .b ∷ q .c ∷ q .d ∷ [])
@@ -49,7 +49,7 @@ queue-without q h k = go (q .size) h k where
   go (suc (suc (suc (suc zero)))) h k = refl
   go (suc (suc (suc (suc (suc n))))) h k = absurd (omega arith)
 
-pub queue-end : (q : Queue) (s : Task) → 0 < q .size → q .size ≤ 4 → queueOf (toTheEnd q s) ≡ restOf q ++ (s ∷ [])
+pub queue-end : (q : Queue) (s : Task) → 0 < q .size → q .size ≤ 4 → queuedTasks (toTheEnd q s) ≡ restOf q ++ (s ∷ [])
 unfolding toTheEnd
 queue-end q s h k = go (q .size) h k where
   go : (n : ℕ) → 0 < n → n ≤ 4
@@ -96,7 +96,7 @@ tally-other b (suc zero) (suc (suc (suc (suc j)))) t h k n = absurd (omega arith
 tally-other b (suc (suc zero)) (suc (suc (suc (suc j)))) t h k n = absurd (omega arith)
 tally-other b (suc (suc (suc zero))) (suc (suc (suc (suc j)))) t h k n = absurd (omega arith)
 
-listed-end : (ss : List Task) (s : Task) → Listed ss → s .script < 4 → Listed (ss ++ (s ∷ []))
+listed-end : (ss : List Task) (s : Task) → TasksListed ss → s .script < 4 → TasksListed (ss ++ (s ∷ []))
 listed-end [] s a h = (h, tt)
 listed-end (x ∷ ss) s a h = (a .0, listed-end ss s (a .1) h)
 
@@ -122,16 +122,16 @@ count-other t left (suc k) i who p f m = let e : t .ended - (left - suc k)
 
 module _ (b : Tallies) (who left n i : ℕ) (w : who < 4) (h : i < 4) (fits : n ≤ left) where
   -- the tally of script i after n words of script who
-  tally-noted : (x : Bool) → eqb who i ≡ x → tallyAt (noted b who left n) i
+  tally-noted : (x : Bool) → eqb who i ≡ x → tallyAt (notedTallies b who left n) i
       ≡ cond x (notedTally (tallyAt b i) left n) (tallyAt b i)
-  unfolding noted
+  unfolding notedTallies
   tally-noted true p = rw (eqb-true who i p) (tally-same b i (notedTally (tallyAt b i) left n) h)
   tally-noted false p = tally-other b who i (notedTally (tallyAt b who) left n) w h (eqb-false who i p)
 
-  pub ended-noted : left ≤ tallyAt b i .ended → left - n ≤ tallyAt (noted b who left n) i .ended
+  pub ended-noted : left ≤ tallyAt b i .ended → left - n ≤ tallyAt (notedTallies b who left n) i .ended
   unfolding notedTally
   ended-noted m = go (eqb who i) refl where
-    go : (x : Bool) → eqb who i ≡ x → left - n ≤ tallyAt (noted b who left n) i .ended
+    go : (x : Bool) → eqb who i ≡ x → left - n ≤ tallyAt (notedTallies b who left n) i .ended
     go false p = rw (tally-noted false p) (omega arith)
     go true p = rw (tally-noted true p) (by (eqb n 0)) where
       by : (y : Bool) → left - n ≤ cond {A = Tally} y (tallyAt b i)
@@ -144,10 +144,10 @@ module _ (b : Tallies) (who left n i : ℕ) (w : who < 4) (h : i < 4) (fits : n 
       by true = omega arith
       by false = omega arith
 
-  pub count-noted : left ≤ tallyAt b i .ended → countOf (tallyAt (noted b who left n) i) (left - n)
+  pub count-noted : left ≤ tallyAt b i .ended → countOf (tallyAt (notedTallies b who left n) i) (left - n)
       ≡ counted i who 0 n (countOf (tallyAt b i) left)
   count-noted m = go (eqb who i) refl where
-    go : (x : Bool) → eqb who i ≡ x → countOf (tallyAt (noted b who left n) i) (left - n)
+    go : (x : Bool) → eqb who i ≡ x → countOf (tallyAt (notedTallies b who left n) i) (left - n)
         ≡ counted i who 0 n (countOf (tallyAt b i) left)
     go true p = ap (λ (t : Tally). countOf t (left - n)) (tally-noted true p) ∙ count-own (tallyAt b i) left n i who p
     go false p = ap (λ (t : Tally). countOf t (left - n)) (tally-noted false p)
@@ -163,7 +163,7 @@ module _ (graphs : ℕ → Graph) (q : ℕ) (choices : List ℕ) where
   -- the longest wait of script i in the end, from a stage on
   abbrev pub goingOn : ℕ → Stage → ℕ
   goingOn i st = scan i (countOf (tallyAt (st .tallies) i) (st .left))
-      (trace graphs q choices (st .left) (record { queue = queueOf (st .queue); used = 0; taken = st .taken }))
+      (trace graphs q choices (st .left) (record { queue = queuedTasks (st .queue); used = 0; taken = st .taken }))
 
   trace-zero : (s : State) → trace graphs q choices 0 s ≡ []
   unfolding trace
@@ -199,7 +199,7 @@ module _ (graphs : ℕ → Graph) (q : ℕ) (choices : List ℕ) where
     over : (n at : ℕ) (u : Queue) → n ≤ st .left
         → goingOn i (record {
           queue = u;
-          tallies = noted (st .tallies) (st .queue .a .script)
+          tallies = notedTallies (st .tallies) (st .queue .a .script)
               (st .left) n;
           left = 0;
           taken = at;
@@ -207,7 +207,7 @@ module _ (graphs : ℕ → Graph) (q : ℕ) (choices : List ℕ) where
         ≡ scan i (counted i (st .queue .a .script) 0 n (countOf (tallyAt (st .tallies) i) (st .left))) []
     unfolding scan
     over n at u f =
-        rw (trace-zero (record { queue = queueOf u; used = 0; taken = at }))
+        rw (trace-zero (record { queue = queuedTasks u; used = 0; taken = at }))
         (ap (λ (c : Count). c .longest)
         (count-noted (st .tallies) (st .queue .a .script) (st .left) n i w h f (fine .ends i h)))
 
@@ -225,7 +225,7 @@ module _ (graphs : ℕ → Graph) (q : ℕ) (choices : List ℕ) where
       go : (x : Bool) → eqb (st .queue .size) 1 ≡ x
           → goingOn i (record {
             queue = withoutFirst (st .queue);
-            tallies = noted (st .tallies) (st .queue .a .script)
+            tallies = notedTallies (st .tallies) (st .queue .a .script)
                 (st .left) n;
             left = cond x 0 (st .left - n);
             taken = at;
@@ -273,7 +273,7 @@ module _ (graphs : ℕ → Graph) (q : ℕ) (choices : List ℕ) where
       by false = some-more n (turnOf g choices room to at (n + 1)) (ran-least g choices room to at (n + 1))
 
   module _ (st : Stage) (fine : Fine st) (left : 0 < st .left) (k : 0 < q) where
-    tasks-now : Listed (st .queue .a ∷ restOf (st .queue))
+    tasks-now : TasksListed (st .queue .a ∷ restOf (st .queue))
     tasks-now = rw (queue-first (st .queue) (fine .some left)) at (fine .tasks)
 
     staged-fine : (t : Turn) → ranOf t ≤ st .left → Fine (staged st t)
@@ -296,7 +296,7 @@ module _ (graphs : ℕ → Graph) (q : ℕ) (choices : List ℕ) where
         }
     staged-fine (Returned n at) f = go (eqb (st .queue .size) 1) refl where
       ends : (x : Bool) (i : ℕ) → i < 4
-          → cond x 0 (st .left - n) ≤ tallyAt (noted (st .tallies) (st .queue .a .script) (st .left) n) i .ended
+          → cond x 0 (st .left - n) ≤ tallyAt (notedTallies (st .tallies) (st .queue .a .script) (st .left) n) i .ended
       ends true i h = omega arith
       ends false i h = ended-noted (st .tallies) (st .queue .a .script) (st .left) n i (tasks-now .0) h f
           (fine .ends i h)
@@ -350,22 +350,22 @@ module _ (graphs : ℕ → Graph) (q : ℕ) (choices : List ℕ) where
   pub ended : (i : ℕ) (st : Stage) → st .left ≡ 0 → goingOn i st ≡ tallyAt (st .tallies) i .longest
   ended i st e =
       ap (λ (l : ℕ). scan i (countOf (tallyAt (st .tallies) i) (st .left))
-      (trace graphs q choices l (record { queue = queueOf (st .queue); used = 0; taken = st .taken }))) e
+      (trace graphs q choices l (record { queue = queuedTasks (st .queue); used = 0; taken = st .taken }))) e
       ∙ ap (λ (es : List Event). scan i (countOf (tallyAt (st .tallies) i) (st .left)) es)
-      (trace-zero (record { queue = queueOf (st .queue); used = 0; taken = st .taken }))
+      (trace-zero (record { queue = queuedTasks (st .queue); used = 0; taken = st .taken }))
       ∙ scan-none i (countOf (tallyAt (st .tallies) i) (st .left))
 
 -- read from the first turn on, the numbers are those of the waits
 scan-since : (i n best : ℕ) (es : List Event) → scan i (record { had = true; others = n; longest = best }) es
-    ≡ max best (longestOf (waitsSince i n es))
+    ≡ max best (longestOfWaits (waitsSince i n es))
 unfolding scan counted
 scan-since i n best [] = omega arith
 scan-since i n best (e ∷ es) = go (eqb (e .script) i) (eqb (e .nth) 0) (λ n best. scan-since i n best es) where
   go : (x y : Bool) → ((n best : ℕ) → scan i (record { had = true; others = n; longest = best }) es
-      ≡ max best (longestOf (waitsSince i n es)))
+      ≡ max best (longestOfWaits (waitsSince i n es)))
       → scan i (cond x (record { had = true; others = 0; longest = cond y (max best n) best })
       (record { had = true; others = n + 1; longest = best })) es
-      ≡ max best (longestOf (cond x (cond y (n ∷ waitsSince i 0 es) (waitsSince i 0 es)) (waitsSince i (n + 1) es)))
+      ≡ max best (longestOfWaits (cond x (cond y (n ∷ waitsSince i 0 es) (waitsSince i 0 es)) (waitsSince i (n + 1) es)))
   go true true more = more 0 (max best n) ∙ omega arith
   go true false more = more 0 best
   go false y more = more (n + 1) best
@@ -375,10 +375,10 @@ pub scan-waits : (i n : ℕ) (es : List Event) → scan i (record { had = false;
 unfolding scan counted longestWait
 scan-waits i n [] = refl
 scan-waits i n (e ∷ es) = go (eqb (e .script) i) (scan-waits i (n + 1) es) where
-  go : (x : Bool) → (scan i (record { had = false; others = n + 1; longest = 0 }) es ≡ longestOf (waitsOf i es))
+  go : (x : Bool) → (scan i (record { had = false; others = n + 1; longest = 0 }) es ≡ longestOfWaits (waitsOf i es))
       → scan i (cond x (record { had = true; others = 0; longest = 0 })
       (record { had = false; others = n + 1; longest = 0 })) es
-      ≡ longestOf (cond x (waitsSince i 0 es) (waitsOf i es))
+      ≡ longestOfWaits (cond x (waitsSince i 0 es) (waitsOf i es))
   go true more = scan-since i 0 0 es ∙ omega arith
   go false more = more
 
@@ -390,13 +390,13 @@ tasks-start (suc (suc (suc zero))) h = refl
 tasks-start (suc (suc (suc (suc zero)))) h = refl
 tasks-start (suc (suc (suc (suc (suc k))))) h = absurd (omega arith)
 
-listed-start : (k : ℕ) → Listed (take k (taskAt 0 0 ∷ taskAt 1 0 ∷ taskAt 2 0 ∷ taskAt 3 0 ∷ []))
+listed-start : (k : ℕ) → TasksListed (take k (taskAt 0 0 ∷ taskAt 1 0 ∷ taskAt 2 0 ∷ taskAt 3 0 ∷ []))
 listed-start zero = tt
 listed-start (suc zero) = (omega arith, tt)
 listed-start (suc (suc zero)) = (omega arith, (omega arith, tt))
 listed-start (suc (suc (suc zero))) = (omega arith, (omega arith, (omega arith, tt)))
 listed-start (suc (suc (suc (suc k)))) = (omega arith, (omega arith, (omega arith, (omega arith, listed-nil k)))) where
-  listed-nil : (k : ℕ) → Listed (take k [])
+  listed-nil : (k : ℕ) → TasksListed (take k [])
   listed-nil zero = tt
   listed-nil (suc k) = tt
 
@@ -426,10 +426,10 @@ pub start-going : (graphs : ℕ → Graph) (q : ℕ) (choices : List ℕ) (k lim
 unfolding startStage
 start-going graphs q choices k limit i h =
     ap (λ (t : Tally). scan i (countOf t limit)
-    (trace graphs q choices limit (record { queue = queueOf (startStage k limit .queue); used = 0; taken = 0 })))
+    (trace graphs q choices limit (record { queue = queuedTasks (startStage k limit .queue); used = 0; taken = 0 })))
     (new-tally k limit i)
     ∙ scan-waits i (limit - limit) (trace graphs q choices limit
-    (record { queue = queueOf (startStage k limit .queue); used = 0; taken = 0 }))
+    (record { queue = queuedTasks (startStage k limit .queue); used = 0; taken = 0 }))
     ∙ ap (λ (l : List Task). longestWait i (trace graphs q choices limit (record { queue = l; used = 0; taken = 0 })))
     (tasks-start k h)
 
@@ -456,7 +456,7 @@ module _ (graphs : ℕ → Graph) (q : ℕ) (choices : List ℕ) (st : Stage) wh
       (st .taken) 0) e
 
   module _ (t : Turn) (n : ℕ) (b : Tallies) (e : t ≡ firstTurn graphs q choices st)
-      (f : b ≡ noted (st .tallies) (st .queue .a .script) (st .left) n) where
+      (f : b ≡ notedTallies (st .tallies) (st .queue .a .script) (st .left) n) where
     pub next-starved : t ≡ Starved n → record { queue = st .queue; tallies = b; left = 0; taken = st .taken }
         ≡ nextStage graphs q choices st
     unfolding nextStage

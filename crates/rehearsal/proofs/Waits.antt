@@ -12,7 +12,7 @@ use lib.ListN.{length}
 use Rattle.common.proofs.Order.{split}
 use Rattle.graph.specs.Graph.{In}
 use Rattle.rehearsal.specs.Machine.{Event}
-use Rattle.rehearsal.specs.Waits.{waitsSince, waitsOf, longestOf, longestWait, OfOthers, WaitIn, Waits}
+use Rattle.rehearsal.specs.Waits.{waitsSince, waitsOf, longestOfWaits, longestWait, OfOthers, WaitIn, Waits}
 
 -- the next turn of script i starts within es, after n words of others before es
 record Waiting (i n : ℕ) (es : List Event) (w : ℕ) : Type 0 where
@@ -162,18 +162,18 @@ found i w es v =
     subst (λ (l : List Event). In w (waitsOf i l)) (sym (v .whole))
     (after-first i w (v .before) (v .last) (v .between ++ (v .first ∷ v .after)) (v .last-own) here)
 
-pub in-most : (w : ℕ) (ws : List ℕ) → In w ws → w ≤ longestOf ws
+pub in-most : (w : ℕ) (ws : List ℕ) → In w ws → w ≤ longestOfWaits ws
 in-most w [] h = absurd h
 in-most w (v ∷ ws) h = ⊎-elim (λ e. omega arith) (λ g. let m = in-most w ws g in omega arith) h
 
-longest-in : (w : ℕ) (ws : List ℕ) → In (longestOf (w ∷ ws)) (w ∷ ws)
+longest-in : (w : ℕ) (ws : List ℕ) → In (longestOfWaits (w ∷ ws)) (w ∷ ws)
 longest-in w [] = inl (omega arith)
 longest-in w (v ∷ ws) =
     ⊎-elim
-    (λ h. let e : max w (longestOf (v ∷ ws)) ≡ longestOf (v ∷ ws) = omega arith in
+    (λ h. let e : max w (longestOfWaits (v ∷ ws)) ≡ longestOfWaits (v ∷ ws) = omega arith in
     inr (subst (λ (m : ℕ). In m (v ∷ ws)) (sym e) (longest-in v ws)))
     (λ h. inl (omega arith))
-    (split w (longestOf (v ∷ ws)))
+    (split w (longestOfWaits (v ∷ ws)))
 
 pub waits : (i : ℕ) (es : List Event) → Waits i es
 unfolding longestWait
@@ -184,6 +184,6 @@ waits i es =
       longest-some = go (waitsOf i es) (λ w. read i w es) (λ w. found i w es);
     } where
       go : (ws : List ℕ) → ((w : ℕ) → In w ws → WaitIn i es w) → ((w : ℕ) → WaitIn i es w → In w ws)
-          → WaitIn i es (longestOf ws) ⊎ (((w : ℕ) → WaitIn i es w → ⊥) × (longestOf ws ≡ 0))
+          → WaitIn i es (longestOfWaits ws) ⊎ (((w : ℕ) → WaitIn i es w → ⊥) × (longestOfWaits ws ≡ 0))
       go [] r f = inr ((λ w v. f w v), refl)
-      go (w ∷ ws) r f = inl (r (longestOf (w ∷ ws)) (longest-in w ws))
+      go (w ∷ ws) r f = inl (r (longestOfWaits (w ∷ ws)) (longest-in w ws))

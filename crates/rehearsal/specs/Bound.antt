@@ -12,6 +12,6 @@ abbrev pub AllAtMost : ℕ → List ℕ → Type 0
 AllAtMost b [] = Unit {0}
 AllAtMost b (w ∷ ws) = (w ≤ b) × AllAtMost b ws
 
-pub record Bounded (graphs : ℕ → Graph) (k q : ℕ) (choices : List ℕ) (limit : ℕ) : Type 0 where
+pub record WaitsBounded (graphs : ℕ → Graph) (k q : ℕ) (choices : List ℕ) (limit : ℕ) : Type 0 where
   pub every : (i : ℕ) → AllAtMost ((k - 1) * q) (waitsOf i (trace graphs q choices limit (startOf k)))
   pub longest : (i : ℕ) → longestWait i (trace graphs q choices limit (startOf k)) ≤ (k - 1) * q

@@ -21,8 +21,8 @@ use Rattle.rehearsal.specs.Rehearse.{
   rehearseOf,
   marksLeft,
   lengthsLeft,
-  numberOf,
-  placeOf,
+  rehearsalNumber,
+  rehearsalPlace,
   waitOf,
 }
 use Rattle.rehearsal.specs.Accepting.{runNumber, LowestRefused, LastTried}
@@ -64,7 +64,8 @@ module _ (w0 w1 w2 w3 : List ℕ) (k q : ℕ) (choices : List ℕ) (limit : ℕ)
     pub bounded : (i w : ℕ) → WaitIn i events w → w ≤ (k - 1) * q
 
   pub record Claims : Type 0 where
-    pub accepted : numberOf (rehearseOf w0 w1 w2 w3 k q choices limit marks lengths) ≡ «ACCEPTED» → Rehearses
+    pub accepted : rehearsalNumber (rehearseOf w0 w1 w2 w3 k q choices limit marks lengths) ≡ «ACCEPTED»
+        → Rehearses
     -- "with k scripts no wait .. exceeds (k - 1) times q": of each number that the answer reports
     pub bound : (i : ℕ) → waitOf (rehearseOf w0 w1 w2 w3 k q choices limit marks lengths) i ≤ (k - 1) * q
     -- "23 a script count, q or choice out of range": its place is 0
@@ -80,10 +81,10 @@ module _ (w0 w1 w2 w3 : List ℕ) (k q : ℕ) (choices : List ℕ) (limit : ℕ)
     -- "then whatever the longest run gives for the lowest script it refuses"
     pub lowest :
         InRange k q choices
-        → (numberOf (rehearseOf w0 w1 w2 w3 k q choices limit marks lengths) ≡ «ACCEPTED» → ⊥)
+        → (rehearsalNumber (rehearseOf w0 w1 w2 w3 k q choices limit marks lengths) ≡ «ACCEPTED» → ⊥)
         → LowestRefused w0 w1 w2 w3 k marks lengths
-        (numberOf (rehearseOf w0 w1 w2 w3 k q choices limit marks lengths))
-        (placeOf (rehearseOf w0 w1 w2 w3 k q choices limit marks lengths))
+        (rehearsalNumber (rehearseOf w0 w1 w2 w3 k q choices limit marks lengths))
+        (rehearsalPlace (rehearseOf w0 w1 w2 w3 k q choices limit marks lengths))
     -- "in one pair of work slices, which keep what the last run tried left"
     pub kept :
         InRange k q choices
@@ -91,5 +92,5 @@ module _ (w0 w1 w2 w3 : List ℕ) (k q : ℕ) (choices : List ℕ) (limit : ℕ)
         (lengthsLeft w0 w1 w2 w3 k q choices limit marks lengths)
     -- "a refusal reports 0 for every number but its own and its place" (request C-11)
     pub no-waits :
-        (numberOf (rehearseOf w0 w1 w2 w3 k q choices limit marks lengths) ≡ «ACCEPTED» → ⊥)
+        (rehearsalNumber (rehearseOf w0 w1 w2 w3 k q choices limit marks lengths) ≡ «ACCEPTED» → ⊥)
         → (i : ℕ) → waitOf (rehearseOf w0 w1 w2 w3 k q choices limit marks lengths) i ≡ 0

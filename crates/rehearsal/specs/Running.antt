@@ -53,11 +53,11 @@ notedTally t left ran =
       longest = cond (ltb 0 (t .turned)) (max (t .longest) (t .ended - left)) (t .longest);
     })
 
-unfoldable pub noted : Tallies → ℕ → ℕ → ℕ → Tallies
-noted b who left ran = withTally b who (notedTally (tallyAt b who) left ran)
+unfoldable pub notedTallies : Tallies → ℕ → ℕ → ℕ → Tallies
+notedTallies b who left ran = withTally b who (notedTally (tallyAt b who) left ran)
 
-abbrev pub queueOf : Queue → List Task
-queueOf q = take (q .size) (q .a ∷ q .b ∷ q .c ∷ q .d ∷ [])
+abbrev pub queuedTasks : Queue → List Task
+queuedTasks q = take (q .size) (q .a ∷ q .b ∷ q .c ∷ q .d ∷ [])
 
 unfoldable pub withoutFirst : Queue → Queue
 withoutFirst q = record { size = q .size - 1; a = q .b; b = q .c; c = q .d; d = q .d }
@@ -79,7 +79,7 @@ abbrev pub staged : Stage → Turn → Stage
 staged st (Starved n) =
     record {
       queue = st .queue;
-      tallies = noted (st .tallies) (st .queue .a .script) (st .left) n;
+      tallies = notedTallies (st .tallies) (st .queue .a .script) (st .left) n;
       left = 0;
       taken = st .taken;
     }
@@ -87,14 +87,14 @@ staged st (Starved n) =
 staged st (Returned n at) =
     record {
       queue = withoutFirst (st .queue);
-      tallies = noted (st .tallies) (st .queue .a .script) (st .left) n;
+      tallies = notedTallies (st .tallies) (st .queue .a .script) (st .left) n;
       left = cond (eqb (st .queue .size) 1) 0 (st .left - n);
       taken = at;
     }
 staged st (Over n p at) =
     record {
       queue = toTheEnd (st .queue) (taskAt (st .queue .a .script) p);
-      tallies = noted (st .tallies) (st .queue .a .script) (st .left) n;
+      tallies = notedTallies (st .tallies) (st .queue .a .script) (st .left) n;
       left = st .left - n;
       taken = at;
     }
@@ -127,13 +127,13 @@ startStage k limit =
     }
 
 -- the tasks are of the four scripts
-abbrev pub Listed : List Task → Type 0
-Listed [] = Unit {0}
-Listed (s ∷ ss) = (s .script < 4) × Listed ss
+abbrev pub TasksListed : List Task → Type 0
+TasksListed [] = Unit {0}
+TasksListed (s ∷ ss) = (s .script < 4) × TasksListed ss
 
 -- what holds between two turns
 pub record Fine (st : Stage) : Type 0 where
   pub some : 0 < st .left → 0 < st .queue .size
   pub few : st .queue .size ≤ 4
-  pub tasks : Listed (queueOf (st .queue))
+  pub tasks : TasksListed (queuedTasks (st .queue))
   pub ends : (i : ℕ) → i < 4 → st .left ≤ tallyAt (st .tallies) i .ended

@@ -2,7 +2,7 @@
 // "Rehearsing a set of scripts"). In the field's terms a schedule simulation, round robin with a quantum.
 mod acceptance;
 pub mod answer;
-pub mod export;
+pub mod c;
 pub mod machine;
 pub mod rehearsing;
 mod rotation;

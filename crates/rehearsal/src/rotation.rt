@@ -1,6 +1,6 @@
 // The rotation, a turn at a time.
 ghost use mathlib.Core.Path.{_≡_};
-ghost use Prim.Native.Nat.{ℕ, _<_, _≤_, min};
+ghost use Prim.Native.Nat.{ℕ, _<_, _≤_};
 ghost use mathlib.Core.Bool.{cond};
 ghost use Rattle.rehearsal.specs.Machine.{taskAt};
 ghost use Rattle.rehearsal.specs.Waits.{longestWait};
@@ -14,15 +14,7 @@ use crate::machine::Turn;
 use crate::tallies::new_tally;
 use crate::tallies::note;
 use crate::turn::turn_of;
-
-fn smaller(a: u32, b: u32) -> u32
-    ensures { λ r. ⌜ r ≡ min a b ⌝ }
-{
-    if a < b {
-        return a;
-    }
-    b
-}
+use common::widths::smaller;
 
 fn pick(c: bool, s: Task, t: Task) -> Task
     ensures { λ r. ⌜ r ≡ cond c s t ⌝ }

@@ -1,19 +1,11 @@
 // The running numbers of the scripts: in place of the trace, what is needed of it.
 ghost use mathlib.Core.Path.{_≡_};
-ghost use Prim.Native.Nat.{_≤_, max};
+ghost use Prim.Native.Nat.{_≤_};
 ghost use mathlib.Core.Bool.{cond};
-ghost use Rattle.rehearsal.specs.Running.{tallyAt, withTally, notedTally, noted, newTally};
+ghost use Rattle.rehearsal.specs.Running.{tallyAt, withTally, notedTally, notedTallies, newTally};
 use crate::machine::Tallies;
 use crate::machine::Tally;
-
-fn larger(a: u32, b: u32) -> u32
-    ensures { λ r. ⌜ r ≡ max a b ⌝ }
-{
-    if a < b {
-        return b;
-    }
-    a
-}
+use common::widths::larger;
 
 pub(crate) fn new_tally(limit: u32) -> Tally
     ensures { λ r. ⌜ r ≡ newTally limit ⌝ }
@@ -81,7 +73,7 @@ fn noted_tally(t: Tally, left: u32, ran: u32) -> Tally
 
 pub(crate) fn note(t: Tallies, script: usize, left: u32, ran: u32) -> Tallies
     requires { ⌜ (left ≤ tallyAt t script .ended) × (ran ≤ left) ⌝ }
-    ensures { λ r. ⌜ r ≡ noted t script left ran ⌝ }
+    ensures { λ r. ⌜ r ≡ notedTallies t script left ran ⌝ }
 {
     with_tally(t, script, noted_tally(tally_at(t, script), left, ran))
 }

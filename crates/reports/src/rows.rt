@@ -8,7 +8,7 @@ use findings::part;
 use findings::remains;
 use findings::row_end;
 use findings::way_behind;
-use pages::Sheet;
+use pages::PageState;
 use pages::cell;
 use pages::either;
 use pages::fill;
@@ -20,12 +20,12 @@ use wording::place_of;
 // The other way of a branch: where it leads, and how much there is from there.
 fn put_branch(
     page: &mut [u8],
-    s: Sheet,
+    s: PageState,
     lines: &[u32],
     more: u32,
     other: usize,
     length: u32,
-) -> Sheet {
+) -> PageState {
     let text = either(
         has_line(lines, other),
         b"goes on with # more; the other way (line #) has #",
@@ -39,7 +39,7 @@ fn put_branch(
     )
 }
 
-fn put_turn(page: &mut [u8], s: Sheet, lines: &[u32], more: u32, back: usize) -> Sheet {
+fn put_turn(page: &mut [u8], s: PageState, lines: &[u32], more: u32, back: usize) -> PageState {
     let text = either(
         has_line(lines, back),
         b"goes on with # more; the other way goes back to line #",
@@ -49,7 +49,7 @@ fn put_turn(page: &mut [u8], s: Sheet, lines: &[u32], more: u32, back: usize) ->
 }
 
 // The run's end at a step that serves.
-fn put_back(page: &mut [u8], s: Sheet, lines: &[u32], p: usize, back: usize) -> Sheet {
+fn put_back(page: &mut [u8], s: PageState, lines: &[u32], p: usize, back: usize) -> PageState {
     let text = either(
         has_line(lines, back),
         b"to word #, which goes back to line #",
@@ -61,7 +61,7 @@ fn put_back(page: &mut [u8], s: Sheet, lines: &[u32], p: usize, back: usize) -> 
 // How the run goes on from its word i, which ends a row, by the way w.
 fn put_way(
     page: &mut [u8],
-    s: Sheet,
+    s: PageState,
     words: &[u32],
     lines: &[u32],
     lengths: &[u32],
@@ -69,7 +69,7 @@ fn put_way(
     i: usize,
     count: usize,
     w: Way,
-) -> Sheet {
+) -> PageState {
     let p = word_at(path, i) as usize;
     let more = remains(lengths, path, next(i), count);
     match w {
@@ -89,7 +89,7 @@ fn put_way(
 }
 
 // Where the run starts, if the row starts there.
-fn put_start(page: &mut [u8], s: Sheet, is_start: bool, p: usize) -> Sheet {
+fn put_start(page: &mut [u8], s: PageState, is_start: bool, p: usize) -> PageState {
     fill(
         page,
         s,
@@ -98,7 +98,7 @@ fn put_start(page: &mut [u8], s: Sheet, is_start: bool, p: usize) -> Sheet {
     )
 }
 
-fn put_calls(page: &mut [u8], s: Sheet, is_first: bool, is_calling: bool) -> Sheet {
+fn put_calls(page: &mut [u8], s: PageState, is_first: bool, is_calling: bool) -> PageState {
     put(
         page,
         s,
@@ -109,7 +109,7 @@ fn put_calls(page: &mut [u8], s: Sheet, is_first: bool, is_calling: bool) -> She
 // What there is to say of a row: where the run starts, that it calls, how it goes on.
 fn put_note(
     page: &mut [u8],
-    s: Sheet,
+    s: PageState,
     words: &[u32],
     lines: &[u32],
     lengths: &[u32],
@@ -117,7 +117,7 @@ fn put_note(
     from: usize,
     last: usize,
     count: usize,
-) -> Sheet {
+) -> PageState {
     let is_start = from == 0;
     let is_calling = has_call(words, path, from, last);
     let w = way_behind(words, path, last, count);
@@ -135,7 +135,7 @@ fn put_note(
 }
 
 // Where a row stands, its line or the number of its first word, and how much of the run it is.
-fn put_part(page: &mut [u8], s: Sheet, lines: &[u32], p: usize, n: u32) -> Sheet {
+fn put_part(page: &mut [u8], s: PageState, lines: &[u32], p: usize, n: u32) -> PageState {
     let a = put(page, s, either(has_line(lines, p), b"", b"word "));
     let b = cell(page, a, place_of(lines, p), b" |");
     cell(page, b, n as u64, b" |")
@@ -144,7 +144,7 @@ fn put_part(page: &mut [u8], s: Sheet, lines: &[u32], p: usize, n: u32) -> Sheet
 // A row, from one of the run's words to another.
 fn put_row(
     page: &mut [u8],
-    s: Sheet,
+    s: PageState,
     words: &[u32],
     lines: &[u32],
     lengths: &[u32],
@@ -152,7 +152,7 @@ fn put_row(
     from: usize,
     last: usize,
     count: usize,
-) -> Sheet {
+) -> PageState {
     let n = part(lengths, path, from, last, count);
     let a = put_part(page, s, lines, word_at(path, from) as usize, n);
     let b = put_note(page, a, words, lines, lengths, path, from, last, count);
@@ -162,13 +162,13 @@ fn put_row(
 // The rows of a function's longest run. There are no more rows than words.
 pub fn put_rows(
     page: &mut [u8],
-    s: Sheet,
+    s: PageState,
     words: &[u32],
     lines: &[u32],
     lengths: &[u32],
     path: &[u32],
     count: usize,
-) -> Sheet {
+) -> PageState {
     let mut t = s;
     let mut from = 0;
     for row in 0..count {

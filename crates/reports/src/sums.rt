@@ -1,11 +1,11 @@
 // The last lines: the most that can pass, and how many functions there are, over the limit and refused.
-use pages::Sheet;
+use pages::PageState;
 use pages::either;
 use pages::fill;
 use pages::put;
 use wording::NO_LIMIT;
 
-fn put_refused_part(page: &mut [u8], s: Sheet, refused: u64) -> Sheet {
+fn put_refused_part(page: &mut [u8], s: PageState, refused: u64) -> PageState {
     fill(
         page,
         s,
@@ -14,7 +14,7 @@ fn put_refused_part(page: &mut [u8], s: Sheet, refused: u64) -> Sheet {
     )
 }
 
-fn put_over_part(page: &mut [u8], s: Sheet, over: u64, limit: u64) -> Sheet {
+fn put_over_part(page: &mut [u8], s: PageState, over: u64, limit: u64) -> PageState {
     let text = either(over == 0, b", none over the limit", b", # over the limit");
     fill(
         page,
@@ -25,7 +25,7 @@ fn put_over_part(page: &mut [u8], s: Sheet, over: u64, limit: u64) -> Sheet {
 }
 
 // The most, what it is of, and how many functions there are.
-fn put_most(page: &mut [u8], s: Sheet, most: u64, is_weighted: bool, n: u64) -> Sheet {
+fn put_most(page: &mut [u8], s: PageState, most: u64, is_weighted: bool, n: u64) -> PageState {
     let a = fill(
         page,
         s,
@@ -47,14 +47,14 @@ fn put_most(page: &mut [u8], s: Sheet, most: u64, is_weighted: bool, n: u64) -> 
 
 pub fn put_sum(
     page: &mut [u8],
-    s: Sheet,
+    s: PageState,
     limit: u64,
     is_weighted: bool,
     n: u64,
     over: u64,
     refused: u64,
     most: u64,
-) -> Sheet {
+) -> PageState {
     let a = put_most(page, s, most, is_weighted, n);
     let b = put_over_part(page, a, over, limit);
     put_refused_part(page, b, refused)

@@ -1,6 +1,6 @@
 // The line that names a function.
 use findings::Function;
-use pages::Sheet;
+use pages::PageState;
 use pages::either;
 use pages::fill;
 use pages::put;
@@ -10,7 +10,7 @@ use wording::put_name;
 use wording::put_refusal;
 use wording::unmarked;
 
-fn put_source(page: &mut [u8], s: Sheet, source: &[u8]) -> Sheet {
+fn put_source(page: &mut [u8], s: PageState, source: &[u8]) -> PageState {
     if is_marked(source) {
         return put_name(page, s, unmarked(source));
     }
@@ -18,7 +18,7 @@ fn put_source(page: &mut [u8], s: Sheet, source: &[u8]) -> Sheet {
 }
 
 // A function of a stripped file, by the file's name.
-fn put_stripped(page: &mut [u8], s: Sheet, file: &[u8], f: Function) -> Sheet {
+fn put_stripped(page: &mut [u8], s: PageState, file: &[u8], f: Function) -> PageState {
     let a = put_name(page, s, file);
     let text = either(
         f.last_line == 0,
@@ -29,7 +29,7 @@ fn put_stripped(page: &mut [u8], s: Sheet, file: &[u8], f: Function) -> Sheet {
 }
 
 // The function's source, its lines there and its number. The main function has no lines of its own.
-fn put_names(page: &mut [u8], s: Sheet, file: &[u8], source: &[u8], f: Function) -> Sheet {
+fn put_names(page: &mut [u8], s: PageState, file: &[u8], source: &[u8], f: Function) -> PageState {
     if source.len() == 0 {
         return put_stripped(page, s, file, f);
     }
@@ -46,7 +46,13 @@ fn put_names(page: &mut [u8], s: Sheet, file: &[u8], source: &[u8], f: Function)
 }
 
 // The longest run, in words or by weights, and the limit where there is one.
-fn put_longest(page: &mut [u8], s: Sheet, longest: u64, limit: u64, is_weighted: bool) -> Sheet {
+fn put_longest(
+    page: &mut [u8],
+    s: PageState,
+    longest: u64,
+    limit: u64,
+    is_weighted: bool,
+) -> PageState {
     let text = either(
         is_weighted,
         b": weight # without a service",
@@ -60,13 +66,13 @@ fn put_longest(page: &mut [u8], s: Sheet, longest: u64, limit: u64, is_weighted:
 // A function's name, and what the longest run is or why the function is refused.
 pub fn put_title(
     page: &mut [u8],
-    s: Sheet,
+    s: PageState,
     file: &[u8],
     source: &[u8],
     f: Function,
     limit: u64,
     is_weighted: bool,
-) -> Sheet {
+) -> PageState {
     let a = put_names(page, s, file, source, f);
     if f.number != 0 {
         let b = put(page, a, b": refused: ");

@@ -7,7 +7,7 @@ use Prim.Native.Nat.{ℕ, _≤_, _<_}
 use native.Mathlib.Nat.{pos-of-ne-zero}
 use native.Mathlib.Omega.{arith}
 use borrow.Author.Tests.{eqb-true, eq-eqb, lt-ltb, le-ltb}
-use Rattle.common.specs.Limits.{mostWords}
+use Rattle.common.specs.Limits.{mostWords, heaviestWeight}
 use Rattle.common.specs.Numbers.{«NO_WORDS», «REACHES_INVALID»}
 use Rattle.common.specs.Lowest.{lowest}
 use Rattle.common.proofs.Order.{split, same-or-not}
@@ -23,7 +23,7 @@ use Rattle.runs.specs.declared.longest.Run.{Run}
 use Rattle.runs.specs.declared.longest.Run.the-variants.{Accepted, Refused}
 use Rattle.runs.specs.Script.{Script, Sound, graphOf, weightOf}
 use Rattle.runs.specs.Run.{reachesInvalid, lowestInvalid, runOf}
-use Rattle.runs.specs.Weights.{heaviestWeight, Weighs}
+use Rattle.runs.specs.Weights.{Weighs}
 use Rattle.runs.specs.Demand.{MeetsInvalidAt, MeetsInvalid, Passes, Demand}
 use Rattle.runs.proofs.Weights.{weight-laws}
 use Rattle.runs.proofs.Outcome.{run-none, run-words}

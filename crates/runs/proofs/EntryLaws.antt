@@ -7,14 +7,14 @@ use Rattle.runs.specs.EntryLaws.{EntryLaws}
 use Rattle.fields.specs.declared.version.Version.{Version}
 use Rattle.runs.specs.Script.{scriptOf}
 use Rattle.runs.specs.Run.{lowestInvalid}
-use Rattle.sweep.specs.Entries.{entries, stepsOf, lowestBy}
+use Rattle.sweep.specs.Entries.{entries, entrySteps, lowestBy}
 use Rattle.runs.specs.Outcome.{Searched}
 use Rattle.sweep.proofs.Laws as sweep
 use Rattle.runs.proofs.Outcome.{outcome-kept, outcome-words}
 use Rattle.runs.proofs.Searched.{fill-asks}
 
 lowest-is : (version : Version) (words m l : List ℕ) → Searched (scriptOf version words) m l
-    → lowestBy (length (entries l)) (stepsOf (entries l)) ≡ lowestInvalid (scriptOf version words)
+    → lowestBy (length (entries l)) (entrySteps (entries l)) ≡ lowestInvalid (scriptOf version words)
 unfolding lowestInvalid
 lowest-is version words m l s =
     sweep.laws .carries .lowest-invalid (length words) (scriptOf version words .steps) (entries l) (s .settled)

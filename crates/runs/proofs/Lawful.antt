@@ -10,15 +10,14 @@ use Rattle.sweep.specs.Steps.{Below}
 use Rattle.runs.specs.Script.{Script, stepsOf, slotOf, scriptOf, graphOf, Sound}
 use Rattle.runs.specs.Weights.{weightCount}
 use Rattle.sweep.proofs.Laws as sweep
-use Rattle.runs.proofs.Words as words54
-use Rattle.runs.proofs.Words53 as words53
+use Rattle.steps.proofs.Laws as steps
 
 pub lawful : (ws : Script) → Sound ws → Lawful (graphOf ws)
 lawful ws sound = record { inside = λ p. sweep.laws .inside (ws .size) (ws .steps p) (sound .below p); forward = sound .forward }
 
 below : (version : Version) (ws : List ℕ) (p : ℕ) → Below (length ws) (stepsOf version ws p)
-below Lua54 ws p = words54.below ws p
-below Lua53 ws p = words53.below ws p
+below Lua54 ws p = steps.laws .below54 ws p
+below Lua53 ws p = steps.laws .below53 ws p
 
 slots : (version : Version) (word : ℕ) → slotOf version word < weightCount
 slots Lua54 word = omega arith

@@ -4,18 +4,14 @@ use mathlib.Core.List.{List}
 use Prim.Native.Nat.{ℕ, _%_, _≤_}
 use native.Mathlib.Omega.{arith}
 use lib.ListN.{getD}
+use Rattle.common.specs.Limits.{heaviestWeight}
 use Rattle.fields.specs.declared.version.Version.the-variants.{Lua54, Lua53}
 use Rattle.runs.specs.Script.{Script, slotOf, scriptOf, Sound}
-use Rattle.runs.specs.Weights.{heaviestWeight}
 use Rattle.runs.specs.Run.{runOf}
 use Rattle.runs.specs.Demand.{Demand}
 use Rattle.runs.specs.Laws.{Enough, Laws}
 use Rattle.sweep.proofs.Laws as sweep
 use Rattle.runs.proofs.Lawful.{lawful, sound}
-use Rattle.runs.proofs.Lvm as lvm54
-use Rattle.runs.proofs.Lvm53 as lvm53
-use Rattle.runs.proofs.Bad53 as bad53
-use Rattle.runs.proofs.Bad54 as bad54
 use Rattle.runs.proofs.Nine.{never-given, within-words, counted}
 use Rattle.runs.proofs.Order.{order, weights-refused}
 use Rattle.runs.proofs.RangeOrder.{range-order, range-kept}
@@ -47,8 +43,6 @@ laws =
       forward = sweep.laws .forward;
       slot54 = λ ws weights p. ap (λ (i : ℕ). getD weights i 0) (low-seven (getD ws p 0));
       slot53 = λ ws weights p. ap (λ (i : ℕ). getD weights i 0) (low-six (getD ws p 0));
-      agreement = lvm54.agreement-holds;
-      agreement53 = lvm53.agreement-holds;
       lawful = lawful;
       enough = enough;
       demand = demand;
@@ -75,7 +69,5 @@ laws =
       ends-of = λ version ws. ends (scriptOf version ws) (sound version ws);
       table-refused-of = λ version ws. table-refused (scriptOf version ws);
       range-kept-of = λ version ws. range-kept (scriptOf version ws) (sound version ws);
-      by-numbers54 = bad54.by-numbers;
-      by-numbers53 = bad53.by-numbers;
       entry-laws = entry-laws;
     }

@@ -1,10 +1,5 @@
-pub mod ByNumber
-pub mod Bad53
-pub mod Bad54
 pub mod Between
 pub mod BothTables
-pub mod Columns
-pub mod Columns53
 pub mod Counted
 pub mod Demand
 pub mod EntryLaws
@@ -13,15 +8,9 @@ pub mod Nine
 pub mod Order
 pub mod RangeOrder
 pub mod Laws
-pub mod Lvm
-pub mod Lvm53
 pub mod Masks
-pub mod NextWords
 pub mod Outcome
 pub mod Searched
 pub mod Slices
 pub mod Together
-pub mod Ways
 pub mod Weights
-pub mod Words
-pub mod Words53

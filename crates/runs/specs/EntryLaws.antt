@@ -13,7 +13,7 @@ use Rattle.runs.specs.declared.longest.Run.the-variants.{Refused}
 use Rattle.runs.specs.Script.{Script, scriptOf, graphOf}
 use Rattle.runs.specs.Weights.{refusesWeights}
 use Rattle.runs.specs.Run.{runOf, untouched, lowestInvalid, marksAfter, lengthsAfter}
-use Rattle.sweep.specs.Entries.{entries, stepsOf, graphIn, lowestBy}
+use Rattle.sweep.specs.Entries.{entries, entrySteps, graphIn, lowestBy}
 use Rattle.sweep.specs.PassInvariants.{FillAsks}
 use Rattle.runs.specs.Outcome.{Searched, decided, Decided}
 
@@ -24,7 +24,7 @@ pub record EntryLaws : Type 0 where
       → Searched (scriptOf version ws) m l → graphIn (entries l) ≡ graphOf (scriptOf version ws)
   pub lowest-is :
       (version : Version) (ws m l : List ℕ) → Searched (scriptOf version ws) m l
-      → lowestBy (length (entries l)) (stepsOf (entries l)) ≡ lowestInvalid (scriptOf version ws)
+      → lowestBy (length (entries l)) (entrySteps (entries l)) ≡ lowestInvalid (scriptOf version ws)
   -- past the checks of the sizes and of the weights, the outcome of the words, whose slices are the first
   -- parts
   pub outcome :

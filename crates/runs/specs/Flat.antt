@@ -4,8 +4,8 @@ use Rattle.sweep.specs.declared.edges.Successors.{Successors}
 use Rattle.sweep.specs.declared.edges.Successors.the-variants.{Invalid, Stop, One, Two}
 use Rattle.runs.specs.declared.longest.Run.{Run}
 use Rattle.runs.specs.declared.longest.Run.the-variants.{Accepted, Refused}
-use Rattle.runs.specs.declared.flat.FlatSuccessors.{FlatSuccessors}
-use Rattle.runs.specs.declared.flat.FlatRun.{FlatRun}
+use Rattle.runs.specs.declared.c.FlatSuccessors.{FlatSuccessors}
+use Rattle.runs.specs.declared.c.FlatRun.{FlatRun}
 
 -- kind 0 invalid, 1 stop, 2 one, 3 two; a number that a kind does not use is 0
 abbrev pub flatSuccessors : Successors → FlatSuccessors

@@ -6,22 +6,18 @@ use mathlib.Core.Logic.{_↔_}
 use mathlib.Core.Bool.{true, false}
 use mathlib.Core.List.{List}
 use lib.ListN.{length, getD}
-use Rattle.common.specs.Limits.{mostWords}
+use Rattle.common.specs.Limits.{mostWords, heaviestWeight}
 use Rattle.common.specs.Numbers.{«ACCEPTED»}
 use Rattle.graph.specs.Graph.{Lawful, weigh}
 use Rattle.fields.specs.declared.version.Version.{Version}
 use Rattle.fields.specs.declared.version.Version.the-variants.{Lua54, Lua53}
 use Rattle.sweep.specs.Steps.{servesOf, unitWeight}
 use Rattle.runs.specs.Script.{Script, scriptOf, graphOf, weightOf, Sound}
-use Rattle.runs.specs.Lvm as lvm54
-use Rattle.runs.specs.Lvm53 as lvm53
-use Rattle.runs.specs.Bad53 as bad53
-use Rattle.runs.specs.Bad54 as bad54
 use Rattle.runs.specs.Run.{runOf, numberOf, longestOf}
-use Rattle.runs.specs.Weights.{weightCount, heaviestWeight, refusesWeights}
+use Rattle.runs.specs.Weights.{weightCount, refusesWeights}
 use Rattle.runs.specs.Counted.{ones, EarlierRun}
 use Rattle.runs.specs.Range.{refusesRange}
-use Rattle.runs.specs.Between.{Ends, TableRefused}
+use Rattle.runs.specs.Between.{RangeEnds, TableRefused}
 use Rattle.runs.specs.Demand.{Demand}
 use Rattle.runs.specs.Order.{Order, WeightsRefused, RangeOrder, RangeKept}
 use Rattle.runs.specs.Slices.{Slices}
@@ -56,9 +52,6 @@ pub record Laws : Type 0 where
   pub slot53 :
       (ws weights : List ℕ) (p : ℕ)
       → weightOf (scriptOf Lua53 ws) weights p ≡ getD weights (getD ws p 0 % 64) 0
-  -- the steps of each version are its lvm.c's
-  pub agreement : lvm54.Agreement
-  pub agreement53 : lvm53.Agreement
   -- From here on "argued over any step relation in which a step that does not serve goes forward":
   -- for any sound script, whose graph is lawful.
   pub lawful : (ws : Script) → Sound ws → Lawful (graphOf ws)
@@ -84,7 +77,7 @@ pub record Laws : Type 0 where
   -- request C-18: every table between two gives a run between theirs, and both ends are reached
   pub ends :
       (ws : Script) → Sound ws → (low high : List ℕ) (marks lengths : ℕ) → refusesRange low high ≡ false
-      → Ends ws low high marks lengths
+      → RangeEnds ws low high marks lengths
   pub table-refused :
       (ws : Script) (low high : List ℕ) (marks lengths : ℕ) → TableRefused ws low high marks lengths
   -- "Checks run in this order", and what number 18 is
@@ -120,16 +113,12 @@ pub record Laws : Type 0 where
       → (p : ℕ) → 0 < weightOf (scriptOf version ws) weights p
   pub ends-of :
       (version : Version) (ws low high : List ℕ) (marks lengths : ℕ) → refusesRange low high ≡ false
-      → Ends (scriptOf version ws) low high marks lengths
+      → RangeEnds (scriptOf version ws) low high marks lengths
   pub table-refused-of :
       (version : Version) (ws low high : List ℕ) (marks lengths : ℕ)
       → TableRefused (scriptOf version ws) low high marks lengths
   pub range-kept-of :
       (version : Version) (ws low high marks lengths : List ℕ)
       → RangeKept (scriptOf version ws) low high marks lengths
-  -- document 01's table of steps (RULES 2), by its own numbers
-  pub by-numbers54 : bad54.ByNumber
-  -- request C-24: the bad words and the next words of 5.3, by its own numbers
-  pub by-numbers53 : bad53.ByNumber
   -- for crates that go by settled entries
   pub entry-laws : EntryLaws

@@ -1,13 +1,4 @@
--- Layer 2: the successors of a word, and the longest run.
-pub mod Columns
-pub mod Columns53
-pub mod Ways
-pub mod Successors
-pub mod Lvm
-pub mod Successors53
-pub mod Lvm53
-pub mod Bad53
-pub mod Bad54
+-- Layer 2: scripts of either version, and the longest run.
 pub mod Weights
 pub mod Script
 pub mod Run

@@ -30,8 +30,8 @@ pub record WeightsRefused (weights : List ℕ) : Type 0 where
   pub lowest-place : length weights ≡ 128 → (i : ℕ) → ZeroAt weights i → weightsPlace weights ≤ i
 
 module _ (ws : Script) (weights : List ℕ) (marks lengths : ℕ) where
-  abbrev pub answer : Run
-  answer = runOf ws weights marks lengths
+  abbrev pub runAnswer : Run
+  runAnswer = runOf ws weights marks lengths
 
   abbrev pub Fewer : Type 0
   Fewer = ws .size ≤ 32768
@@ -44,17 +44,18 @@ module _ (ws : Script) (weights : List ℕ) (marks lengths : ℕ) where
 
   -- 6 before 1, 18 before 6, 7 before 18, in definition and code alike, is refused here
   pub record Order : Type 0 where
-    pub one : (numberOf answer ≡ 1) ↔ (32768 < ws .size)
-    pub six : (numberOf answer ≡ 6) ↔ (Fewer × Short)
-    pub eighteen : (numberOf answer ≡ 18) ↔ (Fewer × Long × (refusesWeights weights ≡ true))
-    pub seven : (numberOf answer ≡ 7) ↔ (Fewer × Long × (refusesWeights weights ≡ false) × (ws .size ≡ 0))
+    pub one : (numberOf runAnswer ≡ 1) ↔ (32768 < ws .size)
+    pub six : (numberOf runAnswer ≡ 6) ↔ (Fewer × Short)
+    pub eighteen : (numberOf runAnswer ≡ 18) ↔ (Fewer × Long × (refusesWeights weights ≡ true))
+    pub seven : (numberOf runAnswer ≡ 7) ↔ (Fewer × Long × (refusesWeights weights ≡ false) × (ws .size ≡ 0))
     -- the place of 18 is the table's; 1, 6 and 7 name none
-    pub place-18 : numberOf answer ≡ 18 → placeOf answer ≡ weightsPlace weights
-    pub no-place : (numberOf answer ≡ 18 → ⊥) → (numberOf answer ≡ 8 → ⊥) → placeOf answer ≡ 0
+    pub place-18 : numberOf runAnswer ≡ 18 → placeOf runAnswer ≡ weightsPlace weights
+    pub no-place : (numberOf runAnswer ≡ 18 → ⊥) → (numberOf runAnswer ≡ 8 → ⊥) → placeOf runAnswer ≡ 0
 
 -- Two tables (request C-18): 18 on the low one, on the high one, and then "19 a low above its high",
--- before 7. `Ends` says the rest of two tables that 18 and 19 let through. 19 after 7, 19 before 18, 19 at
--- another place than the lowest, 19 where a low is its high, in definition and code alike, is refused here.
+-- before 7. `RangeEnds` says the rest of two tables that 18 and 19 let through. 19 after 7, 19 before 18, 19
+-- at another place than the lowest, 19 where a low is its high, in definition and code alike, is refused
+-- here.
 
 -- a low above its high at i
 abbrev pub AboveAt : List ℕ → List ℕ → ℕ → Type 0
@@ -93,11 +94,12 @@ module _ (ws : Script) (low high : List ℕ) (marks lengths : ℕ) where
 -- "Nothing lent is altered, except that 8 .. leave[s] the reachable marks and n zero lengths":
 -- where two tables are refused, too
 module _ (ws : Script) (low high marks lengths : List ℕ) where
-  abbrev pub reported : ℕ
-  reported = numberOf (report ws low high (length marks) (length lengths))
+  abbrev pub reportedNumber : ℕ
+  reportedNumber = numberOf (report ws low high (length marks) (length lengths))
 
   pub record RangeKept : Type 0 where
-    pub marks-kept : (reported ≡ 0 → ⊥) → (reported ≡ 8 → ⊥)
+    pub marks-kept : (reportedNumber ≡ 0 → ⊥) → (reportedNumber ≡ 8 → ⊥)
         → marksAfterBoth ws low high marks lengths ≡ marks
     pub lengths-kept :
-        (reported ≡ 0 → ⊥) → (reported ≡ 8 → ⊥) → lengthsAfterBoth ws low high marks lengths ≡ lengths
+        (reportedNumber ≡ 0 → ⊥) → (reportedNumber ≡ 8 → ⊥)
+        → lengthsAfterBoth ws low high marks lengths ≡ lengths

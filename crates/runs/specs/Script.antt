@@ -16,8 +16,8 @@ use Rattle.fields.specs.Word as word54
 use Rattle.fields.specs.Word53 as word53
 use Rattle.sweep.specs.declared.edges.Successors.{Successors}
 use Rattle.sweep.specs.Steps.{listOf, servesOf, Below}
-use Rattle.runs.specs.Successors as steps54
-use Rattle.runs.specs.Successors53 as steps53
+use Rattle.steps.specs.Successors as steps54
+use Rattle.steps.specs.Successors53 as steps53
 use Rattle.runs.specs.Weights.{weightCount}
 
 pub record Script : Type 0 where

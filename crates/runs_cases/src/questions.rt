@@ -3,7 +3,7 @@ use crate::print;
 use fields::version::Version;
 use runs::longest_run;
 use runs::longest_runs;
-use runs::successors::successors;
+use steps::successors::successors;
 use sweep::edges;
 use vectors::bytes_of;
 use vectors::number_of;

@@ -23,7 +23,7 @@ use Rattle.runs.specs.declared.longest.Run.the-variants as Run
 use Rattle.runs.specs.Run.{numberOf, marksAfter, lengthsAfter}
 use Rattle.runs.specs.Counted.{ones}
 use Rattle.runs.proofs.Laws.{laws}
-use Rattle.service.specs.Questions.{unitRun, listedOf, listedAt, withinOf, marksWithin, lengthsWithin, listBy, listWithin}
+use Rattle.service.specs.Questions.{unitRun, withinMark, listedAt, withinOf, marksWithin, lengthsWithin, listBy, listWithin}
 use Rattle.service.specs.Pass.{answerBy}
 use Rattle.service.specs.Nearest.{AcceptedRun}
 use Rattle.service.specs.ListedWords.{IsWithin, WordsListed, ListWithin}
@@ -33,10 +33,10 @@ use Rattle.service.proofs.Outcome.{Listed, within-many, within-short, l
 
 -- the number of a listed word
 module _ (d mark distance : ℕ) where
-  listed-one : mark ≡ 1 → distance ≤ d → listedOf d mark distance ≡ 1
+  listed-one : mark ≡ 1 → distance ≤ d → withinMark d mark distance ≡ 1
   listed-one m h = rw (eq-eqb mark 1 m, le-leb distance d h)
 
-  one-listed : listedOf d mark distance ≡ 1 → (mark ≡ 1) × (distance ≤ d)
+  one-listed : withinMark d mark distance ≡ 1 → (mark ≡ 1) × (distance ≤ d)
   one-listed e = go (eqb mark 1) (leb distance d) refl refl e
     where
       go : (s t : Bool) → eqb mark 1 ≡ s → leb distance d ≡ t → _≡_ {A = ℕ} (cond (s && t) 1 0) 1 → (mark ≡ 1) × (distance ≤ d)
@@ -44,7 +44,7 @@ module _ (d mark distance : ℕ) where
       go true false x y h = absurd (omega arith)
       go false t x y h = absurd (omega arith)
 
-  listed-bit : (listedOf d mark distance ≡ 1 → ⊥) → listedOf d mark distance ≡ 0
+  listed-bit : (withinMark d mark distance ≡ 1 → ⊥) → withinMark d mark distance ≡ 0
   listed-bit n = go (eqb mark 1 && leb distance d) n
     where
       go : (s : Bool) → (_≡_ {A = ℕ} (cond s 1 0) 1 → ⊥) → _≡_ {A = ℕ} (cond s 1 0) 0

@@ -25,7 +25,7 @@ use Rattle.runs.specs.Script.{Script, scriptOf, graphOf, weightOf}
 use Rattle.runs.specs.declared.longest.Run.{Run}
 use Rattle.runs.specs.declared.longest.Run.the-variants as Run
 use Rattle.sweep.specs.Steps.{unitWeight}
-use Rattle.sweep.specs.Entries.{entries, stepsOf, graphIn, lowestBy}
+use Rattle.sweep.specs.Entries.{entries, entrySteps, graphIn, lowestBy}
 use Rattle.sweep.specs.PassInvariants.{FillAsks}
 use Rattle.runs.specs.Outcome.{Searched, decided, Decided}
 use Rattle.runs.specs.Run.{runOf, numberOf, lowestInvalid, marksAfter, lengthsAfter}
@@ -107,7 +107,7 @@ module _ (m l : List ℕ) (a : FillAsks m l) (d : ℕ) (list : List ℕ) (long :
   -- a reachable word is bad
   module _ (h : r < length l) where
     refused : {A : Type 0} (x y : A) → x ≡ byLowest es x y
-    refused x y = let z : lowestBy (length es) (stepsOf es) < length es = omega (arith, n, k .lowest-invalid) in rw (lt-ltb (lowestBy (length es) (stepsOf es)) (length es) z)
+    refused x y = let z : lowestBy (length es) (entrySteps es) < length es = omega (arith, n, k .lowest-invalid) in rw (lt-ltb (lowestBy (length es) (entrySteps es)) (length es) z)
 
     pub listing-refused : {l″ : List ℕ} → l″ ≡ replicate (length l) 0 ++ drop (length l) l′ → Listing (answer «REACHES_INVALID» r) l″ list
     listing-refused {l″} e = (
@@ -126,7 +126,7 @@ module _ (m l : List ℕ) (a : FillAsks m l) (d : ℕ) (list : List ℕ) (long :
   -- none is
   module _ (h : length l ≤ r) where
     accepted : {A : Type 0} (x y : A) → y ≡ byLowest es x y
-    accepted x y = let z : length es ≤ lowestBy (length es) (stepsOf es) = omega (arith, n, k .lowest-invalid) in rw (le-ltb (lowestBy (length es) (stepsOf es)) (length es) z)
+    accepted x y = let z : length es ≤ lowestBy (length es) (entrySteps es) = omega (arith, n, k .lowest-invalid) in rw (le-ltb (lowestBy (length es) (entrySteps es)) (length es) z)
 
     pub listing-accepted : {e : ℕ} {l″ list′ : List ℕ} → e ≡ min d 65535 → l″ ≡ tabulate (lengthIn l′) 0 (length l′)
         → list′ ≡ over (λ p. listedBy e (distanceIn l′ p)) (length l′) list → Listing (answer «ACCEPTED» 0) l″ list′
@@ -193,7 +193,7 @@ module _ (version : Version) (words m l : List ℕ) (s : Searched (scriptOf vers
   size-is = entering .as-long l ∙ s .lent .l-same
 
   abbrev low : ℕ
-  low = lowestBy (length (entries l)) (stepsOf (entries l))
+  low = lowestBy (length (entries l)) (entrySteps (entries l))
 
   lowest-is : low ≡ lowestInvalid script
   lowest-is = laws .entry-laws .lowest-is version words m l s

@@ -25,7 +25,7 @@ use Rattle.graph.proofs.Distance.{distances}
 use Rattle.sweep.specs.declared.edges.Successors.{Successors}
 use Rattle.sweep.specs.declared.edges.Successors.the-variants.{One, Two}
 use Rattle.sweep.specs.Steps.{listOf, isInvalid, ordered, servesOf, unitWeight}
-use Rattle.sweep.specs.Entries.{«ENTRIES», entryAt, entries, stepsOf, graphIn, invalidBy}
+use Rattle.sweep.specs.Entries.{«ENTRIES», entryAt, entries, entrySteps, graphIn, invalidBy}
 use Rattle.sweep.specs.PassInvariants.{FillAsks, stepsIn, invalidFrom}
 use Rattle.service.specs.Questions.{listedAt}
 use Rattle.service.specs.Pairs.{«LENGTHS», distanceIn, lengthIn, pairOf, pairBy, Pairing, Paired, Pairs, listedBy}
@@ -177,7 +177,7 @@ pub record Passed (l₀ m l : List ℕ) (i a v : ℕ) : Type 0 where
   pub from : (q : ℕ) → i ≤ q → q < length l₀ → getD l q 0 ≡ pairOf (graphIn (entries l₀)) q
   pub below : (q : ℕ) → q < i → getD l q 0 % «ENTRIES» ≡ getD (entries l₀) q 0
   pub above : a ≡ getD l i 0
-  pub lowest : v ≡ lowestFrom (invalidBy (length (entries l₀)) (stepsOf (entries l₀))) i (length (entries l₀) - i)
+  pub lowest : v ≡ lowestFrom (invalidBy (length (entries l₀)) (entrySteps (entries l₀))) i (length (entries l₀) - i)
 
 pub passed-none : (m l : List ℕ) → FillAsks m l → Passed l m l (length l) 0 (length l)
 passed-none m l k =
@@ -189,7 +189,7 @@ passed-none m l k =
       from = λ q d i. absurd (omega arith);
       below = λ q d. sym (entering .entry-is l q);
       above = sym (List·getD-eq-default l 0 (omega arith));
-      lowest = lowest-laws .end (invalidBy (length (entries l)) (stepsOf (entries l))) (length (entries l)) (length l) (sym n);
+      lowest = lowest-laws .end (invalidBy (length (entries l)) (entrySteps (entries l))) (length (entries l)) (length l) (sym n);
     }
 
 -- a turn of the pass
@@ -210,7 +210,7 @@ module _ (l₀ m l : List ℕ) (p a v : ℕ) (f : Passed l₀ m l (p + 1) a v) w
   inside = omega (arith, f .upto, entering .as-long l₀)
 
   -- the entry is there yet
-  entry-here : stepsIn l p ≡ stepsOf es p
+  entry-here : stepsIn l p ≡ entrySteps es p
   entry-here = ap (λ (x : ℕ). entryAt x p) (f .below p (omega arith))
 
   above-is : (q : ℕ) → p < q → q < length es → getD l q 0 ≡ pairOf g q
@@ -239,7 +239,7 @@ module _ (l₀ m l : List ℕ) (p a v : ℕ) (f : Passed l₀ m l (p + 1) a v) w
   -- a marked word
   module _ (o : markOf g p ≡ 1) where
     -- what it goes on to is marked
-    onto : (q : ℕ) → In q (listOf (stepsOf es p)) → markOf g q ≡ 1
+    onto : (q : ℕ) → In q (listOf (entrySteps es p)) → markOf g q ≡ 1
     onto q i =
         let k = laws .marking g law in
         k .one q (laws .reaching g law .next p q (k .reachable p inside o) i)
@@ -255,13 +255,13 @@ module _ (l₀ m l : List ℕ) (p a v : ℕ) (f : Passed l₀ m l (p + 1) a v) w
         (λ e. rw (eq-eqb (markOf g q) 1 e) (ap (λ (x : ℕ). x / «LENGTHS») (above-is q h k) ∙ pair-distance g law few q e))
         (bit (laws .marking g law .bit q))
 
-    distance-found : distanceOf g p ≡ 1 + cond (endsBy g p (listOf (stepsOf es p))) 0 (leastOf (distanceIn l) (listOf (stepsOf es p)))
+    distance-found : distanceOf g p ≡ 1 + cond (endsBy g p (listOf (entrySteps es p))) 0 (leastOf (distanceIn l) (listOf (entrySteps es p)))
     distance-found =
         distances g law .turn known p inside known-is
-        ∙ ap (λ (x : ℕ). 1 + cond (endsBy g p (listOf (stepsOf es p))) 0 x)
-        (least-same known (distanceIn l) (listOf (stepsOf es p)) (λ q i. rw (eq-eqb (markOf g q) 1 (onto q i))))
+        ∙ ap (λ (x : ℕ). 1 + cond (endsBy g p (listOf (entrySteps es p))) 0 x)
+        (least-same known (distanceIn l) (listOf (entrySteps es p)) (λ q i. rw (eq-eqb (markOf g q) 1 (onto q i))))
 
-    length-found : lengthOf g unitWeight p ≡ 1 + best g p (lengthIn l) (listOf (stepsOf es p))
+    length-found : lengthOf g unitWeight p ≡ 1 + best g p (lengthIn l) (listOf (entrySteps es p))
     length-found =
         laws .passing g law unitWeight .marked (lengthIn l) p inside o (λ q h k. ap (λ (x : ℕ). x % «LENGTHS») (above-is q h k) ∙ pair-length g law few q)
 
@@ -281,7 +281,7 @@ module _ (l₀ m l : List ℕ) (p a v : ℕ) (f : Passed l₀ m l (p + 1) a v) w
       (λ n. rw (ne-eqb (getD m p 0) 0 n) (pair-found (marked n)))
       (same-or-not (getD m p 0) 0)
 
-  lowest-found : invalidFrom m l p v ≡ cond (invalidBy (length es) (stepsOf es) p) p v
+  lowest-found : invalidFrom m l p v ≡ cond (invalidBy (length es) (entrySteps es) p) p v
   lowest-found =
       ⊎-elim
       (λ e. let z : markOf g p ≡ 0 = sym mark-is ∙ e in rw (eq-eqb (getD m p 0) 0 e, ne-eqb (markOf g p) 1 (λ o. omega arith)))
@@ -303,14 +303,14 @@ module _ (l₀ m l : List ℕ) (p a v : ℕ) (f : Passed l₀ m l (p + 1) a v) w
         below = λ q h. ap (λ (z : ℕ). z % «ENTRIES») (getD-set-other l p q x 0 (λ z. omega arith)) ∙ f .below q (omega arith);
         above = sym (getD-set-same l p x 0 (omega (arith, f .upto, f .same)));
         lowest =
-            d .invalid-is ∙ lowest-found ∙ ap (λ (z : ℕ). cond (invalidBy (length es) (stepsOf es) p) p z) (f .lowest)
-            ∙ sym (lowest-laws .turn (invalidBy (length es) (stepsOf es)) (length es) p inside);
+            d .invalid-is ∙ lowest-found ∙ ap (λ (z : ℕ). cond (invalidBy (length es) (entrySteps es) p) p z) (f .lowest)
+            ∙ sym (lowest-laws .turn (invalidBy (length es) (entrySteps es)) (length es) p inside);
       }
 
 pub passed-done : {l₀ m l : List ℕ} {i a v : ℕ} → Passed l₀ m l i a v → i ≤ 0 → Pairs l₀ l v
 passed-done {l₀} {i = i} f h =
     let e : i ≡ 0 = omega arith in
-    let t = invalidBy (length (entries l₀)) (stepsOf (entries l₀)) in
+    let t = invalidBy (length (entries l₀)) (entrySteps (entries l₀)) in
     record {
       each = λ p k. f .from p (omega arith) k;
       lowest-invalid = f .lowest ∙ ap (λ (x : ℕ). lowestFrom t x (length (entries l₀) - x)) e ∙ lowest-laws .whole t (length (entries l₀));

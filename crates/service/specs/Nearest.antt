@@ -27,7 +27,7 @@ pub record HasServingStep (ws : Script) (p : ℕ) : Type 0 where
   pub serving : ws .serves p to ≡ true
 
 -- "a stretch of that many words from there ends at a return or a word with a serving step": k words from p on
-pub record Reaches (ws : Script) (p k : ℕ) : Type 0 where
+pub record ReachesService (ws : Script) (p k : ℕ) : Type 0 where
   pub rest : List ℕ
   pub stretch : Segment (graphOf ws) p rest
   pub ends : Return ws (lastOf p rest) ⊎ HasServingStep ws (lastOf p rest)
@@ -36,8 +36,8 @@ pub record Reaches (ws : Script) (p k : ℕ) : Type 0 where
 
 -- "The fewest is exact": a stretch of that many words does, "and no shorter one does"
 pub record FewestWords (ws : Script) (p k : ℕ) : Type 0 where
-  pub reached : Reaches ws p k
-  pub no-shorter : (j : ℕ) → Reaches ws p j → k ≤ j
+  pub reached : ReachesService ws p k
+  pub no-shorter : (j : ℕ) → ReachesService ws p j → k ≤ j
 
 -- "an accepted function": the longest run with all weights 1 accepts it, lent slices of these lengths
 pub record AcceptedRun (ws : Script) (marks lengths : ℕ) : Type 0 where

@@ -18,7 +18,7 @@ use Rattle.graph.specs.Marks.{markOf}
 use Rattle.graph.specs.Longest.{best, lengthOf}
 use Rattle.graph.specs.Distance.{endsBy, leastOf, distanceOf}
 use Rattle.sweep.specs.Steps.{listOf, unitWeight}
-use Rattle.sweep.specs.Entries.{entries, stepsOf, graphIn, lowestBy}
+use Rattle.sweep.specs.Entries.{entries, entrySteps, graphIn, lowestBy}
 use Rattle.sweep.specs.PassInvariants.{stepsIn, invalidFrom}
 use Rattle.service.specs.Questions.{listedAt}
 
@@ -60,7 +60,7 @@ pub record Paired (m l : List ℕ) (p i v i′ : ℕ) : Type 0 where
 -- what the pass leaves: the pairs where the entries stood. Its answer is the lowest reachable invalid word
 pub record Pairs (l l′ : List ℕ) (r : ℕ) : Type 0 where
   pub each : (p : ℕ) → p < length l → getD l′ p 0 ≡ pairOf (graphIn (entries l)) p
-  pub lowest-invalid : r ≡ lowestBy (length (entries l)) (stepsOf (entries l))
+  pub lowest-invalid : r ≡ lowestBy (length (entries l)) (entrySteps (entries l))
 
 -- what is listed by a pair's distance x: an unreachable word has 0
 abbrev pub listedBy : ℕ → ℕ → ℕ
@@ -69,10 +69,11 @@ listedBy d x = cond (eqb x 0) 0 (cond (leb x d) 1 0)
 -- the answer, the lengths and the list after entries es: refused where a reachable word is bad, with the list
 -- as it was
 abbrev pub byLowest : {A : Type 0} → List ℕ → A → A → A
-byLowest es refused accepted = cond (ltb (lowestBy (length es) (stepsOf es)) (length es)) refused accepted
+byLowest es refused accepted = cond (ltb (lowestBy (length es) (entrySteps es)) (length es)) refused accepted
 
 abbrev pub answerIn : List ℕ → Answer
-answerIn es = byLowest es (answer «REACHES_INVALID» (lowestBy (length es) (stepsOf es))) (answer «ACCEPTED» 0)
+answerIn es =
+    byLowest es (answer «REACHES_INVALID» (lowestBy (length es) (entrySteps es))) (answer «ACCEPTED» 0)
 
 abbrev pub lengthsIn : List ℕ → List ℕ
 lengthsIn es = byLowest es (tabulate (λ p. 0) 0 (length es))

@@ -1,8 +1,8 @@
 // Over runs, by its public functions: how far each word is from a service, and how many edges pass
 // over a word (request C-22).
+pub mod c;
 pub mod crossing;
 pub mod distance;
-pub mod exported;
 mod pairs;
 mod pass;
 mod unit;

@@ -14,7 +14,7 @@ ghost use Prim.Native.Nat.{_/_, _%_, min, max};
 ghost use Rattle.sweep.specs.Steps.{servesOf};
 ghost use Rattle.sweep.specs.PassInvariants.{FillAsks};
 ghost use Rattle.service.specs.Pairs.{«LENGTHS», Pairing, Paired, Pairs};
-use crate::pass::smaller;
+use common::widths::smaller;
 use sweep::edges::serves;
 use sweep::inner::ENTRIES;
 use sweep::inner::KIND_NEXT;

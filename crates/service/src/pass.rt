@@ -3,26 +3,17 @@
 // distance stands where the search had its queue, above the entry: less 1, so that no distance is too large
 // for it. No word is read and no mark, since how far a service is does not depend on how a word is reached.
 ghost use mathlib.Core.Path.{_≡_};
-ghost use Prim.Native.Nat.{_+_, min};
+ghost use Prim.Native.Nat.{_+_};
 ghost use Rattle.graph.specs.Distance.{nearer};
 ghost use Rattle.sweep.specs.Entries.{entries, graphIn};
 ghost use Rattle.service.specs.Pass.{noted, Nearing, Holds, Notes};
+use common::widths::smaller;
 use sweep::edges::serves;
 use sweep::inner::ENTRIES;
 use sweep::inner::KIND_NEXT;
 use sweep::inner::KIND_NONE;
 use sweep::inner::KIND_TARGET;
 use sweep::inner::TARGETS;
-
-// The smaller of two numbers.
-pub(crate) fn smaller(x: u32, y: u32) -> u32
-    ensures { λ r. ⌜ r ≡ min x y ⌝ }
-{
-    if x < y {
-        return x;
-    }
-    y
-}
 
 // The distance of word p, less 1, where those of the words above it are noted, and `above` is that of the
 // next. It is handed on, so that a turn need not wait for what the one before it stored.

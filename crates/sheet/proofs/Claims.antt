@@ -10,11 +10,12 @@ use lib.Dec.{eqb}
 use lib.ListN.{length, take, drop, length-append, take-append-drop}
 use lib.Seq.{take-at, drop-at, take-take, take-nil, drop-drop}
 use borrow.Author.Tests.{ne-eqb}
+use Rattle.common.specs.Limits.{mostWord}
 use Rattle.sheet.specs.declared.reading.Sheet.{Sheet}
 use Rattle.sheet.specs.declared.reading.Sheet.the-variants.{Words, Malformed, TooLong}
-use Rattle.sheet.specs.Line.{mostWord, lineOf, valueOf, isLine}
-use Rattle.sheet.specs.Format.{readFrom, sheetOf, wordAt, wordsOf}
-use Rattle.sheet.specs.Claims.{textOf, AllWords, Accepted, Broken, Overfull, Says, Claims}
+use Rattle.sheet.specs.Line.{lineOf, lineValue, isLine}
+use Rattle.sheet.specs.Format.{readFrom, sheetOf, sheetWordAt, sheetWords}
+use Rattle.sheet.specs.Claims.{textOf, AllWords, Accepted, Broken, Overfull, SheetSays, Claims}
 use Rattle.sheet.proofs.Widths.{length-line}
 use Rattle.sheet.proofs.Round.{apart, line-shows, line-good, good-line, good-value}
 use Rattle.sheet.proofs.Scanned.{read-none, read-full, read-bad, read-more}
@@ -51,14 +52,14 @@ only-words room text n s =
     (sheet-past room (s .words) [] (s .are-words) h ∙ read-none (room - length (s .words)) (length (s .words)) [] refl ∙ ap Words (s .count))
 
 -- the first line of a text, and the rest
-first-line : (text : List ℕ) → isLine (take 11 text) ≡ true → text ≡ lineOf (valueOf (take 11 text)) ++ drop 11 text
+first-line : (text : List ℕ) → isLine (take 11 text) ≡ true → text ≡ lineOf (lineValue (take 11 text)) ++ drop 11 text
 first-line text e = sym (take-append-drop 11 text) ∙ ap (λ (l : List ℕ). l ++ drop 11 text) (good-line (take 11 text) e)
 
 no-line : (rest : List ℕ) → ((w : ℕ) (more : List ℕ) → w ≤ mostWord → rest ≡ lineOf w ++ more → ⊥) → isLine (take 11 rest) ≡ false
 no-line rest never = go (isLine (take 11 rest)) refl
   where
     go : (t : Bool) → isLine (take 11 rest) ≡ t → t ≡ false
-    go true e = absurd (never (valueOf (take 11 rest)) (drop 11 rest) (good-value (take 11 rest) e) (first-line rest e))
+    go true e = absurd (never (lineValue (take 11 rest)) (drop 11 rest) (good-value (take 11 rest) e) (first-line rest e))
     go false e = refl
 
 only-malformed : (room : ℕ) (text : List ℕ) (line : ℕ) → Broken room text line → sheetOf room text ≡ Malformed line
@@ -76,7 +77,7 @@ only-long room text s =
     (sheet-past room (s .words) (s .rest) (s .are-words) (omega (arith, s .count))
     ∙ rw z (read-full (s .rest) (s .some) (length (s .words))))
 
-only : (room : ℕ) (text : List ℕ) (s : Sheet) → Says room text s → sheetOf room text ≡ s
+only : (room : ℕ) (text : List ℕ) (s : Sheet) → SheetSays room text s → sheetOf room text ≡ s
 only room text (Words n) s = only-words room text n s
 only room text (Malformed line) s = only-malformed room text line s
 only room text TooLong s = only-long room text s
@@ -85,7 +86,7 @@ only room text TooLong s = only-long room text s
 
 record Told (room : ℕ) (text : List ℕ) : Type 0 where
   answer : Sheet
-  told : Says room text answer
+  told : SheetSays room text answer
 
 starts-line : (w : ℕ) (more : List ℕ) → w ≤ mostWord → isLine (take 11 (lineOf w ++ more)) ≡ true
 starts-line w more h = rw (take-at (lineOf w) more 11 (length-line w)) (line-good w h)
@@ -95,7 +96,7 @@ after : (room : ℕ) (text : List ℕ) (w : ℕ) → w ≤ mostWord → Told roo
 unfolding textOf AllWords
 after room text w h t = go (t .answer) (t .told)
   where
-    go : (s : Sheet) → Says room text s → Told (suc room) (lineOf w ++ text)
+    go : (s : Sheet) → SheetSays room text s → Told (suc room) (lineOf w ++ text)
     go (Words n) s =
         record {
           answer = Words (suc n);
@@ -137,7 +138,7 @@ after room text w h t = go (t .answer) (t .told)
 in-front : (room : ℕ) (text : List ℕ) → isLine (take 11 text) ≡ true → Told room (drop 11 text) → Told (suc room) text
 in-front room text e t =
     subst (λ (l : List ℕ). Told (suc room) l) (sym (first-line text e))
-    (after room (drop 11 text) (valueOf (take 11 text)) (good-value (take 11 text) e) t)
+    (after room (drop 11 text) (lineValue (take 11 text)) (good-value (take 11 text) e) t)
 
 empty-told : (room : ℕ) → Told room []
 unfolding textOf AllWords
@@ -178,36 +179,36 @@ told (suc room) (b ∷ text) = go (isLine (take 11 (b ∷ text))) refl (told roo
           };
         }
 
-says : (room : ℕ) (text : List ℕ) → Says room text (sheetOf room text)
+says : (room : ℕ) (text : List ℕ) → SheetSays room text (sheetOf room text)
 says room text = let t : Told room text = told room text in rw (only room text (t .answer) (t .told)) (t .told)
 
 -- ---- the words are those of the lines
 
 module _ (w : ℕ) (rest : List ℕ) where
-  word-zero : w ≤ mostWord → wordAt (lineOf w ++ rest) 0 ≡ w
-  unfolding wordAt
+  word-zero : w ≤ mostWord → sheetWordAt (lineOf w ++ rest) 0 ≡ w
+  unfolding sheetWordAt
   word-zero h = rw (take-at (lineOf w) rest 11 (length-line w)) (line-shows w h)
 
-  word-next : (k : ℕ) → wordAt (lineOf w ++ rest) (suc k) ≡ wordAt rest k
-  unfolding wordAt
+  word-next : (k : ℕ) → sheetWordAt (lineOf w ++ rest) (suc k) ≡ sheetWordAt rest k
+  unfolding sheetWordAt
   word-next k =
       let e : 11 * suc k ≡ 11 + 11 * k = omega arith in
       rw (e, ← drop-drop (11 * k) 11 (lineOf w ++ rest), drop-at (lineOf w) rest 11 (length-line w))
 
-  words-cons : w ≤ mostWord → (k : ℕ) → wordsOf (lineOf w ++ rest) (suc k) ≡ w ∷ wordsOf rest k
-  unfolding wordsOf
+  words-cons : w ≤ mostWord → (k : ℕ) → sheetWords (lineOf w ++ rest) (suc k) ≡ w ∷ sheetWords rest k
+  unfolding sheetWords
   words-cons h zero = rw (word-zero h)
   words-cons h (suc k) = rw (words-cons h k, word-next k)
 
-back : (ws : List ℕ) → AllWords ws → wordsOf (textOf ws) (length ws) ≡ ws
-unfolding textOf AllWords wordsOf
+back : (ws : List ℕ) → AllWords ws → sheetWords (textOf ws) (length ws) ≡ ws
+unfolding textOf AllWords sheetWords
 back [] a = refl
 back (w ∷ ws) a = words-cons w (textOf ws) (a .0) (length ws) ∙ ap (λ (l : List ℕ). w ∷ l) (back ws (a .1))
 
-words-are : (text : List ℕ) (n : ℕ) (ws : List ℕ) → text ≡ textOf ws → length ws ≡ n → AllWords ws → wordsOf text n ≡ ws
+words-are : (text : List ℕ) (n : ℕ) (ws : List ℕ) → text ≡ textOf ws → length ws ≡ n → AllWords ws → sheetWords text n ≡ ws
 words-are text n ws e k a = rw (e, ← k) (back ws a)
 
-accepted : (room : ℕ) (text : List ℕ) (n : ℕ) → sheetOf room text ≡ Words n → text ≡ textOf (wordsOf text n)
+accepted : (room : ℕ) (text : List ℕ) (n : ℕ) → sheetOf room text ≡ Words n → text ≡ textOf (sheetWords text n)
 accepted room text n e =
     let s : Accepted room text n = rw e at (says room text) in
     s .whole ∙ ap textOf (sym (words-are text n (s .words) (s .whole) (s .count) (s .are-words)))
@@ -222,7 +223,7 @@ unfolding textOf
 length-text [] = refl
 length-text (w ∷ ws) = length-append (lineOf w) (textOf ws) ∙ omega (arith, length-line w, length-text ws)
 
-small : (ws : List ℕ) → AllWords ws → (k : ℕ) → k < length ws → wordAt (textOf ws) k ≤ mostWord
+small : (ws : List ℕ) → AllWords ws → (k : ℕ) → k < length ws → sheetWordAt (textOf ws) k ≤ mostWord
 unfolding textOf AllWords
 small [] a k h = absurd (omega arith)
 small (w ∷ ws) a zero h = rw (word-zero w (textOf ws) (a .0)) (a .0)
@@ -231,7 +232,7 @@ small (w ∷ ws) a (suc k) h = rw (word-next w (textOf ws) k) (small ws (a .1) k
 pub record Filling (room : ℕ) (text : List ℕ) (n : ℕ) : Type 0 where
   pub fits : n ≤ room
   pub long : 11 * n ≤ length text
-  pub small : (k : ℕ) → k < n → wordAt text k ≤ mostWord
+  pub small : (k : ℕ) → k < n → sheetWordAt text k ≤ mostWord
 
 pub filling : (room : ℕ) (text : List ℕ) (n : ℕ) → sheetOf room text ≡ Words n → Filling room text n
 filling room text n e =

@@ -11,7 +11,7 @@ use lib.ListN.{length, take, drop, getD, length-drop}
 use lib.Seq.{slice, slice-cons, slice-empty, take-take, take-suc, getD-drop, length-take-le}
 use borrow.Author.Tests.{eq-eqb, ne-eqb}
 use Rattle.sheet.specs.Columns.{digitOf, glyphOf, leading, columns}
-use Rattle.sheet.specs.Line.{lineOf, valueFrom, valueOf, same}
+use Rattle.sheet.specs.Line.{lineOf, valueFrom, lineValue, sameBytes}
 use Rattle.sheet.proofs.Widths.{length-leading, length-columns}
 
 -- ---- the number that a line shows
@@ -22,8 +22,8 @@ value-turn text at i v h l =
     let room : 10 ≤ length (drop at text) = simp length-drop (omega arith) in
     rw (slice-cons i 10 (drop at text) 0 h room, getD-drop, add-one)
 
-pub value-start : (line : List ℕ) → valueFrom 0 (slice 0 10 line) ≡ valueOf (take 11 line)
-unfolding valueOf
+pub value-start : (line : List ℕ) → valueFrom 0 (slice 0 10 line) ≡ lineValue (take 11 line)
+unfolding lineValue
 value-start line = rw (take-take 10 11 line (omega arith))
 
 pub value-end : (line : List ℕ) (v : ℕ) → valueFrom v (slice 10 10 line) ≡ v
@@ -47,13 +47,13 @@ and-swap true b t = refl
 and-swap false true t = refl
 and-swap false false t = refl
 
-same-snoc : (xs ys : List ℕ) (x y : ℕ) → length xs ≡ length ys → same (xs ++ (x ∷ [])) (ys ++ (y ∷ [])) ≡ (eqb x y && same xs ys)
+same-snoc : (xs ys : List ℕ) (x y : ℕ) → length xs ≡ length ys → sameBytes (xs ++ (x ∷ [])) (ys ++ (y ∷ [])) ≡ (eqb x y && sameBytes xs ys)
 same-snoc [] [] x y e = refl
 same-snoc [] (b ∷ ys) x y e = absurd (omega arith)
 same-snoc (a ∷ xs) [] x y e = absurd (omega arith)
-same-snoc (a ∷ xs) (b ∷ ys) x y e = rw (same-snoc xs ys x y (omega arith)) (and-swap (eqb a b) (eqb x y) (same xs ys))
+same-snoc (a ∷ xs) (b ∷ ys) x y e = rw (same-snoc xs ys x y (omega arith)) (and-swap (eqb a b) (eqb x y) (sameBytes xs ys))
 
-pub same-short : (xs ys : List ℕ) → length xs < length ys → same xs ys ≡ false
+pub same-short : (xs ys : List ℕ) → length xs < length ys → sameBytes xs ys ≡ false
 same-short [] [] h = absurd (omega arith)
 same-short [] (y ∷ ys) h = refl
 same-short (x ∷ xs) [] h = refl
@@ -94,7 +94,7 @@ part-length : (text : List ℕ) (at k : ℕ) → at + k ≤ length text → leng
 part-length text at k h = length-take-le k (drop at text) (simp length-drop (omega arith))
 
 matches-is : (text : List ℕ) (at k v : ℕ) → at + k ≤ length text
-    → matches text at k v ≡ same (take k (drop at text)) (leading k v)
+    → matches text at k v ≡ sameBytes (take k (drop at text)) (leading k v)
 unfolding matches leading
 matches-is text at zero v h = refl
 matches-is text at (suc k) v h =
@@ -103,19 +103,19 @@ matches-is text at (suc k) v h =
 
 -- the three tests of a line
 module _ (text : List ℕ) (at v : ℕ) (h : at + 11 ≤ length text) where
-  shows-is : same (take 11 (drop at text)) (lineOf v) ≡ (eqb (getD text (at + 10) 0) 10 && (eqb (getD text (at + 9) 0) (digitOf v) && matches text at 9 (v / 10)))
+  shows-is : sameBytes (take 11 (drop at text)) (lineOf v) ≡ (eqb (getD text (at + 10) 0) 10 && (eqb (getD text (at + 9) 0) (digitOf v) && matches text at 9 (v / 10)))
   unfolding lineOf columns
   shows-is =
       rw (more text at 10 h, same-snoc (take 10 (drop at text)) (columns 10 v) (getD text (at + 10) 0) 10 (part-length text at 10 (omega arith) ∙ sym (length-columns 10 v)))
       (rw (more text at 9 (omega arith), same-snoc (take 9 (drop at text)) (leading 9 (v / 10)) (getD text (at + 9) 0) (digitOf v) (part-length text at 9 (omega arith) ∙ sym (length-leading 9 (v / 10))), matches-is text at 9 (v / 10) (omega arith)))
 
-  pub no-newline : (getD text (at + 10) 0 ≡ 10 → ⊥) → false ≡ same (take 11 (drop at text)) (lineOf v)
+  pub no-newline : (getD text (at + 10) 0 ≡ 10 → ⊥) → false ≡ sameBytes (take 11 (drop at text)) (lineOf v)
   no-newline n = sym (shows-is ∙ rw (ne-eqb (getD text (at + 10) 0) 10 n))
 
   pub no-digit : getD text (at + 10) 0 ≡ 10 → (getD text (at + 9) 0 ≡ digitOf v → ⊥)
-      → false ≡ same (take 11 (drop at text)) (lineOf v)
+      → false ≡ sameBytes (take 11 (drop at text)) (lineOf v)
   no-digit e n = sym (shows-is ∙ rw (eq-eqb (getD text (at + 10) 0) 10 e, ne-eqb (getD text (at + 9) 0) (digitOf v) n))
 
   pub by-leading : getD text (at + 10) 0 ≡ 10 → getD text (at + 9) 0 ≡ digitOf v
-      → matches text at 9 (v / 10) ≡ same (take 11 (drop at text)) (lineOf v)
+      → matches text at 9 (v / 10) ≡ sameBytes (take 11 (drop at text)) (lineOf v)
   by-leading e d = sym (shows-is ∙ rw (eq-eqb (getD text (at + 10) 0) 10 e, eq-eqb (getD text (at + 9) 0) (digitOf v) d))

@@ -10,25 +10,26 @@ use lib.Dec.{leb, eqb}
 use lib.ListN.{length, take, drop, length-take, length-drop}
 use lib.Seq.{take-at}
 use borrow.Author.Tests.{eqb-true, eq-eqb, leb-true, le-leb, lt-leb}
+use Rattle.common.specs.Limits.{mostWord}
 use Rattle.sheet.specs.Columns.{digitOf, glyphOf, leading, columns}
-use Rattle.sheet.specs.Line.{mostWord, lineOf, valueFrom, valueOf, same, isLine}
+use Rattle.sheet.specs.Line.{lineOf, valueFrom, lineValue, sameBytes, isLine}
 use Rattle.sheet.proofs.Widths.{length-columns, length-line}
 use Rattle.sheet.proofs.Compare.{same-short}
 
 pub apart : true ≡ false → ⊥
 apart e = let z : _≡_ {A = ℕ} 0 1 = cc in omega arith
 
-same-refl : (xs : List ℕ) → same xs xs ≡ true
+same-refl : (xs : List ℕ) → sameBytes xs xs ≡ true
 same-refl [] = refl
 same-refl (x ∷ xs) = rw (eq-eqb x x refl) (same-refl xs)
 
-same-eq : (xs ys : List ℕ) → same xs ys ≡ true → xs ≡ ys
+same-eq : (xs ys : List ℕ) → sameBytes xs ys ≡ true → xs ≡ ys
 same-eq [] [] e = refl
 same-eq [] (y ∷ ys) e = absurd (let z : _≡_ {A = ℕ} 0 1 = cc in omega arith)
 same-eq (x ∷ xs) [] e = absurd (let z : _≡_ {A = ℕ} 0 1 = cc in omega arith)
 same-eq (x ∷ xs) (y ∷ ys) e = go (eqb x y) refl (λ q. same-eq xs ys q) e
   where
-    go : (t : Bool) → eqb x y ≡ t → (same xs ys ≡ true → xs ≡ ys) → (t && same xs ys) ≡ true → (x ∷ xs) ≡ (y ∷ ys)
+    go : (t : Bool) → eqb x y ≡ t → (sameBytes xs ys ≡ true → xs ≡ ys) → (t && sameBytes xs ys) ≡ true → (x ∷ xs) ≡ (y ∷ ys)
     go true p f q = rw (eqb-true x y p, f q)
     go false p f q = absurd (let z : _≡_ {A = ℕ} 0 1 = cc in omega arith)
 
@@ -65,8 +66,8 @@ columns-value k v h =
     let p : 10 ^ suc k ≡ 10 ^ k * 10 = pow-suc 10 k in
     value-snoc (leading k (v / 10)) 0 (digitOf v) ∙ rw (leading-value k (v / 10) (omega arith), digit-low v) (omega arith)
 
-pub line-shows : (v : ℕ) → v ≤ mostWord → valueOf (lineOf v) ≡ v
-unfolding valueOf lineOf
+pub line-shows : (v : ℕ) → v ≤ mostWord → lineValue (lineOf v) ≡ v
+unfolding lineValue lineOf
 line-shows v h = rw (take-at (columns 10 v) (10 ∷ []) 10 (length-columns 10 v)) (columns-value 9 v (omega arith))
 
 -- ---- well-formed lines
@@ -83,30 +84,30 @@ and-right : (s t : Bool) → (s && t) ≡ true → t ≡ true
 and-right true t e = e
 and-right false t e = absurd (let z : _≡_ {A = ℕ} 0 1 = cc in omega arith)
 
-pub good-line : (line : List ℕ) → isLine line ≡ true → line ≡ lineOf (valueOf line)
+pub good-line : (line : List ℕ) → isLine line ≡ true → line ≡ lineOf (lineValue line)
 unfolding isLine
-good-line line e = same-eq line (lineOf (valueOf line)) (and-right (leb (valueOf line) mostWord) (same line (lineOf (valueOf line))) e)
+good-line line e = same-eq line (lineOf (lineValue line)) (and-right (leb (lineValue line) mostWord) (sameBytes line (lineOf (lineValue line))) e)
 
-pub good-value : (line : List ℕ) → isLine line ≡ true → valueOf line ≤ mostWord
+pub good-value : (line : List ℕ) → isLine line ≡ true → lineValue line ≤ mostWord
 unfolding isLine
-good-value line e = leb-true (valueOf line) mostWord (and-left (leb (valueOf line) mostWord) (same line (lineOf (valueOf line))) e)
+good-value line e = leb-true (lineValue line) mostWord (and-left (leb (lineValue line) mostWord) (sameBytes line (lineOf (lineValue line))) e)
 
 pub line-short : (line : List ℕ) → length line < 11 → isLine line ≡ false
 unfolding isLine
 line-short line h =
-    let s : length line < length (lineOf (valueOf line)) = rw (length-line (valueOf line)) h in
-    rw (same-short line (lineOf (valueOf line)) s) (and-false (leb (valueOf line) mostWord))
+    let s : length line < length (lineOf (lineValue line)) = rw (length-line (lineValue line)) h in
+    rw (same-short line (lineOf (lineValue line)) s) (and-false (leb (lineValue line) mostWord))
 
-pub line-big : (line : List ℕ) → mostWord < valueOf line → isLine line ≡ false
+pub line-big : (line : List ℕ) → mostWord < lineValue line → isLine line ≡ false
 unfolding isLine
-line-big line h = rw (lt-leb (valueOf line) mostWord h)
+line-big line h = rw (lt-leb (lineValue line) mostWord h)
 
-pub line-fits : (line : List ℕ) → valueOf line ≤ mostWord → isLine line ≡ same line (lineOf (valueOf line))
+pub line-fits : (line : List ℕ) → lineValue line ≤ mostWord → isLine line ≡ sameBytes line (lineOf (lineValue line))
 unfolding isLine
-line-fits line h = rw (le-leb (valueOf line) mostWord h)
+line-fits line h = rw (le-leb (lineValue line) mostWord h)
 
 -- a well-formed line is whole
 pub line-inside : (text : List ℕ) (at : ℕ) → isLine (take 11 (drop at text)) ≡ true → at + 11 ≤ length text
 line-inside text at e =
-    let f : length (take 11 (drop at text)) ≡ 11 = rw (good-line (take 11 (drop at text)) e) (length-line (valueOf (take 11 (drop at text)))) in
+    let f : length (take 11 (drop at text)) ≡ 11 = rw (good-line (take 11 (drop at text)) e) (length-line (lineValue (take 11 (drop at text)))) in
     omega (arith, simp (length-take, length-drop) at f)

@@ -11,7 +11,7 @@ use borrow.Author.Tests.{eq-eqb, ne-eqb}
 use Rattle.sheet.specs.declared.reading.Sheet.{Sheet}
 use Rattle.sheet.specs.declared.reading.Sheet.the-variants.{Words, Malformed, TooLong}
 use Rattle.sheet.specs.Line.{isLine}
-use Rattle.sheet.specs.Format.{readFrom, sheetOf, wordAt, wordsOf, stored, roomOf, tableAfter}
+use Rattle.sheet.specs.Format.{readFrom, sheetOf, sheetWordAt, sheetWords, stored, roomOf, tableAfter}
 
 pub read-none : (room k : ℕ) (text : List ℕ) → length text ≡ 0 → readFrom room k text ≡ Words k
 read-none zero k text e = rw (eq-eqb (length text) 0 e)
@@ -49,20 +49,20 @@ scan-more text at h room k l e =
 
 -- ---- filling
 
-pub length-words : (text : List ℕ) (k : ℕ) → length (wordsOf text k) ≡ k
-unfolding wordsOf
+pub length-words : (text : List ℕ) (k : ℕ) → length (sheetWords text k) ≡ k
+unfolding sheetWords
 length-words text zero = refl
-length-words text (suc k) = length-append (wordsOf text k) (wordAt text k ∷ []) ∙ rw (length-words text k) (omega arith)
+length-words text (suc k) = length-append (sheetWords text k) (sheetWordAt text k ∷ []) ∙ rw (length-words text k) (omega arith)
 
-pub words-none : (text table : List ℕ) → table ≡ wordsOf text 0 ++ drop 0 table
-unfolding wordsOf
+pub words-none : (text table : List ℕ) → table ≡ sheetWords text 0 ++ drop 0 table
+unfolding sheetWords
 words-none text table = refl
 
 pub words-more : (text : List ℕ) (k : ℕ) (table : List ℕ) → k < length table
-    → set (wordsOf text k ++ drop k table) k (wordAt text k) ≡ wordsOf text (k + 1) ++ drop (k + 1) table
-unfolding wordsOf
+    → set (sheetWords text k ++ drop k table) k (sheetWordAt text k) ≡ sheetWords text (k + 1) ++ drop (k + 1) table
+unfolding sheetWords
 words-more text k table h =
-    rw (add-one k, drop-cons table k 0 h, set-at (wordsOf text k) (getD table k 0) (drop (suc k) table) (wordAt text k) k (length-words text k), append-snoc)
+    rw (add-one k, drop-cons table k 0 h, set-at (sheetWords text k) (getD table k 0) (drop (suc k) table) (sheetWordAt text k) k (length-words text k), append-snoc)
 
 -- ---- the table
 

@@ -8,7 +8,7 @@ use lib.ListN.{length, take}
 use Rattle.sheet.specs.declared.reading.Sheet.{Sheet}
 use Rattle.sheet.specs.declared.reading.Sheet.the-variants.{Words, Malformed, TooLong}
 use Rattle.sheet.specs.Line.{lineOf}
-use Rattle.sheet.specs.Format.{sheetOf, wordsOf}
+use Rattle.sheet.specs.Format.{sheetOf, sheetWords}
 
 -- the sheet of words: their lines, one after another
 unfoldable pub textOf : List ℕ → List ℕ
@@ -50,23 +50,23 @@ pub record Overfull (room : ℕ) (text : List ℕ) : Type 0 where
   pub some : 0 < length rest
 
 -- what an answer says of a text
-abbrev pub Says : ℕ → List ℕ → Sheet → Type 0
-Says room text (Words n) = Accepted room text n
-Says room text (Malformed line) = Broken room text line
-Says room text TooLong = Overfull room text
+abbrev pub SheetSays : ℕ → List ℕ → Sheet → Type 0
+SheetSays room text (Words n) = Accepted room text n
+SheetSays room text (Malformed line) = Broken room text line
+SheetSays room text TooLong = Overfull room text
 
 pub record Claims : Type 0 where
   -- what is answered is so
-  pub says : (room : ℕ) (text : List ℕ) → Says room text (sheetOf room text)
+  pub says : (room : ℕ) (text : List ℕ) → SheetSays room text (sheetOf room text)
   -- what is so is answered: each text has one answer
-  pub only : (room : ℕ) (text : List ℕ) (s : Sheet) → Says room text s → sheetOf room text ≡ s
+  pub only : (room : ℕ) (text : List ℕ) (s : Sheet) → SheetSays room text s → sheetOf room text ≡ s
   -- what is accepted is that text: the bytes are exactly the lines of the words that are stored
   pub accepted : (room : ℕ) (text : List ℕ) (n : ℕ)
-      → sheetOf room text ≡ Words n → text ≡ textOf (wordsOf text n)
+      → sheetOf room text ≡ Words n → text ≡ textOf (sheetWords text n)
   -- every sheet for whose words there is room is accepted, with those words
   pub every : (room : ℕ) (words : List ℕ) → AllWords words → length words ≤ room
       → sheetOf room (textOf words) ≡ Words (length words)
-  pub back : (words : List ℕ) → AllWords words → wordsOf (textOf words) (length words) ≡ words
+  pub back : (words : List ℕ) → AllWords words → sheetWords (textOf words) (length words) ≡ words
   -- a text need not be read past the first byte for which there is no room
   pub enough : (room more : ℕ) (text : List ℕ)
       → sheetOf room (take (11 * room + (more + 1)) text) ≡ sheetOf room text

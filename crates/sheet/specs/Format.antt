@@ -9,7 +9,7 @@ use Rattle.common.specs.Limits.{mostLines}
 use Rattle.common.specs.Numbers.{«ACCEPTED», «MALFORMED_LINE», «TOO_MANY_LINES»}
 use Rattle.sheet.specs.declared.reading.Sheet.{Sheet}
 use Rattle.sheet.specs.declared.reading.Sheet.the-variants.{Words, Malformed, TooLong}
-use Rattle.sheet.specs.Line.{valueOf, isLine}
+use Rattle.sheet.specs.Line.{lineValue, isLine}
 
 -- what is read of the text that is left, where k lines are read and there is room for so many more.
 -- "Of 12 and 13 the first met in reading order counts", and the text of a line for which there is
@@ -25,18 +25,18 @@ unfoldable pub sheetOf : ℕ → List ℕ → Sheet
 sheetOf room text = readFrom room 0 text
 
 -- the word of line k, lines counted from 0: each line is 11 bytes
-unfoldable pub wordAt : List ℕ → ℕ → ℕ
-wordAt text k = valueOf (take 11 (drop (11 * k) text))
+unfoldable pub sheetWordAt : List ℕ → ℕ → ℕ
+sheetWordAt text k = lineValue (take 11 (drop (11 * k) text))
 
 -- the words of the first n lines
-unfoldable pub wordsOf : List ℕ → ℕ → List ℕ
-wordsOf text zero = []
-wordsOf text (suc k) = wordsOf text k ++ (wordAt text k ∷ [])
+unfoldable pub sheetWords : List ℕ → ℕ → List ℕ
+sheetWords text zero = []
+sheetWords text (suc k) = sheetWords text k ++ (sheetWordAt text k ∷ [])
 
 -- what an answer leaves in the table: the words, with the places past them untouched; of a refusal
 -- "nothing lent is altered"
 abbrev pub stored : Sheet → List ℕ → List ℕ → List ℕ
-stored (Words n) text table = wordsOf text n ++ drop n table
+stored (Words n) text table = sheetWords text n ++ drop n table
 stored (Malformed line) text table = table
 stored TooLong text table = table
 
@@ -49,12 +49,12 @@ unfoldable pub tableAfter : List ℕ → List ℕ → List ℕ
 tableAfter text table = stored (sheetOf (roomOf table) text) text table
 
 -- the document's number and place of each answer
-abbrev pub numberOf : Sheet → ℕ
-numberOf (Words n) = «ACCEPTED»
-numberOf (Malformed line) = «MALFORMED_LINE»
-numberOf TooLong = «TOO_MANY_LINES»
+abbrev pub sheetNumber : Sheet → ℕ
+sheetNumber (Words n) = «ACCEPTED»
+sheetNumber (Malformed line) = «MALFORMED_LINE»
+sheetNumber TooLong = «TOO_MANY_LINES»
 
-abbrev pub placeOf : Sheet → ℕ
-placeOf (Words n) = 0
-placeOf (Malformed line) = line
-placeOf TooLong = 0
+abbrev pub sheetPlace : Sheet → ℕ
+sheetPlace (Words n) = 0
+sheetPlace (Malformed line) = line
+sheetPlace TooLong = 0

@@ -6,11 +6,8 @@ use mathlib.Core.List.{List, [], _∷_, _++_}
 use Prim.Native.Nat.{ℕ, _+_, _*_, _%_}
 use lib.Dec.{leb, eqb}
 use lib.ListN.{take}
+use Rattle.common.specs.Limits.{mostWord}
 use Rattle.sheet.specs.Columns.{newline, columns}
-
--- a word is 32 bits
-abbrev pub mostWord : ℕ
-mostWord = 4294967295
 
 -- the line of the word v
 unfoldable pub lineOf : ℕ → List ℕ
@@ -22,17 +19,17 @@ abbrev pub valueFrom : ℕ → List ℕ → ℕ
 valueFrom v [] = v
 valueFrom v (b ∷ bytes) = valueFrom (v * 10 + b % 16) bytes
 
-unfoldable pub valueOf : List ℕ → ℕ
-valueOf line = valueFrom 0 (take 10 line)
+unfoldable pub lineValue : List ℕ → ℕ
+lineValue line = valueFrom 0 (take 10 line)
 
 -- two texts are the same
-abbrev pub same : List ℕ → List ℕ → Bool
-same [] [] = true
-same [] (y ∷ ys) = false
-same (x ∷ xs) [] = false
-same (x ∷ xs) (y ∷ ys) = eqb x y && same xs ys
+abbrev pub sameBytes : List ℕ → List ℕ → Bool
+sameBytes [] [] = true
+sameBytes [] (y ∷ ys) = false
+sameBytes (x ∷ xs) [] = false
+sameBytes (x ∷ xs) (y ∷ ys) = eqb x y && sameBytes xs ys
 
 -- a line is well formed if it is the line of a word: of the number that it shows. `specs/Claims.antt` says
 -- this without the number: exactly the lines `lineOf w` of a word w are
 unfoldable pub isLine : List ℕ → Bool
-isLine line = leb (valueOf line) mostWord && same line (lineOf (valueOf line))
+isLine line = leb (lineValue line) mostWord && sameBytes line (lineOf (lineValue line))

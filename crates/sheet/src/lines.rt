@@ -3,20 +3,18 @@
 ghost use mathlib.Core.Path.{_≡_};
 ghost use Prim.Native.Nat.{_+_, _≤_};
 ghost use lib.ListN.{length, take, drop};
-ghost use Rattle.sheet.specs.Line.{lineOf, valueOf, same, isLine};
+ghost use Rattle.sheet.specs.Line.{lineOf, lineValue, sameBytes, isLine};
 use crate::digits::digit;
 use crate::digits::glyph;
+use common::limits::MOST_WORD;
 
 // Ten columns and a newline.
 pub(crate) const LINE: usize = 11;
 
-// A word is 32 bits.
-const MOST: u64 = 4294967295;
-
 // The number that the ten columns from index at show.
 pub(crate) fn value(text: &[u8], at: usize) -> u64
     requires { ⌜ at + 11 ≤ length (now text) ⌝ }
-    ensures { λ r. ⌜ r ≡ valueOf (take 11 (drop at (now (text .entry)))) ⌝ }
+    ensures { λ r. ⌜ r ≡ lineValue (take 11 (drop at (now (text .entry)))) ⌝ }
 {
     let mut v: u64 = 0;
     let mut i = 0;
@@ -30,7 +28,7 @@ pub(crate) fn value(text: &[u8], at: usize) -> u64
 // Whether the line from index at is that of v. Compared from the right, as the digits come off v.
 fn shows(text: &[u8], at: usize, v: u64) -> bool
     requires { ⌜ at + 11 ≤ length (now text) ⌝ }
-    ensures { λ r. ⌜ r ≡ same (take 11 (drop at (now (text .entry)))) (lineOf v) ⌝ }
+    ensures { λ r. ⌜ r ≡ sameBytes (take 11 (drop at (now (text .entry)))) (lineOf v) ⌝ }
 {
     if text[at + 10] != b'\n' {
         return false;
@@ -59,7 +57,7 @@ pub(crate) fn is_line(text: &[u8], at: usize) -> bool
         return false;
     }
     let v = value(text, at);
-    if MOST < v {
+    if MOST_WORD < v {
         return false;
     }
     shows(text, at, v)

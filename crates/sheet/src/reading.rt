@@ -4,7 +4,15 @@ ghost use mathlib.Core.List.{_++_};
 ghost use Prim.Native.Nat.{ℕ, _*_, _≤_, _<_, min};
 ghost use lib.ListN.{length, drop};
 ghost use Rattle.common.specs.Limits.{mostLines};
-ghost use Rattle.sheet.specs.Format.{roomOf, sheetOf, wordAt, wordsOf, tableAfter, numberOf, placeOf};
+ghost use Rattle.sheet.specs.Format.{
+  roomOf,
+  sheetOf,
+  sheetWordAt,
+  sheetWords,
+  tableAfter,
+  sheetNumber,
+  sheetPlace,
+};
 use crate::lines::LINE;
 use crate::lines::is_line;
 use crate::lines::value;
@@ -24,8 +32,8 @@ pub enum Sheet {
 }
 
 // The document's number of the answer, 0 where the sheet is accepted.
-pub fn number(s: Sheet) -> u8
-    ensures { λ r. ⌜ r ≡ numberOf s ⌝ }
+pub fn sheet_number(s: Sheet) -> u8
+    ensures { λ r. ⌜ r ≡ sheetNumber s ⌝ }
 {
     match s {
         Sheet::Words(_) => ACCEPTED,
@@ -35,8 +43,8 @@ pub fn number(s: Sheet) -> u8
 }
 
 // The document's place of the answer.
-pub fn place(s: Sheet) -> usize
-    ensures { λ r. ⌜ r ≡ placeOf s ⌝ }
+pub fn sheet_place(s: Sheet) -> usize
+    ensures { λ r. ⌜ r ≡ sheetPlace s ⌝ }
 {
     match s {
         Sheet::Words(_) => 0,
@@ -74,8 +82,8 @@ fn scan(text: &[u8], room: usize) -> Sheet
 // The words of the first n lines.
 fn fill(text: &[u8], words: &mut [u32], n: usize)
     requires { ⌜ (n ≤ length (now words)) × (11 * n ≤ length (now text))
-        × ((k : ℕ) → k < n → wordAt (now text) k ≤ 4294967295) ⌝ }
-    ensures { λ _. ⌜ now (words .exit) ≡ wordsOf (now (text .entry)) n ++ drop n (now (words .entry)) ⌝ }
+        × ((k : ℕ) → k < n → sheetWordAt (now text) k ≤ 4294967295) ⌝ }
+    ensures { λ _. ⌜ now (words .exit) ≡ sheetWords (now (text .entry)) n ++ drop n (now (words .entry)) ⌝ }
 {
     let mut k = 0;
     while k < n {

@@ -19,9 +19,9 @@ use Rattle.chunk.specs.declared.reading.Refusal.the-variants.{Header, Malformed
 use Rattle.chunk.specs.Reading.{Result, done, refused}
 use Rattle.chunk.specs.Lundump.{Function}
 use Rattle.chunk.specs.Chunk.{chosen, countsOf, wordsOf, wordsRoom, filled, after}
-use Rattle.chunk.specs.Laws.{Within}
+use Rattle.chunk.specs.Laws.{CountsWithin}
 use Rattle.chunk.proofs.Laws.{laws}
-use Rattle.survey.specs.Lines.{headOf, tailOf, onlyOf, textOf, runIn, lineOf}
+use Rattle.survey.specs.Lines.{lineHead, tailOf, onlyOf, functionText, runIn, functionLine}
 
 -- ---- lengths
 length-both : (xs ys : List ℕ) (m n k : ℕ) → length xs ≡ m → length ys ≡ n → m + n ≡ k → length (xs ++ ys) ≡ k
@@ -30,8 +30,8 @@ length-both xs ys m n k a b e = length-append xs ys ∙ rw (a, b) e
 length-four : (a b c d : Cell) → length (cellOf a ++ cellOf b ++ cellOf c ++ cellOf d) ≡ 24
 length-four a b c d = simp (length-append, sheet-laws .cell)
 
-pub length-head : (k : ℕ) (c : Counts) → length (headOf k c) ≡ 24
-unfolding headOf
+pub length-head : (k : ℕ) (c : Counts) → length (lineHead k c) ≡ 24
+unfolding lineHead
 length-head k c = length-four (Number k) (Number (c .words)) (Number (c .constants)) (Number (c .names))
 
 pub length-accepted : (longest first : ℕ) → length (tailOf (Accepted longest first)) ≡ 13
@@ -60,8 +60,8 @@ module _ (l o₁ o₂ : List ℕ) where
 
 pub head-put : (l o₁ o₂ o₃ o₄ : List ℕ) (k : ℕ) (c : Counts) → 24 ≤ length l → o₁ ≡ put l 0 (cellOf (Number k))
     → o₂ ≡ put o₁ 6 (cellOf (Number (c .words))) → o₃ ≡ put o₂ 12 (cellOf (Number (c .constants)))
-    → o₄ ≡ put o₃ 18 (cellOf (Number (c .names))) → o₄ ≡ put l 0 (headOf k c)
-unfolding headOf
+    → o₄ ≡ put o₃ 18 (cellOf (Number (c .names))) → o₄ ≡ put l 0 (lineHead k c)
+unfolding lineHead
 head-put l o₁ o₂ o₃ o₄ k c h e₁ e₂ e₃ e₄ =
     let one = cellOf (Number k) in
     let l₁ : length one ≡ 6 = sheet-laws .cell (Number k) in
@@ -101,16 +101,16 @@ module _ (k : ℕ) (bytes : List ℕ) (table words : List ℕ) (c : Counts)
   counts-are : c ≡ countsOf (chosen k bytes)
   counts-are = h ∙ ap countsOf (laws .room k bytes)
 
-  pub within : Within c
+  pub within : CountsWithin c
   within = rw counts-are (laws .within k bytes)
 
-  refused-text : (X : Result Function) → c ≡ countsOf X → (c .number ≡ 0 → ⊥) → onlyOf k (c .number) (c .place) ≡ textOf k X
-  unfolding countsOf textOf
+  refused-text : (X : Result Function) → c ≡ countsOf X → (c .number ≡ 0 → ⊥) → onlyOf k (c .number) (c .place) ≡ functionText k X
+  unfolding countsOf functionText
   refused-text (done f at) e n = absurd (n (ap (λ (x : Counts). x .number) e))
   refused-text (refused x) e n = rw e
 
-  pub line-refused : (c .number ≡ 0 → ⊥) → onlyOf k (c .number) (c .place) ≡ lineOf k bytes
-  unfolding lineOf
+  pub line-refused : (c .number ≡ 0 → ⊥) → onlyOf k (c .number) (c .place) ≡ functionLine k bytes
+  unfolding functionLine
   line-refused n = refused-text (chosen k bytes) counts-are n
 
   -- the function that was accepted
@@ -146,17 +146,17 @@ module _ (k : ℕ) (bytes : List ℕ) (table words : List ℕ) (c : Counts)
   words-part z = let g = got z in many g ∙ sym (ap length (words-are g))
 
   pub line-accepted : (z : c .number ≡ 0) (run : Run) (page o o′ : List ℕ) (r : ℕ) → run ≡ runIn (take (c .words) words) → 49 ≤ length page
-      → o ≡ put page 0 (headOf k c) → r ≡ 24 + length (tailOf run) → o′ ≡ put o 24 (tailOf run)
-      → (r ≡ length (lineOf k bytes)) × (o′ ≡ put page 0 (lineOf k bytes))
-  unfolding lineOf textOf
+      → o ≡ put page 0 (lineHead k c) → r ≡ 24 + length (tailOf run) → o′ ≡ put o 24 (tailOf run)
+      → (r ≡ length (functionLine k bytes)) × (o′ ≡ put page 0 (functionLine k bytes))
+  unfolding functionLine functionText
   line-accepted z run page o o′ r er l eo ek eo′ =
       let g = got z in
       let t : take (c .words) words ≡ g .function .words = words-are g in
-      let m : headOf k c ++ tailOf run ≡ textOf k (chosen k bytes) =
-      ap (λ (x : Counts). headOf k x ++ tailOf run) (g .counts)
-      ∙ ap (λ (x : Run). headOf k (countsOf (done (g .function) (g .at))) ++ tailOf x) (er ∙ ap runIn t)
-      ∙ ap (textOf k) (sym (g .is)) in
-      let s : length (headOf k c ++ tailOf run) ≡ 24 + length (tailOf run) = length-both (headOf k c) (tailOf run) 24 (length (tailOf run)) (24 + length (tailOf run)) (length-head k c) refl refl in
+      let m : lineHead k c ++ tailOf run ≡ functionText k (chosen k bytes) =
+      ap (λ (x : Counts). lineHead k x ++ tailOf run) (g .counts)
+      ∙ ap (λ (x : Run). lineHead k (countsOf (done (g .function) (g .at))) ++ tailOf x) (er ∙ ap runIn t)
+      ∙ ap (functionText k) (sym (g .is)) in
+      let s : length (lineHead k c ++ tailOf run) ≡ 24 + length (tailOf run) = length-both (lineHead k c) (tailOf run) 24 (length (tailOf run)) (24 + length (tailOf run)) (length-head k c) refl refl in
       let v = length-tail run in
-      let p : o′ ≡ put page 0 (headOf k c ++ tailOf run) = put-laws .and-then page o o′ 0 24 (headOf k c) (tailOf run) eo (length-head k c) (omega arith) eo′ in
+      let p : o′ ≡ put page 0 (lineHead k c ++ tailOf run) = put-laws .and-then page o o′ 0 24 (lineHead k c) (tailOf run) eo (length-head k c) (omega arith) eo′ in
       (ek ∙ sym s ∙ ap length m, p ∙ ap (put page 0) m)

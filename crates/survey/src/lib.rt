@@ -6,4 +6,4 @@ mod run;
 
 pub use lines::line;
 pub use paper::buffer;
-pub use paper::page;
+pub use paper::line_page;

@@ -2,17 +2,17 @@
 ghost use mathlib.Core.Path.{_≡_};
 ghost use Prim.Native.Nat.{_+_, _≤_};
 ghost use lib.ListN.{length};
-ghost use Rattle.common.specs.Lists.{put};
+ghost use Rattle.common.specs.Lists.{put, Counted};
 ghost use Rattle.sheet.specs.Rows.{cellOf};
-ghost use Rattle.survey.specs.Lines.{headOf, tailOf, onlyOf, lineOf};
-ghost use Rattle.survey.specs.Claims.{lineLength, Counted};
+ghost use Rattle.survey.specs.Lines.{lineHead, tailOf, onlyOf, functionLine};
+ghost use Rattle.survey.specs.Claims.{lineLength};
 use crate::paper;
 use crate::paper::LINE;
-use crate::paper::put_text;
 use crate::run::run_of;
 use chunk::Counts;
 use runs::Run;
 use sheet::Cell;
+use sheet::inner::put_text;
 
 fn put_cell(page: &mut [u8], at: usize, c: Cell)
     requires { ⌜ at + 6 ≤ length (now page) ⌝ }
@@ -24,7 +24,7 @@ fn put_cell(page: &mut [u8], at: usize, c: Cell)
 // The function's number, words, constants and names, from the page's start on.
 fn put_head(page: &mut [u8], k: usize, c: Counts)
     requires { ⌜ 24 ≤ length (now page) ⌝ }
-    ensures { λ _. ⌜ now (page .exit) ≡ put (now (page .entry)) 0 (headOf k c) ⌝ }
+    ensures { λ _. ⌜ now (page .exit) ≡ put (now (page .entry)) 0 (lineHead k c) ⌝ }
 {
     put_cell(page, 0, Cell::Number(k));
     put_cell(page, 6, Cell::Number(c.words as usize));
@@ -72,8 +72,8 @@ fn put_only(page: &mut [u8], k: usize, c: Counts) -> usize
 // The line of function k, and its length.
 fn put_line(bytes: &[u8], k: usize, page: &mut [u8]) -> usize
     requires { ⌜ lineLength ≤ length (now page) ⌝ }
-    ensures { λ r. ⌜ r ≡ length (lineOf k (now (bytes .entry))) ⌝ }
-    ensures { λ _. ⌜ now (page .exit) ≡ put (now (page .entry)) 0 (lineOf k (now (bytes .entry))) ⌝ }
+    ensures { λ r. ⌜ r ≡ length (functionLine k (now (bytes .entry))) ⌝ }
+    ensures { λ _. ⌜ now (page .exit) ≡ put (now (page .entry)) 0 (functionLine k (now (bytes .entry))) ⌝ }
 {
     let mut words = paper::words();
     let counts = chunk::words_of(bytes, k, &mut words);
@@ -89,8 +89,8 @@ fn put_line(bytes: &[u8], k: usize, page: &mut [u8]) -> usize
 // Puts the line of function k, counted from 0 by first byte, at the page's start and answers its length:
 // 0 where there is no such function, but that the line of 0 says why a chunk is refused.
 pub fn line(bytes: &[u8], k: usize, page: &mut [u8; LINE]) -> usize
-    ensures { λ r. ⌜ r ≡ length (lineOf k (now (bytes .entry))) ⌝ }
-    ensures { λ _. ⌜ now (page .exit) ≡ put (now (page .entry)) 0 (lineOf k (now (bytes .entry))) ⌝ }
+    ensures { λ r. ⌜ r ≡ length (functionLine k (now (bytes .entry))) ⌝ }
+    ensures { λ _. ⌜ now (page .exit) ≡ put (now (page .entry)) 0 (functionLine k (now (bytes .entry))) ⌝ }
     ensures { λ r. ⌜ Counted r (now (page .exit)) ⌝ }
 {
     put_line(bytes, k, page)

@@ -1,10 +1,7 @@
-// The program's fixed tables, each from a function, so that its length is all that is known of
-// it; and text put on a page.
+// The program's fixed tables, each from a function, so that its length is all that is known of it.
 ghost use mathlib.Core.Path.{_≡_};
-ghost use Prim.Native.Nat.{_+_, _≤_};
 ghost use lib.ListN.{length};
 ghost use Rattle.common.specs.Limits.{mostWords};
-ghost use Rattle.common.specs.Lists.{put};
 ghost use Rattle.survey.specs.Claims.{lineLength};
 use common::limits::MOST_WORDS;
 
@@ -19,7 +16,7 @@ pub fn buffer() -> [u8; 262144]
 }
 
 // Room for a line.
-pub fn page() -> [u8; LINE]
+pub fn line_page() -> [u8; LINE]
     ensures { λ r. ⌜ lineLength ≡ length r ⌝ }
 {
     [0; LINE]
@@ -37,16 +34,4 @@ pub(crate) fn marks() -> [u8; MOST_WORDS]
     ensures { λ r. ⌜ mostWords ≡ length r ⌝ }
 {
     [0; MOST_WORDS]
-}
-
-// Puts text from index at on.
-pub(crate) fn put_text(page: &mut [u8], at: usize, text: &[u8])
-    requires { ⌜ at + length (now text) ≤ length (now page) ⌝ }
-    ensures { λ _. ⌜ now (page .exit) ≡ put (now (page .entry)) at (now (text .entry)) ⌝ }
-{
-    let mut i = 0;
-    while i < text.len() {
-        page[at + i] = text[i];
-        i += 1;
-    }
 }

@@ -13,7 +13,7 @@ use Rattle.graph.specs.Graph.{In}
 use Rattle.sweep.specs.declared.edges.Successors.{Successors}
 use Rattle.sweep.specs.declared.edges.Successors.the-variants.{Invalid, Stop, One, Two}
 use Rattle.sweep.specs.Steps.{ordered, listOf, graphBy}
-use Rattle.sweep.specs.Entries.{«TARGETS», «ENTRIES», entryAt, entries, queueOf, Settled, stepsOf, graphIn, lowestBy, Carries, Says}
+use Rattle.sweep.specs.Entries.{«TARGETS», «ENTRIES», entryAt, entries, queueOf, Settled, entrySteps, graphIn, lowestBy, Carries, Says}
 use Rattle.sweep.specs.SearchInvariants.{Queued, entered, Pushes}
 use Rattle.sweep.proofs.Moves.{in-one}
 use Rattle.sweep.proofs.Turn.{Both}
@@ -104,7 +104,7 @@ module _ (n : ℕ) (steps : ℕ → Successors) (es : List ℕ) (s : Settled n s
   pub settled-graph : graphIn es ≡ graphBy n steps
   settled-graph = λ i. graphBy (s .same i) (λ p. s .each p i)
 
-  pub settled-lowest : lowestBy (length es) (stepsOf es) ≡ lowestBy n steps
+  pub settled-lowest : lowestBy (length es) (entrySteps es) ≡ lowestBy n steps
   settled-lowest = λ i. lowestBy (s .same i) (λ p. s .each p i)
 
 pub carries : Carries

@@ -7,7 +7,7 @@ use Prim.Native.Nat.{ℕ, _+_, _-_, _/_, _<_}
 use native.Mathlib.Omega.{arith}
 use lib.ListN.{length, getD}
 use Rattle.graph.specs.Graph.{Graph, Lawful}
-use Rattle.graph.specs.Laws.{ones}
+use Rattle.graph.specs.Laws.{markedCount}
 use Rattle.sweep.specs.declared.edges.Successors.{Successors}
 use Rattle.sweep.specs.Steps.{graphBy}
 use Rattle.sweep.specs.Entries.{«ENTRIES», entries, queueOf, Settled, graphIn}
@@ -51,7 +51,7 @@ module _ (m₀ l₀ : List ℕ) (h : ℕ) (held : Held m₀ l₀) {m l : List �
       pub following-in : length m′ ≡ length m → FollowingIn m₀ l₀ h m′ l′ more′ word′ t′
       following-in s = record { following = following-on (graphIn (entries l₀)) m₀ h (f .following) e turned s; kept = v .kept ∙ f .kept }
 
-      pub fewer-in : FollowingIn m₀ l₀ h m′ l′ more′ word′ t′ → let n = length (entries l₀) in (n - ones n m′) + cond more′ 1 0 < (n - ones n m) + cond more 1 0
+      pub fewer-in : FollowingIn m₀ l₀ h m′ l′ more′ word′ t′ → let n = length (entries l₀) in (n - markedCount n m′) + cond more′ 1 0 < (n - markedCount n m) + cond more 1 0
       fewer-in u = fewer (graphIn (entries l₀)) m₀ h e turned (u .following)
 
 pub following-first : (m l : List ℕ) (h t : ℕ) → Visiting (graphIn (entries l)) m (queueOf l) h t → FollowingIn m l h m l true (getD l h 0 / «ENTRIES») t

@@ -10,7 +10,7 @@ use borrow.Author.Tests.{eq-eqb, ne-eqb, leb-false, ltb-false}
 use lib.Dec.{ltb, leb, eqb}
 use lib.ListN.{length, getD, set, length-set, List·getD-eq-default}
 use lib.Seq.{getD-set-same, getD-set-other}
-use Rattle.common.specs.Limits.{mostWords}
+use Rattle.common.specs.Limits.{mostWords, heaviestWeight}
 use Rattle.common.specs.Lowest.{lowestFrom}
 use Rattle.common.proofs.Order.{split, same-or-not, past, one-of}
 use Rattle.common.proofs.Stores.{at-set}
@@ -23,9 +23,9 @@ use Rattle.graph.proofs.Ceiling.{ceiling}
 use Rattle.sweep.specs.declared.edges.Successors.{Successors}
 use Rattle.sweep.specs.declared.edges.Successors.the-variants.{One, Two}
 use Rattle.sweep.specs.Steps.{ordered, listOf, isInvalid, servesOf}
-use Rattle.sweep.specs.Entries.{«TARGETS», «ENTRIES», «KIND_NONE», «KIND_NEXT», «KIND_TARGET», «RETURNS», entryAt, entries, stepsOf, graphIn, invalidBy}
+use Rattle.sweep.specs.Entries.{«TARGETS», «ENTRIES», «KIND_NONE», «KIND_NEXT», «KIND_TARGET», «RETURNS», entryAt, entries, entrySteps, graphIn, invalidBy}
 use Rattle.sweep.specs.SearchInvariants.{Marked}
-use Rattle.sweep.specs.PassInvariants.{heaviest, mostWeight, FillAsks, Lengths, stepsIn, at}
+use Rattle.sweep.specs.PassInvariants.{mostWeight, FillAsks, Lengths, stepsIn, at}
 use Rattle.sweep.specs.TwiceInvariants.{«SHARE», lowAt, keptEntry, keptIn, lengthBy, KeptAs, KeepAsks, KeepsWord, KeptWords, KeepsAll, RaiseAsks, Raises, Restored, Twice}
 use Rattle.sweep.proofs.Entries.{ordered-among, entries-length, entry-is, entry-next, entry-target, entry-stop, entry-invalid, entry-both, entry-none}
 use Rattle.sweep.proofs.Measures.{next-unserved, best-in, both-valid, lowest-none-here, lowest-by}
@@ -236,9 +236,9 @@ module _ (es : List ℕ) (law : Lawful (graphIn es)) (w : ℕ → ℕ) (f : ℕ 
       ∙ sym (laws .passing g law w .marked f p h d k)
 
 -- no length is above the limit
-module _ (es : List ℕ) (law : Lawful (graphIn es)) (few : length es ≤ mostWords) (w : ℕ → ℕ) (light : (q : ℕ) → w q ≤ heaviest) where
+module _ (es : List ℕ) (law : Lawful (graphIn es)) (few : length es ≤ mostWords) (w : ℕ → ℕ) (light : (q : ℕ) → w q ≤ heaviestWeight) where
   pub length-under : (q : ℕ) → lengthOf (graphIn es) w q ≤ mostWeight
-  length-under q = le-trans (ceiling .lengths (graphIn es) law w heaviest light q) (mul-le-mul-left heaviest few)
+  length-under q = le-trans (ceiling .lengths (graphIn es) law w heaviestWeight light q) (mul-le-mul-left heaviestWeight few)
 
 -- the first pass: the words from i on are kept, a is the element of word i, and v the lowest invalid word among them
 pub record Keeping (w : ℕ → ℕ) (es m l : List ℕ) (i a v : ℕ) : Type 0 where
@@ -252,7 +252,7 @@ pub record Keeping (w : ℕ → ℕ) (es m l : List ℕ) (i a v : ℕ) : Type 0 
   pub from : (q : ℕ) → i ≤ q → q < length es → lowAt l q ≡ lengthOf (graphIn es) w q
   pub kept : (q : ℕ) → i ≤ q → q < length es → KeptAs (graphIn es) q (getD m q 0) (getD l q 0)
   pub above : a ≡ getD l i 0
-  pub lowest : v ≡ lowestFrom (invalidBy (length es) (stepsOf es)) i (length es - i)
+  pub lowest : v ≡ lowestFrom (invalidBy (length es) (entrySteps es)) i (length es - i)
 
 pub keeping-none : (w : ℕ → ℕ) (m l : List ℕ) → FillAsks m l → Keeping w (entries l) m l (length l) 0 (length l)
 keeping-none w m l k =
@@ -268,10 +268,10 @@ keeping-none w m l k =
       from = λ q d i. absurd (omega arith);
       kept = λ q d i. absurd (omega arith);
       above = sym (List·getD-eq-default l 0 (omega arith));
-      lowest = lowest-laws .end (invalidBy (length (entries l)) (stepsOf (entries l))) (length (entries l)) (length l) (sym n);
+      lowest = lowest-laws .end (invalidBy (length (entries l)) (entrySteps (entries l))) (length (entries l)) (length l) (sym n);
     }
 
-module _ (w : ℕ → ℕ) (light : (q : ℕ) → w q ≤ heaviest) (es m l : List ℕ) (p a v : ℕ) (k : Keeping w es m l (p + 1) a v) where
+module _ (w : ℕ → ℕ) (light : (q : ℕ) → w q ≤ heaviestWeight) (es m l : List ℕ) (p a v : ℕ) (k : Keeping w es m l (p + 1) a v) where
   inside : p < length es
   inside = omega (arith, k .upto)
 
@@ -298,7 +298,7 @@ module _ (w : ℕ → ℕ) (light : (q : ℕ) → w q ≤ heaviest) (es m l : Li
     marked : (getD m p 0 ≡ 0 → ⊥) → markOf (graphIn es) p ≡ 1
     marked n = one-of (laws .marking (graphIn es) (k .law) .bit p) (λ z. n (mark-here ∙ z))
 
-    steps-here : stepsIn l p ≡ stepsOf es p
+    steps-here : stepsIn l p ≡ entrySteps es p
     steps-here = ap (λ (x : ℕ). entryAt x p) (k .below p (omega arith))
 
     agree : (q : ℕ) → p < q → q < length es → lowAt l q ≡ lengthOf (graphIn es) w q
@@ -319,13 +319,13 @@ module _ (w : ℕ → ℕ) (light : (q : ℕ) → w q ≤ heaviest) (es m l : Li
         (λ n. record { none = λ z. absurd (d .some n z); some = λ _. marked n; steps = λ _. d .steps n ∙ ap listOf steps-here })
         (same-or-not (getD m p 0) 0)
 
-    lowest-unmarked : markOf (graphIn es) p ≡ 0 → v ≡ cond (invalidBy (length es) (stepsOf es) p) p v
+    lowest-unmarked : markOf (graphIn es) p ≡ 0 → v ≡ cond (invalidBy (length es) (entrySteps es) p) p v
     lowest-unmarked z = simp (ne-eqb (markOf (graphIn es) p) 1 (λ o. omega arith))
 
-    lowest-marked : markOf (graphIn es) p ≡ 1 → cond (isInvalid (stepsOf es p)) p v ≡ cond (invalidBy (length es) (stepsOf es) p) p v
+    lowest-marked : markOf (graphIn es) p ≡ 1 → cond (isInvalid (entrySteps es p)) p v ≡ cond (invalidBy (length es) (entrySteps es) p) p v
     lowest-marked z = simp (eq-eqb (markOf (graphIn es) p) 1 z)
 
-    lowest-here : y ≡ cond (invalidBy (length es) (stepsOf es) p) p v
+    lowest-here : y ≡ cond (invalidBy (length es) (entrySteps es) p) p v
     lowest-here =
         d .invalid-is
         ∙ ⊎-elim
@@ -352,7 +352,7 @@ module _ (w : ℕ → ℕ) (light : (q : ℕ) → w q ≤ heaviest) (es m l : Li
               (λ n. kept-other q (λ z. n z) (k .kept q (omega (arith, past x n)) i))
               (same-or-not q p);
           above = sym (getD-set-same l p e 0 (omega (arith, inside, k .l-same)));
-          lowest = lowest-here ∙ ap (λ (z : ℕ). cond (invalidBy (length es) (stepsOf es) p) p z) (k .lowest) ∙ sym (lowest-laws .turn (invalidBy (length es) (stepsOf es)) (length es) p inside);
+          lowest = lowest-here ∙ ap (λ (z : ℕ). cond (invalidBy (length es) (entrySteps es) p) p z) (k .lowest) ∙ sym (lowest-laws .turn (invalidBy (length es) (entrySteps es)) (length es) p inside);
         }
       where
         kept-by : (q : ℕ) {b₁ b₂ e₁ e₂ : ℕ} → b₁ ≡ b₂ → e₁ ≡ e₂ → KeptAs (graphIn es) q b₂ e₂ → KeptAs (graphIn es) q b₁ e₁
@@ -370,7 +370,7 @@ module _ (w : ℕ → ℕ) (light : (q : ℕ) → w q ≤ heaviest) (es m l : Li
 pub keeping-done : {w : ℕ → ℕ} (l₀ : List ℕ) {m l : List ℕ} {i a v : ℕ} → Keeping w (entries l₀) m l i a v → i ≤ 0 → KeepsAll w l₀ m l v
 keeping-done {w} l₀ {m} {l} {i} {a} {v} k h =
     let e : i ≡ 0 = omega arith in
-    let t = invalidBy (length (entries l₀)) (stepsOf (entries l₀)) in
+    let t = invalidBy (length (entries l₀)) (entrySteps (entries l₀)) in
     record {
       lows = λ p d. k .from p (omega arith) d;
       kept = record { law = k .law; few = k .few; m-same = k .m-same; l-same = k .l-same; kept = λ q d. k .kept q (omega arith) d };
@@ -401,7 +401,7 @@ raising-none w es m l k =
       above = sym (List·getD-eq-default l 0 (omega arith));
     }
 
-module _ (w : ℕ → ℕ) (light : (q : ℕ) → w q ≤ heaviest) (es m l : List ℕ) (p a : ℕ) (k : Raising w es m l (p + 1) a) where
+module _ (w : ℕ → ℕ) (light : (q : ℕ) → w q ≤ heaviestWeight) (es m l : List ℕ) (p a : ℕ) (k : Raising w es m l (p + 1) a) where
   raised-in : p < length es
   raised-in = omega (arith, k .upto)
 

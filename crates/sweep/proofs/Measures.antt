@@ -23,7 +23,7 @@ use Rattle.graph.proofs.Ceiling.{ceiling}
 use Rattle.sweep.specs.declared.edges.Successors.{Successors}
 use Rattle.sweep.specs.declared.edges.Successors.the-variants.{One, Two}
 use Rattle.sweep.specs.Steps.{ordered, listOf, isInvalid, servesOf}
-use Rattle.sweep.specs.Entries.{«TARGETS», «ENTRIES», «KIND_NONE», «KIND_NEXT», «KIND_TARGET», entryAt, entries, stepsOf, graphIn, invalidBy}
+use Rattle.sweep.specs.Entries.{«TARGETS», «ENTRIES», «KIND_NONE», «KIND_NEXT», «KIND_TARGET», entryAt, entries, entrySteps, graphIn, invalidBy}
 use Rattle.sweep.specs.PassInvariants.{Filled, Measuring, Measures, FillAsks, Fills, stepsIn, lengthIn, invalidFrom, at}
 use Rattle.sweep.proofs.Entries.{ordered-among, entries-length, entry-is, entry-target, entry-both}
 
@@ -133,13 +133,13 @@ module _ (es : List ℕ) (w : ℕ → ℕ) (m l : List ℕ) (p : ℕ) (h : p < l
   marked n = one-of (laws .marking g (k .law) .bit p) (λ z. n (k .marks p h ∙ z))
 
   -- the entry is there yet
-  entry-here : stepsIn l p ≡ stepsOf es p
+  entry-here : stepsIn l p ≡ entrySteps es p
   entry-here = ap (λ (x : ℕ). entryAt x p) (k .below p (omega arith))
 
   measured : (getD m p 0 ≡ 0 → ⊥) → lengthOf g w p ≡ w p + best (graphIn l) p (at l) (listOf (stepsIn l p))
   measured n =
       laws .passing g (k .law) w .marked (at l) p h (marked n) (λ q d i. k .from q (omega arith) i)
-      ∙ ap (λ (x : ℕ). w p + x) (best-in es l p (at l) (listOf (stepsOf es p)) ∙ ap (λ (s : Successors). best (graphIn l) p (at l) (listOf s)) (sym entry-here))
+      ∙ ap (λ (x : ℕ). w p + x) (best-in es l p (at l) (listOf (entrySteps es p)) ∙ ap (λ (s : Successors). best (graphIn l) p (at l) (listOf s)) (sym entry-here))
 
   length-found : lengthIn w m l p ≡ lengthOf g w p
   length-found =
@@ -148,13 +148,13 @@ module _ (es : List ℕ) (w : ℕ → ℕ) (m l : List ℕ) (p : ℕ) (h : p < l
       (λ n. sym (measured-by m l p n refl w refl) ∙ sym (measured n))
       (same-or-not (getD m p 0) 0)
 
-  lowest-unmarked : (v : ℕ) → markOf g p ≡ 0 → v ≡ cond (invalidBy (length es) (stepsOf es) p) p v
+  lowest-unmarked : (v : ℕ) → markOf g p ≡ 0 → v ≡ cond (invalidBy (length es) (entrySteps es) p) p v
   lowest-unmarked v e = simp (ne-eqb (markOf g p) 1 (λ o. omega arith))
 
-  lowest-marked : (v : ℕ) → markOf g p ≡ 1 → cond (isInvalid (stepsOf es p)) p v ≡ cond (invalidBy (length es) (stepsOf es) p) p v
+  lowest-marked : (v : ℕ) → markOf g p ≡ 1 → cond (isInvalid (entrySteps es p)) p v ≡ cond (invalidBy (length es) (entrySteps es) p) p v
   lowest-marked v e = simp (eq-eqb (markOf g p) 1 e)
 
-  lowest-found : (v : ℕ) → invalidFrom m l p v ≡ cond (invalidBy (length es) (stepsOf es) p) p v
+  lowest-found : (v : ℕ) → invalidFrom m l p v ≡ cond (invalidBy (length es) (entrySteps es) p) p v
   lowest-found v =
       ⊎-elim
       (λ e. sym (lowest-none-here m l p v e) ∙ lowest-unmarked v (unmarked e))
@@ -179,7 +179,7 @@ pub record Filling (w : ℕ → ℕ) (l₀ m l : List ℕ) (i a v : ℕ) : Type 
   pub filled : Filled (entries l₀) w m l i
   pub upto : i ≤ length (entries l₀)
   pub above : a ≡ getD l i 0
-  pub lowest : v ≡ lowestFrom (invalidBy (length (entries l₀)) (stepsOf (entries l₀))) i (length (entries l₀) - i)
+  pub lowest : v ≡ lowestFrom (invalidBy (length (entries l₀)) (entrySteps (entries l₀))) i (length (entries l₀) - i)
 
 pub filling-none : (w : ℕ → ℕ) (m l : List ℕ) → FillAsks m l → Filling w l m l (length l) 0 (length l)
 filling-none w m l k =
@@ -196,7 +196,7 @@ filling-none w m l k =
       };
       upto = omega arith;
       above = sym (List·getD-eq-default l 0 (omega arith));
-      lowest = lowest-laws .end (invalidBy (length (entries l)) (stepsOf (entries l))) (length (entries l)) (length l) (sym n);
+      lowest = lowest-laws .end (invalidBy (length (entries l)) (entrySteps (entries l))) (length (entries l)) (length l) (sym n);
     }
 
 -- a turn of the pass, where no word weighs more than the heaviest
@@ -227,13 +227,13 @@ module _ (w : ℕ → ℕ) (heaviest : ℕ) (bound : (q : ℕ) → w q ≤ heavi
         filled = filled-more es w m l p inside (f .filled) x (d .length-is ∙ length-found es w m l p inside (f .filled));
         upto = omega (arith, inside);
         above = sym (getD-set-same l p x 0 (omega (arith, inside, f .filled .l-same)));
-        lowest = d .invalid-is ∙ lowest-found es w m l p inside (f .filled) v ∙ ap (λ (z : ℕ). cond (invalidBy (length es) (stepsOf es) p) p z) (f .lowest) ∙ sym (lowest-laws .turn (invalidBy (length es) (stepsOf es)) (length es) p inside);
+        lowest = d .invalid-is ∙ lowest-found es w m l p inside (f .filled) v ∙ ap (λ (z : ℕ). cond (invalidBy (length es) (entrySteps es) p) p z) (f .lowest) ∙ sym (lowest-laws .turn (invalidBy (length es) (entrySteps es)) (length es) p inside);
       }
 
 pub filling-done : {w : ℕ → ℕ} {l₀ m l : List ℕ} {i a v : ℕ} → Filling w l₀ m l i a v → i ≤ 0 → Fills w l₀ l v
 filling-done {w} {l₀} {i = i} f h =
     let e : i ≡ 0 = omega arith in
-    let t = invalidBy (length (entries l₀)) (stepsOf (entries l₀)) in
+    let t = invalidBy (length (entries l₀)) (entrySteps (entries l₀)) in
     record {
       lengths = λ p l. f .filled .from p (omega arith) l;
       lowest-invalid = f .lowest ∙ ap (λ (x : ℕ). lowestFrom t x (length (entries l₀) - x)) e ∙ lowest-laws .whole t (length (entries l₀));

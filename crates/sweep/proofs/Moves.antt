@@ -10,7 +10,7 @@ use lib.Seq.{getD-set-same, getD-set-other}
 use Rattle.common.proofs.Order.{same-or-not, past}
 use Rattle.common.proofs.Stores.{at-set, stays}
 use Rattle.graph.specs.Graph.{Graph, In, Lawful, Reachable}
-use Rattle.graph.specs.Laws.{ones}
+use Rattle.graph.specs.Laws.{markedCount}
 use Rattle.graph.proofs.Laws.{laws}
 use Rattle.sweep.specs.SearchInvariants.{Closed, Room, Marking}
 
@@ -33,7 +33,7 @@ module _ (g : Graph) where
       in-m : q < length m
       in-m = omega (arith, r .m-long)
 
-      pub count-set : ones (g .size) (set m q 1) ≡ ones (g .size) m + 1
+      pub count-set : markedCount (g .size) (set m q 1) ≡ markedCount (g .size) m + 1
       count-set = laws .counting .one-more (g .size) m q l in-m new
 
       pub bits-set : (p : ℕ) → p < g .size → getD (set m q 1) p 0 ≤ 1

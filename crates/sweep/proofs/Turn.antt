@@ -13,7 +13,7 @@ use Rattle.common.proofs.Order.{one-of, bit}
 use Rattle.common.proofs.Stores.{stays}
 use Rattle.graph.specs.Graph.{Graph, In, Lawful, Reachable}
 use Rattle.graph.specs.Marks.{markOf}
-use Rattle.graph.specs.Laws.{ones}
+use Rattle.graph.specs.Laws.{markedCount}
 use Rattle.graph.proofs.Laws.{laws}
 use Rattle.sweep.specs.SearchInvariants.{Closed, Room, Marking, inHand, Reaches, fresh, seen, Turned, Queued, entered, there, PushAsks, Visiting, Visited}
 use Rattle.sweep.proofs.Moves.{in-one, Pushed, count-set, tail-lt, tail-le, room-push, pushed-old, pushed-new, marking-none, marking-take, marking-hand, marking-hold, marking-done}
@@ -22,7 +22,7 @@ use Rattle.sweep.proofs.Moves.{in-one, Pushed, count-set, tail-lt, tail
 pub record Kept (g : Graph) (m qu : List ℕ) (t : ℕ) (m′ qu′ : List ℕ) (t′ : ℕ) : Type 0 where
   pub room : Room g m′ qu′ t′
   pub keeps : (x : ℕ) → getD m x 0 ≡ 1 → getD m′ x 0 ≡ 1
-  pub grows : ones (g .size) m ≤ ones (g .size) m′
+  pub grows : markedCount (g .size) m ≤ markedCount (g .size) m′
 
 module _ (g : Graph) (m qu : List ℕ) (t : ℕ) (r : Room g m qu t) (q : ℕ) (l : q < g .size) where
   pub push-asks : g .size ≤ mostWords → PushAsks m qu t q
@@ -35,7 +35,7 @@ module _ (g : Graph) (m qu : List ℕ) (t : ℕ) (r : Room g m qu t) (q : ℕ) (
         keeps = λ x o. stays m q 1 x (omega (arith, r .m-long)) o;
         grows = omega (arith, count-set g m qu t r q l h);
       }
-  push-keeps (there h) = record { room = r; keeps = λ x o. o; grows = le-refl (ones (g .size) m) }
+  push-keeps (there h) = record { room = r; keeps = λ x o. o; grows = le-refl (markedCount (g .size) m) }
 
   pub push-gives : {m′ qu′ : List ℕ} {t′ : ℕ} → Queued m qu t q m′ qu′ t′ → (hand : List ℕ) (h : ℕ) → Marking g hand m qu h t → Reachable g q → Pushed g hand m qu h t (q ∷ []) m′ qu′ t′
   push-gives (entered e) hand h k w = pushed-new g hand m qu h t k q l e w
@@ -46,6 +46,9 @@ pub record Both (g : Graph) (p a b : ℕ) : Type 0 where
   pub one : In a (g .successors p)
   pub other : In b (g .successors p)
   pub only : (q : ℕ) → In q (g .successors p) → (q ≡ a) ⊎ (q ≡ b)
+
+pub other-way : {g : Graph} {p a b : ℕ} → Both g p a b → Both g p b a
+other-way e = record { one = e .other; other = e .one; only = λ q i. ⊎-elim inr inl (e .only q i) }
 
 -- a visit of word p
 module _ (g : Graph) (law : Lawful g) (m qu : List ℕ) (p t : ℕ) (r : Room g m qu t) where
@@ -187,13 +190,13 @@ module _ (g : Graph) (m₀ : List ℕ) (h : ℕ) where
       }
 
   -- each visit marks a word, or is the last
-  pub fewer : {m qu m′ qu′ : List ℕ} {more more′ : Bool} {word word′ t t′ : ℕ} → more ≡ true → Turned g m qu word t m′ qu′ more′ word′ t′ → Following g m₀ h m′ qu′ more′ word′ t′ → (g .size - ones (g .size) m′) + cond more′ 1 0 < (g .size - ones (g .size) m) + cond more 1 0
+  pub fewer : {m qu m′ qu′ : List ℕ} {more more′ : Bool} {word word′ t t′ : ℕ} → more ≡ true → Turned g m qu word t m′ qu′ more′ word′ t′ → Following g m₀ h m′ qu′ more′ word′ t′ → (g .size - markedCount (g .size) m′) + cond more′ 1 0 < (g .size - markedCount (g .size) m) + cond more 1 0
   fewer {m} {qu} {m′} {qu′} {more} {more′} {t′ = t′} e u f =
       let one : _≡_ {A = ℕ} (cond more 1 0) 1 = ap (λ (b : Bool). cond b 1 0) e in
       let le = laws .counting .few (g .size) m′ (f .under .room .bits) in
       go more′ (u .grows) le one
     where
-      go : (b : Bool) → ones (g .size) m + cond b 1 0 ≤ ones (g .size) m′ → ones (g .size) m′ ≤ g .size → _≡_ {A = ℕ} (cond more 1 0) 1 → (g .size - ones (g .size) m′) + cond b 1 0 < (g .size - ones (g .size) m) + cond more 1 0
+      go : (b : Bool) → markedCount (g .size) m + cond b 1 0 ≤ markedCount (g .size) m′ → markedCount (g .size) m′ ≤ g .size → _≡_ {A = ℕ} (cond more 1 0) 1 → (g .size - markedCount (g .size) m′) + cond b 1 0 < (g .size - markedCount (g .size) m) + cond more 1 0
       go true gr le one = omega arith
       go false gr le one = omega arith
 

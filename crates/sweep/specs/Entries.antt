@@ -65,16 +65,16 @@ unfoldable pub queueOf : List ℕ → List ℕ
 queueOf l = map (λ (x : ℕ). x / «ENTRIES») l
 
 -- the steps that entries hold, and their graph
-abbrev pub stepsOf : List ℕ → ℕ → Successors
-stepsOf es p = entryAt (getD es p 0) p
+abbrev pub entrySteps : List ℕ → ℕ → Successors
+entrySteps es p = entryAt (getD es p 0) p
 
 abbrev pub graphIn : List ℕ → Graph
-graphIn es = graphBy (length es) (stepsOf es)
+graphIn es = graphBy (length es) (entrySteps es)
 
 -- the entries of n words say of every word its steps, and of a number past them that there are none
 pub record Settled (n : ℕ) (steps : ℕ → Successors) (es : List ℕ) : Type 0 where
   pub same : length es ≡ n
-  pub each : (p : ℕ) → stepsOf es p ≡ steps p
+  pub each : (p : ℕ) → entrySteps es p ≡ steps p
 
 -- "a reachable bad word", of n words by their steps
 abbrev pub invalidBy : ℕ → (ℕ → Successors) → ℕ → Bool
@@ -89,7 +89,7 @@ pub record Carries : Type 0 where
   pub graph : (n : ℕ) (steps : ℕ → Successors) (es : List ℕ)
       → Settled n steps es → graphIn es ≡ graphBy n steps
   pub lowest-invalid : (n : ℕ) (steps : ℕ → Successors) (es : List ℕ)
-      → Settled n steps es → lowestBy (length es) (stepsOf es) ≡ lowestBy n steps
+      → Settled n steps es → lowestBy (length es) (entrySteps es) ≡ lowestBy n steps
 
 -- steps that an entry can say: below 32,768, and of two one is the next word
 abbrev pub Packs : ℕ → Successors → Type 0

@@ -1,5 +1,5 @@
 -- What callers go by, beside the contracts of module `inner`: of the proofs here crates above cite `laws` of
--- Laws.antt, and `runs`, which settles the entries, two files of plain lemmas, Steps.antt and Settling.antt.
+-- Laws.antt, and `steps`, which settles the entries, two files of plain lemmas, Steps.antt and Settling.antt.
 -- Assumes nothing.
 use mathlib.Core.Path.{_≡_}
 use mathlib.Core.Logic.{_↔_}

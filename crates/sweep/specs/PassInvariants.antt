@@ -8,21 +8,17 @@ use Prim.Native.Nat.{ℕ, _+_, _*_, _%_, _≤_, _<_}
 use lib.Bits.{bitAnd}
 use lib.Dec.{eqb}
 use lib.ListN.{length, getD, set}
-use Rattle.common.specs.Limits.{mostWords}
+use Rattle.common.specs.Limits.{mostWords, heaviestWeight}
 use Rattle.graph.specs.Graph.{Graph, In, Lawful}
 use Rattle.graph.specs.Longest.{best, lengthOf}
 use Rattle.sweep.specs.declared.edges.Successors.{Successors}
 use Rattle.sweep.specs.Steps.{listOf, isInvalid}
-use Rattle.sweep.specs.Entries.{«ENTRIES», entryAt, entries, stepsOf, graphIn, lowestBy}
+use Rattle.sweep.specs.Entries.{«ENTRIES», entryAt, entries, entrySteps, graphIn, lowestBy}
 use Rattle.sweep.specs.SearchInvariants.{Held, Marked}
-
--- a weight is a byte
-abbrev pub heaviest : ℕ
-heaviest = 255
 
 -- no length is above it: as many words as are allowed, each of the heaviest weight
 abbrev pub mostWeight : ℕ
-mostWeight = heaviest * mostWords
+mostWeight = heaviestWeight * mostWords
 
 -- what word p weighs, by a table and the bits of the word that a mask leaves, whatever they mean
 abbrev pub weightBy : ℕ → List ℕ → List ℕ → ℕ → ℕ
@@ -82,4 +78,4 @@ pub record FillAsks (m l : List ℕ) : Type 0 where
 -- and leaves, measured: the lengths where the entries stood. Its answer is the lowest reachable invalid word
 pub record Fills (w : ℕ → ℕ) (l l′ : List ℕ) (r : ℕ) : Type 0 where
   pub lengths : Lengths (graphIn (entries l)) w l′
-  pub lowest-invalid : r ≡ lowestBy (length (entries l)) (stepsOf (entries l))
+  pub lowest-invalid : r ≡ lowestBy (length (entries l)) (entrySteps (entries l))

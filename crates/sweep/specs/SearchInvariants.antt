@@ -11,7 +11,7 @@ use lib.ListN.{length, getD, set}
 use Rattle.common.specs.Limits.{mostWords}
 use Rattle.graph.specs.Graph.{Graph, In, Lawful, Reachable}
 use Rattle.graph.specs.Marks.{markOf}
-use Rattle.graph.specs.Laws.{ones}
+use Rattle.graph.specs.Laws.{markedCount}
 use Rattle.sweep.specs.Entries.{entries, queueOf, graphIn}
 
 -- some words, not too many, and slices with an element for each
@@ -35,8 +35,8 @@ abbrev pub Closed : Graph → List ℕ → ℕ → Type 0
 Closed g m p = (q : ℕ) → In q (g .successors p) → getD m q 0 ≡ 1
 
 -- p stands in the queue between head h and tail t
-abbrev pub Waits : List ℕ → ℕ → ℕ → ℕ → Type 0
-Waits qu h t p = (i : ℕ) × (h ≤ i) × (i < t) × (getD qu i 0 ≡ p)
+abbrev pub QueueWaits : List ℕ → ℕ → ℕ → ℕ → Type 0
+QueueWaits qu h t p = (i : ℕ) × (h ≤ i) × (i < t) × (getD qu i 0 ≡ p)
 
 -- the marks m and the queue qu, up to its tail t, have room for the words: a word that enters the queue is
 -- marked then, so that no more words are queued than are marked
@@ -44,7 +44,7 @@ pub record Room (g : Graph) (m qu : List ℕ) (t : ℕ) : Type 0 where
   pub m-long : g .size ≤ length m
   pub qu-long : g .size ≤ length qu
   pub bits : (p : ℕ) → p < g .size → getD m p 0 ≤ 1
-  pub count : t ≤ ones (g .size) m
+  pub count : t ≤ markedCount (g .size) m
 
 -- a search under way: of the marked words some wait in the queue from head h to tail t, some are in hand, and
 -- the successors of the others are marked
@@ -54,7 +54,7 @@ pub record Marking (g : Graph) (hand m qu : List ℕ) (h t : ℕ) : Type 0 where
   pub sound : (p : ℕ) → p < g .size → getD m p 0 ≡ 1 → Reachable g p
   pub queued : (i : ℕ) → i < t → (getD qu i 0 < g .size) × (getD m (getD qu i 0) 0 ≡ 1)
   pub held : (p : ℕ) → In p hand → (p < g .size) × (getD m p 0 ≡ 1)
-  pub todo : (p : ℕ) → p < g .size → getD m p 0 ≡ 1 → Waits qu h t p ⊎ (Closed g m p ⊎ In p hand)
+  pub todo : (p : ℕ) → p < g .size → getD m p 0 ≡ 1 → QueueWaits qu h t p ⊎ (Closed g m p ⊎ In p hand)
 
 -- the word in hand, if there is more to do
 abbrev pub inHand : Bool → ℕ → List ℕ
@@ -65,7 +65,7 @@ pub record Turned (g : Graph) (m qu : List ℕ) (p t : ℕ) (m′ qu′ : List �
     (word t′ : ℕ) : Type 0 where
   pub under : (h : ℕ) → Marking g (p ∷ []) m qu h t → Marking g (inHand more word) m′ qu′ h t′
   pub keeps : (x : ℕ) → getD m x 0 ≡ 1 → getD m′ x 0 ≡ 1
-  pub grows : ones (g .size) m + cond more 1 0 ≤ ones (g .size) m′
+  pub grows : markedCount (g .size) m + cond more 1 0 ≤ markedCount (g .size) m′
 
 -- a search with a word to take from the queue
 pub record Visiting (g : Graph) (m qu : List ℕ) (h t : ℕ) : Type 0 where

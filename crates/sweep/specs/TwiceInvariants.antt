@@ -16,7 +16,7 @@ use Rattle.graph.specs.Marks.{markOf}
 use Rattle.graph.specs.Longest.{best, lengthOf, longest, first}
 use Rattle.sweep.specs.declared.edges.Successors.{Successors}
 use Rattle.sweep.specs.Steps.{listOf}
-use Rattle.sweep.specs.Entries.{entryAt, entries, stepsOf, graphIn, lowestBy}
+use Rattle.sweep.specs.Entries.{entryAt, entries, entrySteps, graphIn, lowestBy}
 use Rattle.sweep.specs.SearchInvariants.{Marked}
 use Rattle.sweep.specs.PassInvariants.{mostWeight, Lengths, stepsIn, invalidFrom}
 
@@ -75,7 +75,7 @@ pub record KeptWords (es m l : List ℕ) : Type 0 where
 pub record KeepsAll (w : ℕ → ℕ) (l m′ l′ : List ℕ) (r : ℕ) : Type 0 where
   pub lows : (p : ℕ) → p < length (entries l) → lowAt l′ p ≡ lengthOf (graphIn (entries l)) w p
   pub kept : KeptWords (entries l) m′ l′
-  pub lowest-invalid : r ≡ lowestBy (length (entries l)) (stepsOf (entries l))
+  pub lowest-invalid : r ≡ lowestBy (length (entries l)) (entrySteps (entries l))
 
 -- what raising word p asks: its steps are words, those above it have their lengths, and a is that of the next
 pub record RaiseAsks (m l : List ℕ) (p a : ℕ) : Type 0 where
@@ -103,6 +103,6 @@ Restored m m′ = (p : ℕ) → p < length m → getD m′ p 0 ≡ cond (eqb (ge
 pub record Twice (low high : ℕ → ℕ) (l : List ℕ) (invalid most lowest : ℕ) (m′ l′ : List ℕ) : Type 0 where
   pub marked : Marked (graphIn (entries l)) m′
   pub lengths : Lengths (graphIn (entries l)) high l′
-  pub lowest-invalid : invalid ≡ lowestBy (length (entries l)) (stepsOf (entries l))
+  pub lowest-invalid : invalid ≡ lowestBy (length (entries l)) (entrySteps (entries l))
   pub longest-is : most ≡ longest (graphIn (entries l)) low
   pub first-is : lowest ≡ first (graphIn (entries l)) low

@@ -1,6 +1,6 @@
 // Where control can go from a word, and which edges serve. No word is read here: whatever instruction set the
 // edges come from, what follows goes by them alone. The enum stands apart from the function `successors` of
-// crate `runs`, whose name differs only in case.
+// crate `steps`, whose name differs only in case.
 ghost use mathlib.Core.Path.{_≡_};
 ghost use Prim.Native.Nat.{_<_};
 ghost use lib.IntN.{pos};

@@ -5,15 +5,15 @@
 ghost use mathlib.Core.Path.{_≡_};
 ghost use mathlib.Core.Bool.{cond};
 ghost use mathlib.Core.List.{_++_};
-ghost use Prim.Native.Nat.{_≤_, _<_, max};
+ghost use Prim.Native.Nat.{_≤_, _<_};
 ghost use lib.Bits.{bitAnd};
 ghost use lib.Dec.{eqb};
 ghost use lib.ListN.{length, getD, drop, replicate};
 ghost use Rattle.common.specs.Lowest.{lowest};
+ghost use Rattle.common.specs.Limits.{heaviestWeight};
 ghost use Rattle.graph.specs.Longest.{most};
 ghost use Rattle.sweep.specs.Steps.{servesOf};
 ghost use Rattle.sweep.specs.PassInvariants.{
-  heaviest,
   mostWeight,
   weightBy,
   FillAsks,
@@ -30,11 +30,12 @@ use crate::packing::KIND_NONE;
 use crate::packing::KIND_TARGET;
 use crate::packing::RETURNS;
 use crate::packing::TARGETS;
+use common::widths::larger;
 
 // What a word weighs: a byte of the table, at the place that a mask leaves of the word.
 pub(crate) fn weigh(mask: u32, weights: &[u8], word: u32) -> u32
     requires { ⌜ mask < length (now weights) ⌝ }
-    ensures { λ r. ⌜ (r ≡ getD (now (weights .entry)) (bitAnd word mask) 0) × (r ≤ heaviest) ⌝ }
+    ensures { λ r. ⌜ (r ≡ getD (now (weights .entry)) (bitAnd word mask) 0) × (r ≤ heaviestWeight) ⌝ }
 {
     weights[(word & mask) as usize] as u32
 }
@@ -59,16 +60,6 @@ pub(crate) fn beyond(lengths: &[u32], p: usize, q: usize) -> u32
     lengths[later(p, q)]
 }
 
-// The larger of two lengths.
-pub(crate) fn larger(x: u32, y: u32) -> u32
-    ensures { λ r. ⌜ r ≡ max x y ⌝ }
-{
-    if x < y {
-        return y;
-    }
-    x
-}
-
 // The length of a word, and the lowest reachable invalid word from it on.
 struct Measured {
     length: u32,
@@ -86,7 +77,7 @@ fn measure(
     above: u32,
     invalid: usize,
 ) -> Measured
-    requires { ⌜ Measuring mostWeight (now marks) (now lengths) p above × (weight ≤ heaviest) ⌝ }
+    requires { ⌜ Measuring mostWeight (now marks) (now lengths) p above × (weight ≤ heaviestWeight) ⌝ }
     ensures { λ r. ⌜ Measures (λ _. weight) (now (marks .entry)) (now (lengths .entry)) p invalid
         (r .length) (r .invalid) ⌝ }
     ensures { λ _. ⌜ SameBut p (now (lengths .entry)) (now (lengths .exit)) ⌝ }

@@ -10,7 +10,7 @@
 // Settled, element p is the entry of word p, its steps in one number: K, the kind, and a target
 // (specs/Entries.antt). Searched, it has above the entry, which stays, an element of the queue: the p-th word
 // that waited there. Measured, it is the word's length alone, below 2^23 since 32,768 words weigh 255 each at
-// most. Where two tables measure, it is kept in between (twice.rt).
+// most.
 //
 // No word is read here: the entry is of steps, whatever instruction set gives them. Of two steps one is the
 // next word, so that a kind and one target say all of them.

@@ -51,8 +51,9 @@ fn reach(marks: &mut [u8], q: usize, tail: usize) -> Turn
     Turn(false, 0, tail)
 }
 
-// Marks the successors of word p. The next word goes in hand, if it is one and new, and another to the
-// queue's end.
+// Marks the successors of word p. One goes in hand, if it is new. Of two it is the target, and the next word
+// goes to the queue's end: a test and arithmetic go on at p + 2, so that what is followed lies on in memory,
+// and the jump after a test, which leads anywhere, is one that nobody waits for.
 fn visit(marks: &mut [u8], lengths: &mut [u32], p: usize, tail: usize) -> Turn
     requires { ⌜ VisitAsks (now marks) (now lengths) p tail ⌝ }
     ensures { λ r. ⌜ Visits (now (marks .entry)) (now (lengths .entry)) p tail (now (marks .exit))
@@ -70,8 +71,8 @@ fn visit(marks: &mut [u8], lengths: &mut [u32], p: usize, tail: usize) -> Turn
     if kind == KIND_TARGET {
         return reach(marks, target, tail);
     }
-    let t = push(marks, lengths, tail, target);
-    reach(marks, p + 1, t)
+    let t = push(marks, lengths, tail, p + 1);
+    reach(marks, target, t)
 }
 
 // Takes the word at the queue's head in hand and follows it, from new word to new word. The new tail. A word

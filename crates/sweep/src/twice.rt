@@ -17,7 +17,8 @@ ghost use Prim.Native.Nat.{_≤_, _<_};
 ghost use lib.Dec.{eqb};
 ghost use lib.ListN.{length, getD};
 ghost use Rattle.common.specs.Lowest.{lowest};
-ghost use Rattle.sweep.specs.PassInvariants.{heaviest, weightBy, FillAsks, SameBut, at};
+ghost use Rattle.common.specs.Limits.{heaviestWeight};
+ghost use Rattle.sweep.specs.PassInvariants.{weightBy, FillAsks, SameBut, at};
 ghost use Rattle.sweep.specs.TwiceInvariants.{
   lowAt,
   keptIn,
@@ -33,13 +34,13 @@ ghost use Rattle.sweep.specs.TwiceInvariants.{
 };
 use crate::lengths::beyond;
 use crate::lengths::find_longest;
-use crate::lengths::larger;
 use crate::lengths::weigh;
 use crate::packing::ENTRIES;
 use crate::packing::KIND_NEXT;
 use crate::packing::KIND_TARGET;
 use crate::packing::RETURNS;
 use crate::packing::TARGETS;
+use common::widths::larger;
 
 // A kept element is a length times this, and the low bits of a target: 2^9.
 const SHARE: u32 = 512;
@@ -70,7 +71,7 @@ fn keep(
     above: u32,
     invalid: usize,
 ) -> Kept
-    requires { ⌜ KeepAsks (now marks) (now lengths) p above × (weight ≤ heaviest) ⌝ }
+    requires { ⌜ KeepAsks (now marks) (now lengths) p above × (weight ≤ heaviestWeight) ⌝ }
     ensures { λ r. ⌜ KeepsWord weight (now (marks .entry)) (now (lengths .entry)) p invalid (r .element)
         (r .byte) (r .invalid) ⌝ }
     ensures { λ _. ⌜ SameBut p (now (lengths .entry)) (now (lengths .exit)) ⌝ }
@@ -155,7 +156,7 @@ fn keep_lengths(
 // The length of word p, of this weight, by its kept steps, where the words above it have theirs and `above`
 // is that of the next. What is left at p is for the caller to overwrite.
 fn raise(marks: &[u8], lengths: &mut [u32], p: usize, weight: u32, above: u32) -> u32
-    requires { ⌜ RaiseAsks (now marks) (now lengths) p above × (weight ≤ heaviest) ⌝ }
+    requires { ⌜ RaiseAsks (now marks) (now lengths) p above × (weight ≤ heaviestWeight) ⌝ }
     ensures { λ r. ⌜ r ≡ lengthBy (at (now (lengths .entry))) weight (getD (now (marks .entry)) p 0)
         (keptIn (now (marks .entry)) (now (lengths .entry)) p) p ⌝ }
     ensures { λ _. ⌜ SameBut p (now (lengths .entry)) (now (lengths .exit)) ⌝ }

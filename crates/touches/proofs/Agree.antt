@@ -13,25 +13,26 @@ use Rattle.fields.specs.Laws.{all}
 use Rattle.fields.proofs.Laws.{laws}
 use Rattle.touches.specs.Operands.{Operand, «R[A]», «R[A+1]», «R[A+2]», «R[A+3]», «R[A+1…A+B-1]», «R[A+1…A+B]», locationOf}
 use Rattle.touches.specs.Cases.{Edge, noEdge, «p+1», «p+2», «p+1-Bx», «p+1+sBx», Accesses}
-use Rattle.touches.specs.Table.{numberOf, operandFrom, edgeNumber, opcodesOf}
-use Rattle.touches.specs.Executions.{Cell, register, upToTop, Access, names, Way}
+use Rattle.touches.specs.Table.{operandNumber, operandFrom, edgeNumber, opcodesOf}
+use Rattle.steps.specs.Executions.{Access, Arm, goOf}
+use Rattle.touches.specs.Cells.{Cell, register, upToTop, names}
 use Rattle.fields.specs.declared.version.Version.{Version}
 use Rattle.fields.specs.declared.version.Version.the-variants.{Lua54, Lua53}
-use Rattle.touches.specs.Versions.{accessesOf, waysOf}
+use Rattle.touches.specs.Versions.{accessesOf, Way, waysOf}
 use Rattle.touches.specs.Touched.{wayReads, wayStores, Any, All}
 use Rattle.touches.proofs.Rows.{operand-back}
 use Rattle.touches.proofs.Choices.{every, some, left-of, right-of, one-of, every-any, every-all, some-any, some-all}
 use Rattle.touches.proofs.Cells.{At, kind, index, one-register, past-first, meant, named}
-use Rattle.touches.proofs.Ways.{goOf, leads}
+use Rattle.touches.proofs.Ways.{leads}
 use Rattle.touches.proofs.Sorts.{bars, barred, one-kind, topsLast}
 
 -- Operands in lists
 
 abbrev isSame : Operand → Operand → Bool
-isSame x y = eqb (numberOf x) (numberOf y)
+isSame x y = eqb (operandNumber x) (operandNumber y)
 
 is-same : (x y : Operand) → T (isSame x y) → x ≡ y
-is-same x y t = sym (operand-back x) ∙ (ap operandFrom (eqb→eq (numberOf x) (numberOf y) t) ∙ operand-back y)
+is-same x y t = sym (operand-back x) ∙ (ap operandFrom (eqb→eq (operandNumber x) (operandNumber y) t) ∙ operand-back y)
 
 abbrev has : List Operand → Operand → Bool
 has xs x = some (isSame x) xs
@@ -40,10 +41,10 @@ abbrev meants : List Access → List Operand
 meants [] = []
 meants (x ∷ xs) = meant x ∷ meants xs
 
-abbrev reads : Way → List Operand
+abbrev reads : {Go : Type 0} → Arm Go → List Operand
 reads w = meants (wayReads w)
 
-abbrev stores : Way → List Operand
+abbrev stores : {Go : Type 0} → Arm Go → List Operand
 stores w = meants (wayStores w)
 
 -- two operands that never stand for the same cell: the control variable of a numeric loop and what is below it
@@ -52,32 +53,32 @@ isApart x y = cond (has («R[A]» ∷ «R[A+1]» ∷ «R[A+2]» ∷ []) x) (has 
 
 -- The tests of a case
 
-abbrev allRead : Accesses → List Way → Bool
-allRead a ways = every (λ (w : Way). every (has (a .reads)) (reads w)) ways
+abbrev allRead : (v : Version) → Accesses → List (Way v) → Bool
+allRead v a ways = every (λ (w : Way v). every (has (a .reads)) (reads w)) ways
 
-abbrev readSomewhere : Accesses → List Way → Bool
-readSomewhere a ways = every (λ (x : Operand). some (λ (w : Way). has (reads w) x) ways) (a .reads)
+abbrev readSomewhere : (v : Version) → Accesses → List (Way v) → Bool
+readSomewhere v a ways = every (λ (x : Operand). some (λ (w : Way v). has (reads w) x) ways) (a .reads)
 
 -- what a way stores is written on every way, or listed with the edge that it leads over
-abbrev listedStore : Accesses → Way → Operand → Bool
-listedStore a w x = cond (has (a .writes) x) true (cond (leads (a .edge) (goOf w)) (has (a .«edge-writes») x) false)
+abbrev listedStore : (v : Version) → Accesses → Way v → Operand → Bool
+listedStore v a w x = cond (has (a .writes) x) true (cond (leads v (a .edge) (goOf w)) (has (a .«edge-writes») x) false)
 
-abbrev allListed : Accesses → List Way → Bool
-allListed a ways = every (λ (w : Way). every (listedStore a w) (stores w)) ways
+abbrev allListed : (v : Version) → Accesses → List (Way v) → Bool
+allListed v a ways = every (λ (w : Way v). every (listedStore v a w) (stores w)) ways
 
-abbrev writtenOnAll : Accesses → List Way → Bool
-writtenOnAll a ways = every (λ (w : Way). every (has (stores w)) (a .writes)) ways
+abbrev writtenOnAll : (v : Version) → Accesses → List (Way v) → Bool
+writtenOnAll v a ways = every (λ (w : Way v). every (has (stores w)) (a .writes)) ways
 
-abbrev writtenOverEdge : Accesses → List Way → Bool
-writtenOverEdge a ways =
-    every (λ (x : Operand). some (λ (w : Way). cond (leads (a .edge) (goOf w)) (has (stores w) x) false) ways) (a .«edge-writes»)
+abbrev writtenOverEdge : (v : Version) → Accesses → List (Way v) → Bool
+writtenOverEdge v a ways =
+    every (λ (x : Operand). some (λ (w : Way v). cond (leads v (a .edge) (goOf w)) (has (stores w) x) false) ways) (a .«edge-writes»)
 
 -- what is listed with an edge is not written on some way
-abbrev missing : Operand → List Way → Bool
-missing x ways = some (λ (w : Way). every (isApart x) (stores w)) ways
+abbrev missing : (v : Version) → Operand → List (Way v) → Bool
+missing v x ways = some (λ (w : Way v). every (isApart x) (stores w)) ways
 
-abbrev notOnAll : Accesses → List Way → Bool
-notOnAll a ways = every (λ (x : Operand). missing x ways) (a .«edge-writes»)
+abbrev notOnAll : (v : Version) → Accesses → List (Way v) → Bool
+notOnAll v a ways = every (λ (x : Operand). missing v x ways) (a .«edge-writes»)
 
 -- what an answer has no list for
 abbrev isListed : Accesses → Bool
@@ -98,18 +99,18 @@ abbrev edgeTold : Accesses → Bool
 edgeTold a = cond (eqb (edgeNumber (a .edge)) 0) true (cond (has (a .«edge-writes») «R[A]») true (has (a .«edge-writes») «R[A+2]»))
 
 -- a word that writes has a way on
-abbrev hasWay : Accesses → List Way → Bool
-hasWay a ways = cond (every (λ (x : Operand). false) (a .writes)) true (some (λ (w : Way). true) ways)
+abbrev hasWay : (v : Version) → Accesses → List (Way v) → Bool
+hasWay v a ways = cond (every (λ (x : Operand). false) (a .writes)) true (some (λ (w : Way v). true) ways)
 
-abbrev tests : Accesses → List Way → List Bool
-tests a ways =
-    allRead a ways
-    ∷ readSomewhere a ways
-    ∷ allListed a ways
-    ∷ writtenOnAll a ways
-    ∷ writtenOverEdge a ways
-    ∷ notOnAll a ways
-    ∷ hasWay a ways
+abbrev tests : (v : Version) → Accesses → List (Way v) → List Bool
+tests v a ways =
+    allRead v a ways
+    ∷ readSomewhere v a ways
+    ∷ allListed v a ways
+    ∷ writtenOnAll v a ways
+    ∷ writtenOverEdge v a ways
+    ∷ notOnAll v a ways
+    ∷ hasWay v a ways
     ∷ isListed a
     ∷ topsLast (a .reads)
     ∷ topsLast (a .writes)
@@ -118,14 +119,14 @@ tests a ways =
     ∷ edgeTold a
     ∷ []
 
-pub record Agrees (a : Accesses) (ways : List Way) : Type 0 where
-  pub all-read : T (allRead a ways)
-  pub read-somewhere : T (readSomewhere a ways)
-  pub all-listed : T (allListed a ways)
-  pub written-on-all : T (writtenOnAll a ways)
-  pub written-over-edge : T (writtenOverEdge a ways)
-  pub not-on-all : T (notOnAll a ways)
-  pub some-way : T (hasWay a ways)
+pub record Agrees (v : Version) (a : Accesses) (ways : List (Way v)) : Type 0 where
+  pub all-read : T (allRead v a ways)
+  pub read-somewhere : T (readSomewhere v a ways)
+  pub all-listed : T (allListed v a ways)
+  pub written-on-all : T (writtenOnAll v a ways)
+  pub written-over-edge : T (writtenOverEdge v a ways)
+  pub not-on-all : T (notOnAll v a ways)
+  pub some-way : T (hasWay v a ways)
   pub no-constants : T (every (bars 1) (a .writes))
   pub no-edge-constants : T (every (bars 1) (a .«edge-writes»))
   pub no-edge-upvalues : T (every (bars 2) (a .«edge-writes»))
@@ -140,15 +141,15 @@ abbrev passes : List Bool → Bool
 passes [] = true
 passes (b ∷ bs) = cond b (passes bs) false
 
-agrees-by : (a : Accesses) (ways : List Way) → T (passes (tests a ways)) → Agrees a ways
-agrees-by a ways t =
-    let t2 = right-of (allRead a ways) _ t in
-    let t3 = right-of (readSomewhere a ways) _ t2 in
-    let t4 = right-of (allListed a ways) _ t3 in
-    let t5 = right-of (writtenOnAll a ways) _ t4 in
-    let t6 = right-of (writtenOverEdge a ways) _ t5 in
-    let t7 = right-of (notOnAll a ways) _ t6 in
-    let t8 = right-of (hasWay a ways) _ t7 in
+agrees-by : (v : Version) (a : Accesses) (ways : List (Way v)) → T (passes (tests v a ways)) → Agrees v a ways
+agrees-by v a ways t =
+    let t2 = right-of (allRead v a ways) _ t in
+    let t3 = right-of (readSomewhere v a ways) _ t2 in
+    let t4 = right-of (allListed v a ways) _ t3 in
+    let t5 = right-of (writtenOnAll v a ways) _ t4 in
+    let t6 = right-of (writtenOverEdge v a ways) _ t5 in
+    let t7 = right-of (notOnAll v a ways) _ t6 in
+    let t8 = right-of (hasWay v a ways) _ t7 in
     let t9 = right-of (isListed a) _ t8 in
     let t10 = right-of (topsLast (a .reads)) _ t9 in
     let t11 = right-of (topsLast (a .writes)) _ t10 in
@@ -158,13 +159,13 @@ agrees-by a ways t =
     let l2 = right-of (every (bars 1) (a .writes)) _ l in
     let l3 = right-of (every (bars 1) (a .«edge-writes»)) _ l2 in
     record {
-      all-read = left-of (allRead a ways) _ t;
-      read-somewhere = left-of (readSomewhere a ways) _ t2;
-      all-listed = left-of (allListed a ways) _ t3;
-      written-on-all = left-of (writtenOnAll a ways) _ t4;
-      written-over-edge = left-of (writtenOverEdge a ways) _ t5;
-      not-on-all = left-of (notOnAll a ways) _ t6;
-      some-way = left-of (hasWay a ways) _ t7;
+      all-read = left-of (allRead v a ways) _ t;
+      read-somewhere = left-of (readSomewhere v a ways) _ t2;
+      all-listed = left-of (allListed v a ways) _ t3;
+      written-on-all = left-of (writtenOnAll v a ways) _ t4;
+      written-over-edge = left-of (writtenOverEdge v a ways) _ t5;
+      not-on-all = left-of (notOnAll v a ways) _ t6;
+      some-way = left-of (hasWay v a ways) _ t7;
       no-constants = left-of (every (bars 1) (a .writes)) _ l;
       no-edge-constants = left-of (every (bars 1) (a .«edge-writes»)) _ l2;
       no-edge-upvalues = left-of (every (bars 2) (a .«edge-writes»)) _ l3;
@@ -177,16 +178,16 @@ agrees-by a ways t =
     }
 
 agrees-at : Version → ℕ → Bool
-agrees-at v o = passes (tests (accessesOf v o) (waysOf v o))
+agrees-at v o = passes (tests v (accessesOf v o) (waysOf v o))
 
 agrees-below : (v : Version) → T (all (agrees-at v) (opcodesOf v))
 unfolding agrees-at accessesOf waysOf
 agrees-below Lua54 = tt
 agrees-below Lua53 = tt
 
-pub agree : (v : Version) (o : ℕ) → o < opcodesOf v → Agrees (accessesOf v o) (waysOf v o)
+pub agree : (v : Version) (o : ℕ) → o < opcodesOf v → Agrees v (accessesOf v o) (waysOf v o)
 unfolding agrees-at
-agree v o h = agrees-by (accessesOf v o) (waysOf v o) (laws .each-below (agrees-at v) (opcodesOf v) (agrees-below v) o h)
+agree v o h = agrees-by v (accessesOf v o) (waysOf v o) (laws .each-below (agrees-at v) (opcodesOf v) (agrees-below v) o h)
 
 -- What the tests say of a cell c in a word i, between pi and ni
 
@@ -228,50 +229,50 @@ module _ (i pi ni : Arguments) (c : Cell) where
       let above = high y (right-of (has («R[A]» ∷ «R[A+1]» ∷ «R[A+2]» ∷ []) x) _ t) k in
       omega (arith, below, above)
 
-  module _ (a : Accesses) (ways : List Way) (agrees : Agrees a ways) where
-    abbrev ReadOn : Way → Type 0
+  module _ (v : Version) (a : Accesses) (ways : List (Way v)) (agrees : Agrees v a ways) where
+    abbrev ReadOn : Way v → Type 0
     ReadOn w = Touched (wayReads w)
 
-    abbrev StoredOn : Way → Type 0
+    abbrev StoredOn : Way v → Type 0
     StoredOn w = Touched (wayStores w)
 
     pub reads-from : Any ReadOn ways → Any Is (a .reads)
     reads-from r =
-        every-any ReadOn (λ (w : Way). every (has (a .reads)) (reads w)) ways (agrees .all-read) r
+        every-any ReadOn (λ (w : Way v). every (has (a .reads)) (reads w)) ways (agrees .all-read) r
         (λ w t h. every-any Is (has (a .reads)) (reads w) t (from-accesses (wayReads w) h) (λ x s g. found x (a .reads) s g))
 
     pub reads-into : Any Is (a .reads) → Any ReadOn ways
     reads-into r =
-        every-any Is (λ (x : Operand). some (λ (w : Way). has (reads w) x) ways) (a .reads) (agrees .read-somewhere) r
-        (λ x t h. some-any ReadOn (λ (w : Way). has (reads w) x) ways t (λ w s. into-accesses (wayReads w) (found x (reads w) s h)))
+        every-any Is (λ (x : Operand). some (λ (w : Way v). has (reads w) x) ways) (a .reads) (agrees .read-somewhere) r
+        (λ x t h. some-any ReadOn (λ (w : Way v). has (reads w) x) ways t (λ w s. into-accesses (wayReads w) (found x (reads w) s h)))
 
     -- what is written on every way
     every-way : Any Is (a .writes) → All StoredOn ways
     every-way r =
-        every-all StoredOn (λ (w : Way). every (has (stores w)) (a .writes)) ways (agrees .written-on-all)
+        every-all StoredOn (λ (w : Way v). every (has (stores w)) (a .writes)) ways (agrees .written-on-all)
         (λ w t. into-accesses (wayStores w) (every-any Is (has (stores w)) (a .writes) t r (λ x s h. found x (stores w) s h)))
 
     -- what is listed with an edge is not
     not-every-way : Any Is (a .«edge-writes») → All StoredOn ways → ⊥
     not-every-way r all =
-        every-any Is (λ (x : Operand). missing x ways) (a .«edge-writes») (agrees .not-on-all) r
+        every-any Is (λ (x : Operand). missing v x ways) (a .«edge-writes») (agrees .not-on-all) r
         (λ x t h.
-        some-all StoredOn (λ (w : Way). every (isApart x) (stores w)) ways t all
+        some-all StoredOn (λ (w : Way v). every (isApart x) (stores w)) ways t all
         (λ w s k. every-any Is (isApart x) (stores w) s (from-accesses (wayStores w) k) (λ y u g. apart x y u h g)))
 
     -- a store is listed
-    listed : (w : Way) → T (every (listedStore a w) (stores w)) → StoredOn w → Any Is (a .writes) ⊎ (T (leads (a .edge) (goOf w)) × Any Is (a .«edge-writes»))
+    listed : (w : Way v) → T (every (listedStore v a w) (stores w)) → StoredOn w → Any Is (a .writes) ⊎ (T (leads v (a .edge) (goOf w)) × Any Is (a .«edge-writes»))
     listed w t k =
-        every-any Is (listedStore a w) (stores w) t (from-accesses (wayStores w) k)
+        every-any Is (listedStore v a w) (stores w) t (from-accesses (wayStores w) k)
         (λ x s h.
         ⊎-elim (λ u. inl (found x (a .writes) u h))
-        (λ u. inr (left-of (leads (a .edge) (goOf w)) _ u, found x (a .«edge-writes») (right-of (leads (a .edge) (goOf w)) _ u) h))
+        (λ u. inr (left-of (leads v (a .edge) (goOf w)) _ u, found x (a .«edge-writes») (right-of (leads v (a .edge) (goOf w)) _ u) h))
         (one-of (has (a .writes) x) _ s))
 
     pub writes-from : Any StoredOn ways × All StoredOn ways → Any Is (a .writes)
     writes-from r =
-        every-any StoredOn (λ (w : Way). every (listedStore a w) (stores w)) ways (agrees .all-listed) (r .0)
-        (λ w t k. ⊎-elim (λ h. h) (λ (h : T (leads (a .edge) (goOf w)) × Any Is (a .«edge-writes»)). absurd (not-every-way (h .1) (r .1))) (listed w t k))
+        every-any StoredOn (λ (w : Way v). every (listedStore v a w) (stores w)) ways (agrees .all-listed) (r .0)
+        (λ w t k. ⊎-elim (λ h. h) (λ (h : T (leads v (a .edge) (goOf w)) × Any Is (a .«edge-writes»)). absurd (not-every-way (h .1) (r .1))) (listed w t k))
 
     pub writes-into : Any Is (a .writes) → Any StoredOn ways × All StoredOn ways
     writes-into r = (
@@ -280,31 +281,31 @@ module _ (i pi ni : Arguments) (c : Cell) where
       every-way r,
     )
       where
-        some-of : (ws : List Way) → T (some (λ (w : Way). true) ws) → All StoredOn ws → Any StoredOn ws
+        some-of : (ws : List (Way v)) → T (some (λ (w : Way v). true) ws) → All StoredOn ws → Any StoredOn ws
         some-of [] t all = absurd t
         some-of (w ∷ ws) t all = inl (all .0)
 
     -- over the edge, for what it means that a way leads to a word
-    module _ (Leads : Way → Type 0) where
+    module _ (Leads : Way v → Type 0) where
       pub edge-from :
-          {Q : Type 0} → Any (λ (w : Way). Leads w × StoredOn w) ways → (All StoredOn ways → ⊥) →
-          ((w : Way) → Leads w → T (leads (a .edge) (goOf w)) → Any Is (a .«edge-writes») → Q) → Q
+          {Q : Type 0} → Any (λ (w : Way v). Leads w × StoredOn w) ways → (All StoredOn ways → ⊥) →
+          ((w : Way v) → Leads w → T (leads v (a .edge) (goOf w)) → Any Is (a .«edge-writes») → Q) → Q
       edge-from r none f =
-          every-any (λ (w : Way). Leads w × StoredOn w) (λ (w : Way). every (listedStore a w) (stores w)) ways (agrees .all-listed) r
+          every-any (λ (w : Way v). Leads w × StoredOn w) (λ (w : Way v). every (listedStore v a w) (stores w)) ways (agrees .all-listed) r
           (λ w t (k : Leads w × StoredOn w).
-          ⊎-elim (λ h. absurd (none (every-way h))) (λ (h : T (leads (a .edge) (goOf w)) × Any Is (a .«edge-writes»)). f w (k .0) (h .0) (h .1))
+          ⊎-elim (λ h. absurd (none (every-way h))) (λ (h : T (leads v (a .edge) (goOf w)) × Any Is (a .«edge-writes»)). f w (k .0) (h .0) (h .1))
           (listed w t (k .1)))
 
       pub edge-into :
-          ((w : Way) → T (leads (a .edge) (goOf w)) → Leads w) → Any Is (a .«edge-writes») →
-          Any (λ (w : Way). Leads w × StoredOn w) ways × (All StoredOn ways → ⊥)
+          ((w : Way v) → T (leads v (a .edge) (goOf w)) → Leads w) → Any Is (a .«edge-writes») →
+          Any (λ (w : Way v). Leads w × StoredOn w) ways × (All StoredOn ways → ⊥)
       edge-into over r = (
-        every-any Is (λ (x : Operand). some (λ (w : Way). cond (leads (a .edge) (goOf w)) (has (stores w) x) false) ways) (a .«edge-writes») (agrees .written-over-edge) r
+        every-any Is (λ (x : Operand). some (λ (w : Way v). cond (leads v (a .edge) (goOf w)) (has (stores w) x) false) ways) (a .«edge-writes») (agrees .written-over-edge) r
             (λ x t h.
-            some-any (λ (w : Way). Leads w × StoredOn w) (λ (w : Way). cond (leads (a .edge) (goOf w)) (has (stores w) x) false) ways t
+            some-any (λ (w : Way v). Leads w × StoredOn w) (λ (w : Way v). cond (leads v (a .edge) (goOf w)) (has (stores w) x) false) ways t
             (λ w s. (
-              over w (left-of (leads (a .edge) (goOf w)) _ s),
-              into-accesses (wayStores w) (found x (stores w) (right-of (leads (a .edge) (goOf w)) _ s) h),
+              over w (left-of (leads v (a .edge) (goOf w)) _ s),
+              into-accesses (wayStores w) (found x (stores w) (right-of (leads v (a .edge) (goOf w)) _ s) h),
             ))),
         not-every-way r,
       )
@@ -317,10 +318,10 @@ module _ (i pi ni : Arguments) (c : Cell) where
     -- what is stored up to the top is so on every way
     pub tops-from : kind c ≡ 3 → Any StoredOn ways → Any Is (a .writes)
     tops-from e r =
-        every-any StoredOn (λ (w : Way). every (listedStore a w) (stores w)) ways (agrees .all-listed) r
+        every-any StoredOn (λ (w : Way v). every (listedStore v a w) (stores w)) ways (agrees .all-listed) r
         (λ w t k.
         ⊎-elim (λ h. h)
-        (λ (h : T (leads (a .edge) (goOf w)) × Any Is (a .«edge-writes»)). absurd (never 3 (a .«edge-writes») (agrees .no-edge-tops) e (h .1)))
+        (λ (h : T (leads v (a .edge) (goOf w)) × Any Is (a .«edge-writes»)). absurd (never 3 (a .«edge-writes») (agrees .no-edge-tops) e (h .1)))
         (listed w t k))
 
 edge-is : (e : Edge) → edgeNumber e ≡ 0 → e ≡ noEdge

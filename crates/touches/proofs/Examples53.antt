@@ -3,14 +3,14 @@
 use mathlib.Core.Path.{refl}
 use Rattle.fields.specs.Table53.{classOf, companionOf}
 use Rattle.sweep.specs.Steps.{unless, one, ordered, two}
-use Rattle.runs.specs.Successors53.{opcodeAt, companionPresent, successorsOf}
+use Rattle.steps.specs.Successors53.{opcodeAt, companionPresent, successorsOf}
 use Rattle.touches.specs.Versions.{accessesOf}
-use Rattle.touches.specs.Canonical.{join, insert, add, addAll, put, putAll}
+use Rattle.touches.specs.Canonical.{join, insert, add, addAll, insertRegister, putAll}
 use Rattle.touches.specs.Lists.{gather, rangesOf, indicesOf, firstTop}
 use Rattle.touches.specs.Touches.{touchesBy, touchesIn, touchesFor}
-use Rattle.touches.specs.Examples53.{Hold, examples}
+use Rattle.touches.specs.Examples53.{ExamplesHold, examples}
 
-pub examples-hold : Hold examples
-unfolding classOf companionOf unless one ordered two opcodeAt companionPresent successorsOf accessesOf join insert add addAll put putAll gather rangesOf indicesOf firstTop touchesBy touchesIn touchesFor
+pub examples-hold : ExamplesHold examples
+unfolding classOf companionOf unless one ordered two opcodeAt companionPresent successorsOf accessesOf join insert add addAll insertRegister putAll gather rangesOf indicesOf firstTop touchesBy touchesIn touchesFor
 examples-hold =
     (refl, (refl, (refl, (refl, (refl, (refl, (refl, (refl, (refl, (refl, (refl, (refl, (refl, (refl, (refl, (refl, (refl, (refl, (refl, (refl, (refl, (refl, (refl, (refl, (refl, (refl, (refl, (refl, (refl, (refl, (refl, (refl, (refl, (refl, (refl, (refl, (refl, (refl, (refl, (refl, (refl, (refl, (refl, (refl, (refl, (refl, (refl, (refl, (refl, (refl, (refl, (refl, (refl, (refl, (refl, (refl, (refl, (refl, (refl, (refl, (refl, (refl, (refl, (refl, (refl, (refl, (refl, (refl, (refl, (refl, (refl, (refl, (refl, (refl, (refl, (refl, (refl, (refl, (refl, (refl, (refl, (refl, (refl, (refl, (refl, (refl, (refl, (refl, (refl, (refl, (refl, (refl, (refl, (refl, (refl, (refl, (refl, (refl, (refl, (refl, (refl, (refl, (refl, (refl, (refl, (refl, (refl, (refl, (refl, (refl, (refl, (refl, (refl, (refl, (refl, (refl, (refl, (refl, (refl, (refl, (refl, (refl, (refl, (refl, (refl, tt)))))))))))))))))))))))))))))))))))))))))))))))))))))))))))))))))))))))))))))))))))))))))))))))))))))))))))))))))))))))))))))

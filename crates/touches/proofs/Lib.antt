@@ -7,7 +7,6 @@ pub mod Answers
 pub mod Choices
 pub mod Cells
 pub mod Isk
-pub mod Gos
 pub mod Ways
 pub mod Sorts
 pub mod Agree

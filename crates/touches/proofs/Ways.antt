@@ -1,9 +1,8 @@
--- The ways on of specs/Executions.antt and specs/Executions53.antt are those of runs' Lvm.antt and Lvm53.antt; they lead to
--- a word's steps, and over them an edge. All that is used of Lvm.antt and Lvm53.antt is here.
+-- The ways on of lvm.c lead to a word's steps, and over them an edge. All that is used of where they lead is here.
 -- Assumes nothing.
 use Prim.Native.Nat.{ℕ, zero, suc, _+_, _-_, _≤_, _<_}
-use mathlib.Core.Path.{_≡_, refl, ap, ap₂, sym, subst, _∙_}
-use mathlib.Core.Logic.{_⊎_, inl, inr, ⊎-elim}
+use mathlib.Core.Path.{_≡_, refl, ap, sym, subst, _∙_}
+use mathlib.Core.Logic.{_⊎_, inl, inr, ⊎-elim, _↔_}
 use mathlib.Core.Bool.{Bool, true, false, cond}
 use mathlib.Core.List.{List, [], _∷_, _++_}
 use native.Mathlib.Omega.{arith}
@@ -12,136 +11,28 @@ use lib.IntN.{ℤ, pos, negsuc, negℤ, _+ℤ_, _-ℤ_, +ℤ-assoc}
 use lib.ListN.{getD}
 use borrow.Author.Tests.{lt-ltb, le-ltb}
 use Rattle.fields.specs.declared.word.RawInstruction54.{RawInstruction54}
-use Rattle.fields.specs.Lopcodes.{«GET_OPCODE», «TESTARG_k»}
-use Rattle.fields.specs.Laws.{all}
+use Rattle.fields.specs.declared.word53.RawInstruction53.{RawInstruction53}
 use Rattle.fields.proofs.Laws.{laws}
 use Rattle.graph.specs.Graph.{In}
 use Rattle.graph.proofs.Laws as graph
 use Rattle.sweep.specs.Steps.{isInvalid, listOf}
-use Rattle.runs.specs.Ways.{fetch, jumped, targetOf, targetsOf, integers}
-use Rattle.runs.specs.Lvm as lvm
-use Rattle.runs.proofs.Laws as runs
+use Rattle.steps.specs.Ways as lvm
+use Rattle.steps.specs.Ways.{targetsOf, integers}
+use Rattle.steps.specs.Executions.{Arm, goOf, gosOf, leading}
+use Rattle.steps.specs.Lvm as lvm54
+use Rattle.steps.specs.Lvm53 as lvm53
+use Rattle.runs.specs.Script.{stepsOf}
+use Rattle.steps.proofs.Laws as stepping
 use Rattle.fields.specs.declared.version.Version.{Version}
 use Rattle.fields.specs.declared.version.Version.the-variants.{Lua54, Lua53}
 use Rattle.touches.specs.Words.{opcodeBy, «GET_OPCODE-of», taken}
-use Rattle.touches.specs.Executions.{Go, vmbreak, «pc++», «pc++-if-k», dojump, donextjump, «pc-=Bx», «pc+=Bx+1», l_tforcall, l_tforloop, leave, «pc++-if-C», «pc++-if-not-C», «pc+=sBx», dojump-sBx, compared-0, compared-1, sBx, next, Way, way}
-use Rattle.fields.specs.declared.word53.RawInstruction53.{RawInstruction53}
-use Rattle.fields.specs.Lopcodes53 as lopcodes53
-use Rattle.runs.specs.Lvm53 as lvm53
-use Rattle.runs.specs.Script.{stepsOf}
-use Rattle.touches.specs.Versions.{goesOn, isStep, waysOf}
-use Rattle.touches.specs.Touched.{waysAt, nexts, Any, LeadsTo}
+use Rattle.touches.specs.Versions.{isStep, Go, Way, waysOf, next}
+use Rattle.touches.specs.Touched.{waysAt, Any, LeadsTo}
 use Rattle.touches.specs.Cases.{Edge, noEdge, «p+1», «p+2», «p+1-Bx», «p+1+sBx», edgeOf}
-use Rattle.touches.specs.Table.{opcodesOf}
+use Rattle.touches.specs.Table.{edgeFrom, edgeNumber, opcodesOf}
 use Rattle.touches.proofs.Order.{split}
-use Rattle.touches.proofs.Choices.{one-of, same, by-test}
-use Rattle.touches.proofs.Gos.{goNumber, goFrom, go-back, goNumbers, gosFrom, gos-back, gosOf, nextsBy, nexts-by}
-use mathlib.Core.Logic.{_↔_}
-
--- the ways of a body of Lvm.antt
-abbrev gosBy : lvm.Body → List Go
-gosBy lvm.still = vmbreak ∷ []
-gosBy lvm.skip = «pc++» ∷ []
-gosBy lvm.arith = «pc++» ∷ vmbreak ∷ []
-gosBy lvm.jmp = dojump ∷ []
-gosBy lvm.condjump = «pc++» ∷ donextjump ∷ []
-gosBy lvm.testset = «pc++» ∷ donextjump ∷ []
-gosBy lvm.call = vmbreak ∷ []
-gosBy lvm.leave = leave ∷ []
-gosBy lvm.forloop = «pc-=Bx» ∷ vmbreak ∷ []
-gosBy lvm.forprep = «pc+=Bx+1» ∷ vmbreak ∷ []
-gosBy lvm.tforprep = l_tforcall ∷ []
-gosBy lvm.tforcall = l_tforloop ∷ []
-gosBy lvm.tforloop = «pc-=Bx» ∷ vmbreak ∷ []
-gosBy lvm.setlist = «pc++-if-k» ∷ []
-gosBy lvm.assert0 = []
-gosBy lvm.absent = []
-
--- a test of a field, and where it leads
-either : (Body : Type 0) (t : Bool) (x y : ℤ) → cond t x y ∷ [] ≡ targetsOf {Body = Body} (cond t (fetch x ∷ []) (fetch y ∷ []))
-either Body true x y = refl
-either Body false x y = refl
-
-body-nexts : (ws : List ℕ) (body : lvm.Body) (pc : ℤ) (i : ℕ) → nextsBy Lua54 (gosBy body) pc i ≡ targetsOf (lvm.waysOf ws body pc i)
-body-nexts ws lvm.still pc i = refl
-body-nexts ws lvm.skip pc i = refl
-body-nexts ws lvm.arith pc i = refl
-body-nexts ws lvm.jmp pc i = refl
-body-nexts ws lvm.condjump pc i = refl
-body-nexts ws lvm.testset pc i = refl
-body-nexts ws lvm.call pc i = refl
-body-nexts ws lvm.leave pc i = refl
-body-nexts ws lvm.forloop pc i = refl
-body-nexts ws lvm.forprep pc i = refl
-body-nexts ws lvm.tforprep pc i = refl
-body-nexts ws lvm.tforcall pc i = refl
-body-nexts ws lvm.tforloop pc i = refl
-body-nexts ws lvm.setlist pc i = either lvm.Body (eqb («TESTARG_k» i) 0) pc (pc +ℤ pos 1)
-body-nexts ws lvm.assert0 pc i = refl
-body-nexts ws lvm.absent pc i = refl
-
--- the same of 5.3
-abbrev gosBy53 : lvm53.Body → List Go
-gosBy53 lvm53.still = vmbreak ∷ []
-gosBy53 lvm53.loadkx = «pc++» ∷ []
-gosBy53 lvm53.loadbool = «pc++-if-C» ∷ []
-gosBy53 lvm53.jmp = dojump-sBx ∷ []
-gosBy53 lvm53.compare = compared-0 ∷ compared-1 ∷ []
-gosBy53 lvm53.test = «pc++» ∷ donextjump ∷ []
-gosBy53 lvm53.call = vmbreak ∷ []
-gosBy53 lvm53.tailcall = vmbreak ∷ leave ∷ []
-gosBy53 lvm53.leave = leave ∷ []
-gosBy53 lvm53.forloop = «pc+=sBx» ∷ vmbreak ∷ []
-gosBy53 lvm53.forprep = «pc+=sBx» ∷ []
-gosBy53 lvm53.tforcall = l_tforloop ∷ []
-gosBy53 lvm53.tforloop = «pc+=sBx» ∷ vmbreak ∷ []
-gosBy53 lvm53.setlist = «pc++-if-not-C» ∷ []
-gosBy53 lvm53.assert0 = []
-gosBy53 lvm53.absent = []
-
-jumps53 : (t : Bool) (x after y : ℤ) → cond t x y ≡ targetOf {Body = lvm53.Body} (cond t (jumped x after) (fetch y))
-jumps53 true x after y = refl
-jumps53 false x after y = refl
-
-body-nexts53 : (ws : List ℕ) (body : lvm53.Body) (pc : ℤ) (i : ℕ) → nextsBy Lua53 (gosBy53 body) pc i ≡ targetsOf (lvm53.waysOf ws body pc i)
-body-nexts53 ws lvm53.still pc i = refl
-body-nexts53 ws lvm53.loadkx pc i = refl
-body-nexts53 ws lvm53.loadbool pc i = either lvm53.Body (eqb (lopcodes53.«GETARG_C» i) 0) pc (pc +ℤ pos 1)
-body-nexts53 ws lvm53.jmp pc i = refl
-body-nexts53 ws lvm53.compare pc i =
-    ap₂ (λ (x y : ℤ). x ∷ y ∷ []) (jumps53 (eqb 0 (lopcodes53.«GETARG_A» i)) pc _ (pc +ℤ pos 1)) (jumps53 (eqb 1 (lopcodes53.«GETARG_A» i)) pc _ (pc +ℤ pos 1))
-body-nexts53 ws lvm53.test pc i = refl
-body-nexts53 ws lvm53.call pc i = refl
-body-nexts53 ws lvm53.tailcall pc i = refl
-body-nexts53 ws lvm53.leave pc i = refl
-body-nexts53 ws lvm53.forloop pc i = refl
-body-nexts53 ws lvm53.forprep pc i = refl
-body-nexts53 ws lvm53.tforcall pc i = refl
-body-nexts53 ws lvm53.tforloop pc i = refl
-body-nexts53 ws lvm53.setlist pc i = either lvm53.Body (eqb (lopcodes53.«GETARG_C» i) 0) (pc +ℤ pos 1) pc
-body-nexts53 ws lvm53.assert0 pc i = refl
-body-nexts53 ws lvm53.absent pc i = refl
-
--- The two switches go on alike: a test that antt computes
-
-abbrev gosAt : Version → ℕ → List Go
-gosAt Lua54 o = gosBy (lvm.bodyOf o)
-gosAt Lua53 o = gosBy53 (lvm53.bodyOf o)
-
-alike-at : Version → ℕ → Bool
-alike-at v o = same (goNumbers (gosOf (waysOf v o))) (goNumbers (gosAt v o))
-
-alike-below : (v : Version) → T (all (alike-at v) (opcodesOf v))
-unfolding alike-at waysOf
-alike-below Lua54 = tt
-alike-below Lua53 = tt
-
-gos-alike : (v : Version) (o : ℕ) → o < opcodesOf v → gosOf (waysOf v o) ≡ gosAt v o
-unfolding alike-at
-gos-alike v o h =
-    sym (gos-back (gosOf (waysOf v o)))
-    ∙ (ap gosFrom (by-test (goNumbers (gosOf (waysOf v o))) (goNumbers (gosAt v o)) (laws .each-below (alike-at v) (opcodesOf v) (alike-below v) o h))
-    ∙ gos-back (gosAt v o))
+use Rattle.touches.proofs.Choices.{left-of, right-of}
+use Rattle.touches.proofs.Rows.{edge-back}
 
 pub opcode-is : (v : Version) (w : ℕ) → «GET_OPCODE-of» v w ≡ opcodeBy v w
 opcode-is Lua54 w = ap (λ (i : RawInstruction54). i .«opcode_num») (laws .lopcodes w)
@@ -151,23 +42,38 @@ pub opcode-fits : (v : Version) (w : ℕ) → «GET_OPCODE-of» v w < opcodesOf 
 opcode-fits Lua54 w = rw (opcode-is Lua54 w) (omega arith)
 opcode-fits Lua53 w = rw (opcode-is Lua53 w) (omega arith)
 
-bodies-alike : (v : Version) (ws : List ℕ) (p : ℕ) → nextsBy v (gosAt v («GET_OPCODE-of» v (getD ws p 0))) (pos (p + 1)) (getD ws p 0) ≡ goesOn v ws p
-unfolding lvm.waysAt lvm.bodyAt lvm53.waysAt lvm53.bodyAt
-bodies-alike Lua54 ws p = body-nexts ws (lvm.bodyOf («GET_OPCODE» (getD ws p 0))) (pos (p + 1)) (getD ws p 0)
-bodies-alike Lua53 ws p = body-nexts53 ws (lvm53.bodyOf (lopcodes53.«GET_OPCODE» (getD ws p 0))) (pos (p + 1)) (getD ws p 0)
+-- A word to which one of a case's ways leads is one to which the case leads
 
-pub same-ways : (v : Version) (ws : List ℕ) (p : ℕ) → nexts v (waysAt v ws p) (pos (p + 1)) (getD ws p 0) ≡ goesOn v ws p
-same-ways v ws p =
-    let w = getD ws p 0 in
-    nexts-by v (waysAt v ws p) (pos (p + 1)) w
-    ∙ (ap (λ (gos : List Go). nextsBy v gos (pos (p + 1)) w) (gos-alike v («GET_OPCODE-of» v w) (opcode-fits v w)) ∙ bodies-alike v ws p)
+targets-append : {Body : Type 0} (xs ys : List (lvm.Way Body)) (z : ℤ) → In z (targetsOf (xs ++ ys)) ↔ (In z (targetsOf xs) ⊎ In z (targetsOf ys))
+targets-append [] ys z = (λ m. inr m, ⊎-elim (λ m. absurd m) (λ m. m))
+targets-append (x ∷ xs) ys z =
+    let rest = targets-append xs ys z in (
+      ⊎-elim (λ m. inl (inl m)) (λ m. ⊎-elim (λ l. inl (inr l)) (λ r. inr r) (rest .0 m)),
+      ⊎-elim (⊎-elim (λ m. inl m) (λ m. inr (rest .1 (inl m)))) (λ m. inr (rest .1 (inr m))),
+    )
+
+module _ {Go Body : Type 0} (onward : Go → List (lvm.Way Body)) (z : ℤ) where
+  led : (ways : List (Arm Go)) → Any (λ (w : Arm Go). In z (targetsOf (onward (goOf w)))) ways ↔ In z (targetsOf (leading onward (gosOf ways)))
+  led [] = (λ m. m, λ m. m)
+  led (w ∷ ways) =
+      let parts = targets-append (onward (goOf w)) (leading onward (gosOf ways)) z in (
+        ⊎-elim (λ m. parts .1 (inl m)) (λ m. parts .1 (inr (led ways .0 m))),
+        λ m. ⊎-elim (λ l. inl l) (λ r. inr (led ways .1 r)) (parts .0 m),
+      )
 
 -- the ways of either version are the word's steps
-ways-are :
+pub ways-are :
     (v : Version) (ws : List ℕ) (p : ℕ) → isInvalid (stepsOf v ws p) ≡ false → (z : ℤ) →
-    In z (nexts v (waysAt v ws p) (pos (p + 1)) (getD ws p 0)) ↔ In z (integers (listOf (stepsOf v ws p)))
-ways-are Lua54 ws p valid z = rw (same-ways Lua54 ws p) (runs.laws .agreement .same ws p valid z)
-ways-are Lua53 ws p valid z = rw (same-ways Lua53 ws p) (runs.laws .agreement53 .same ws p valid z)
+    Any (LeadsTo v ws p z) (waysAt v ws p) ↔ In z (integers (listOf (stepsOf v ws p)))
+unfolding waysOf lvm54.waysAt lvm54.bodyAt lvm53.waysAt lvm53.bodyAt
+ways-are Lua54 ws p valid z =
+    let ways = led (lvm54.onward ws (pos (p + 1)) (getD ws p 0)) z (waysAt Lua54 ws p) in
+    let steps = stepping.laws .agreement .same ws p valid z in
+    (λ m. steps .0 (ways .0 m), λ m. ways .1 (steps .1 m))
+ways-are Lua53 ws p valid z =
+    let ways = led (lvm53.onward ws (pos (p + 1)) (getD ws p 0)) z (waysAt Lua53 ws p) in
+    let steps = stepping.laws .agreement53 .same ws p valid z in
+    (λ m. steps .0 (ways .0 m), λ m. ways .1 (steps .1 m))
 
 -- A way of a word that is not bad leads to a successor
 
@@ -194,11 +100,8 @@ none-below n (x ∷ xs) a = ⊎-elim (λ e. signs e) (λ b. none-below n xs b) a
     signs e = omega (arith, ap sign e)
 
 module _ (v : Version) (ws : List ℕ) (p : ℕ) (valid : isInvalid (stepsOf v ws p) ≡ false) where
-  abbrev word : ℕ
-  word = getD ws p 0
-
-  abbrev Reached : ℤ → Type 0
-  Reached z = In z (nexts v (waysAt v ws p) (pos (p + 1)) word)
+  abbrev pub Reached : ℤ → Type 0
+  Reached z = Any (LeadsTo v ws p z) (waysAt v ws p)
 
   reached : (z : ℤ) → Reached z → In z (integers (listOf (stepsOf v ws p)))
   reached z a = ways-are v ws p valid z .0 a
@@ -230,40 +133,63 @@ away m a b = sym (+ℤ-assoc (pos m) (pos a) (negℤ (pos b)))
 
 -- The edge of a case, and the way on that leads over it
 
-abbrev pub goOf : Way → Go
-goOf (way go runs) = go
-
-abbrev pub leads : Edge → Go → Bool
-leads noEdge go = false
-leads «p+1» go = cond (eqb (goNumber go) 0) true (eqb (goNumber go) 4)
-leads «p+2» go = eqb (goNumber go) 1
-leads «p+1-Bx» go = eqb (goNumber go) 5
-leads «p+1+sBx» go = eqb (goNumber go) 12
-
 -- where lvm.c leaves pc then
 abbrev pub landing : Version → Edge → ℕ → ℕ → ℤ
 landing v noEdge p w = pos 0
 landing v «p+1» p w = pos (p + 1)
 landing v «p+2» p w = pos (p + 1) +ℤ pos 1
 landing v «p+1-Bx» p w = pos (p + 1) -ℤ pos (taken v w .bx)
-landing v «p+1+sBx» p w = pos (p + 1) +ℤ sBx (taken v w .bx)
+landing v «p+1+sBx» p w = pos (p + 1) +ℤ (pos (taken v w .bx) -ℤ pos 131071)
 
-go-is : (go : Go) (n : ℕ) → T (eqb (goNumber go) n) → go ≡ goFrom n
-go-is go n t = sym (go-back go) ∙ ap goFrom (eqb→eq (goNumber go) n t)
+abbrev isEdge : Edge → Bool
+isEdge noEdge = false
+isEdge «p+1» = true
+isEdge «p+2» = true
+isEdge «p+1-Bx» = true
+isEdge «p+1+sBx» = true
 
-pub next-landing : (v : Version) (edge : Edge) (go : Go) (p w : ℕ) → T (leads edge go) → next v go (pos (p + 1)) w ≡ landing v edge p w ∷ []
-next-landing v noEdge go p w t = absurd t
-next-landing v «p+1» go p w t =
-    ⊎-elim (λ u. ap (λ (g : Go). next v g (pos (p + 1)) w) (go-is go 0 u)) (λ u. ap (λ (g : Go). next v g (pos (p + 1)) w) (go-is go 4 u))
-    (one-of (eqb (goNumber go) 0) (eqb (goNumber go) 4) t)
-next-landing v «p+2» go p w t = ap (λ (g : Go). next v g (pos (p + 1)) w) (go-is go 1 t)
-next-landing v «p+1-Bx» go p w t = ap (λ (g : Go). next v g (pos (p + 1)) w) (go-is go 5 t)
-next-landing v «p+1+sBx» go p w t = ap (λ (g : Go). next v g (pos (p + 1)) w) (go-is go 12 t)
+-- the edge over which a way leads, of those that a case can have
+abbrev crossing :
+    (v : Version) (go : Go v) →
+    (edge : Edge) × ((ws : List ℕ) (p w : ℕ) → T (isEdge edge) → next v ws (pos (p + 1)) w go ≡ landing v edge p w ∷ [])
+crossing Lua54 lvm54.vmbreak = («p+1», λ ws p w t. refl)
+crossing Lua54 lvm54.«pc++» = («p+2», λ ws p w t. refl)
+crossing Lua54 lvm54.«pc++-if-k» = (noEdge, λ ws p w t. absurd t)
+crossing Lua54 lvm54.jump = (noEdge, λ ws p w t. absurd t)
+crossing Lua54 lvm54.donextjump = («p+1», λ ws p w t. refl)
+crossing Lua54 lvm54.«pc-=Bx» = («p+1-Bx», λ ws p w t. refl)
+crossing Lua54 lvm54.«pc+=Bx+1» = (noEdge, λ ws p w t. absurd t)
+crossing Lua54 lvm54.«goto-l_tforcall» = (noEdge, λ ws p w t. absurd t)
+crossing Lua54 lvm54.«goto-l_tforloop» = (noEdge, λ ws p w t. absurd t)
+crossing Lua54 lvm54.leave = (noEdge, λ ws p w t. absurd t)
+crossing Lua53 lvm53.vmbreak = («p+1», λ ws p w t. refl)
+crossing Lua53 lvm53.«pc++» = («p+2», λ ws p w t. refl)
+crossing Lua53 lvm53.«pc++-if-C» = (noEdge, λ ws p w t. absurd t)
+crossing Lua53 lvm53.«pc++-if-not-C» = (noEdge, λ ws p w t. absurd t)
+crossing Lua53 lvm53.jump = (noEdge, λ ws p w t. absurd t)
+crossing Lua53 lvm53.donextjump = («p+1», λ ws p w t. refl)
+crossing Lua53 lvm53.compared-0 = (noEdge, λ ws p w t. absurd t)
+crossing Lua53 lvm53.compared-1 = (noEdge, λ ws p w t. absurd t)
+crossing Lua53 lvm53.«pc+=sBx» = («p+1+sBx», λ ws p w t. refl)
+crossing Lua53 lvm53.«goto-l_tforloop» = (noEdge, λ ws p w t. absurd t)
+crossing Lua53 lvm53.leave = (noEdge, λ ws p w t. absurd t)
+
+abbrev pub leads : (v : Version) → Edge → Go v → Bool
+leads v edge go = cond (isEdge edge) (eqb (edgeNumber (crossing v go .0)) (edgeNumber edge)) false
+
+pub next-landing :
+    (v : Version) (ws : List ℕ) (p w : ℕ) (edge : Edge) (go : Go v) → T (leads v edge go) →
+    next v ws (pos (p + 1)) w go ≡ landing v edge p w ∷ []
+next-landing v ws p w edge go t =
+    let own : Edge = crossing v go .0 in
+    let n : edgeNumber own ≡ edgeNumber edge = eqb→eq (edgeNumber own) (edgeNumber edge) (right-of (isEdge edge) _ t) in
+    let e : own ≡ edge = sym (edge-back own) ∙ (ap edgeFrom n ∙ edge-back edge) in
+    subst (λ (x : Edge). next v ws (pos (p + 1)) w go ≡ landing v x p w ∷ []) e
+    (crossing v go .1 ws p w (subst (λ (x : Edge). T (isEdge x)) (sym e) (left-of (isEdge edge) _ t)))
 
 pub landing-is :
     (v : Version) (ws : List ℕ) (p : ℕ) → isInvalid (stepsOf v ws p) ≡ false → (edge : Edge) →
-    In (landing v edge p (getD ws p 0)) (nexts v (waysAt v ws p) (pos (p + 1)) (getD ws p 0)) →
-    landing v edge p (getD ws p 0) ≡ pos (edgeOf edge p (taken v (getD ws p 0) .bx))
+    Any (LeadsTo v ws p (landing v edge p (getD ws p 0))) (waysAt v ws p) → landing v edge p (getD ws p 0) ≡ pos (edgeOf edge p (taken v (getD ws p 0) .bx))
 landing-is v ws p valid noEdge a = refl
 landing-is v ws p valid «p+1» a = refl
 landing-is v ws p valid «p+2» a = ap pos (omega arith)
@@ -274,20 +200,3 @@ landing-is v ws p valid «p+1+sBx» a =
     let bx : ℕ = taken v (getD ws p 0) .bx in
     let e = away (p + 1) bx 131071 in
     e ∙ difference (p + 1 + bx) 131071 (not-below v ws p valid (p + 1 + bx) 131071 (subst (Reached v ws p valid) e a))
-
--- a word that some way leads to
-pub any-reached :
-    (v : Version) (ws : List ℕ) (p : ℕ) (z : ℤ) (P : Way → Type 0) (ways : List Way) → Any (λ (w : Way). LeadsTo v ws p z w × P w) ways →
-    In z (nexts v ways (pos (p + 1)) (getD ws p 0))
-any-reached v ws p z P [] a = a
-any-reached v ws p z P (way go runs ∷ ways) a =
-    ⊎-elim (λ (h : LeadsTo v ws p z (way go runs) × P (way go runs)). in-left z (next v go (pos (p + 1)) (getD ws p 0)) (nexts v ways (pos (p + 1)) (getD ws p 0)) (h .0))
-    (λ h. in-right z (next v go (pos (p + 1)) (getD ws p 0)) (nexts v ways (pos (p + 1)) (getD ws p 0)) (any-reached v ws p z P ways h)) a
-  where
-    in-left : (z : ℤ) (xs ys : List ℤ) → In z xs → In z (xs ++ ys)
-    in-left z [] ys b = absurd b
-    in-left z (x ∷ xs) ys b = ⊎-elim (λ h. inl h) (λ h. inr (in-left z xs ys h)) b
-
-    in-right : (z : ℤ) (xs ys : List ℤ) → In z ys → In z (xs ++ ys)
-    in-right z [] ys b = b
-    in-right z (x ∷ xs) ys b = inr (in-right z xs ys b)

@@ -15,33 +15,33 @@ use Rattle.touches.specs.Touches.{touchesFor}
 use Rattle.touches.specs.Meaning.{rangesIn, numbersIn}
 
 -- what an answer lists, an item at a time
-pub data Item : Type 0 where
+pub data TouchedItem : Type 0 where
   -- registers, the first and the last
-  reads : ℕ → ℕ → Item
+  reads : ℕ → ℕ → TouchedItem
   -- registers from this one up to the top
-  reads-from : ℕ → Item
-  constant : ℕ → Item
-  upvalue : ℕ → Item
-  writes : ℕ → ℕ → Item
-  writes-from : ℕ → Item
+  reads-from : ℕ → TouchedItem
+  constant : ℕ → TouchedItem
+  upvalue : ℕ → TouchedItem
+  writes : ℕ → ℕ → TouchedItem
+  writes-from : ℕ → TouchedItem
   -- an upvalue that is written
-  sets : ℕ → Item
+  sets : ℕ → TouchedItem
   -- only on the step to a word, which stands first
-  writes-to : ℕ → ℕ → ℕ → Item
+  writes-to : ℕ → ℕ → ℕ → TouchedItem
 
-abbrev ranged : (ℕ → ℕ → Item) → List Range → List Item
+abbrev ranged : (ℕ → ℕ → TouchedItem) → List Range → List TouchedItem
 ranged item [] = []
 ranged item (r ∷ rs) = item (r .first) (r .last) ∷ ranged item rs
 
-abbrev indexed : (ℕ → Item) → List ℕ → List Item
+abbrev indexed : (ℕ → TouchedItem) → List ℕ → List TouchedItem
 indexed item [] = []
 indexed item (n ∷ ns) = item n ∷ indexed item ns
 
-abbrev topped : (ℕ → Item) → Top → List Item
+abbrev topped : (ℕ → TouchedItem) → Top → List TouchedItem
 topped item t = cond (eqb (t .count) 0) [] (item (t .first) ∷ [])
 
 -- all of them, list by list
-abbrev pub itemsOf : Touches → List Item
+abbrev pub itemsOf : Touches → List TouchedItem
 itemsOf t =
     ranged reads (rangesIn (t .reads))
     ++ (topped reads-from (t .«reads_to_top»)
@@ -65,20 +65,20 @@ ax opcode extra = opcode + 64 * extra
 
 pub data Example : Type 0 where
   -- of these words, the one of this number touches this
-  at : List ℕ → ℕ → List Item → Example
+  at : List ℕ → ℕ → List TouchedItem → Example
 
-abbrev pub HoldsOf : Example → Type 0
-HoldsOf (at words p items) = itemsOf (touchesFor Lua53 words p) ≡ items
+abbrev pub ExampleHolds : Example → Type 0
+ExampleHolds (at words p items) = itemsOf (touchesFor Lua53 words p) ≡ items
 
-abbrev pub Hold : List Example → Type 0
-Hold [] = Unit {0}
-Hold (example ∷ examples) = HoldsOf example × Hold examples
+abbrev pub ExamplesHold : List Example → Type 0
+ExamplesHold [] = Unit {0}
+ExamplesHold (example ∷ examples) = ExampleHolds example × ExamplesHold examples
 
 -- word 1 of four; word 0 is a MOVE, and so are those after it, or those after the one that it wants there
-abbrev alone : ℕ → List Item → Example
+abbrev alone : ℕ → List TouchedItem → Example
 alone word items = at (0 ∷ word ∷ 0 ∷ 0 ∷ []) 1 items
 
-abbrev along : ℕ → ℕ → List Item → Example
+abbrev along : ℕ → ℕ → List TouchedItem → Example
 along word companion items = at (0 ∷ word ∷ companion ∷ 0 ∷ []) 1 items
 
 -- with A 5, B 7 and C 260, which as RK(C) is constant 4, or as said

@@ -15,7 +15,7 @@ pub record Laws : Type 0 where
   -- the form of the lists, and that they are exactly what lvm.c touches
   pub meaning : (v : Version) → Meaning v
   -- words of 5.3 and their lists by number
-  pub by-hand : examples53.Hold examples53.examples
+  pub by-hand : examples53.ExamplesHold examples53.examples
   -- the bit by which 5.3 tells constants from registers, by number
   pub rk : RK
   -- by the table that the code has

@@ -6,8 +6,7 @@ pub mod Cases
 pub mod Cases53
 pub mod Canonical
 pub mod Lists
-pub mod Executions
-pub mod Executions53
+pub mod Cells
 pub mod Versions
 pub mod Touches
 pub mod Touched

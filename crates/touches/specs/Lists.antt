@@ -64,13 +64,13 @@ ranges (suc n) (x ∷ xs) = rangeOf x ∷ ranges n xs
 unfoldable pub rangesOf : List Interval → Ranges
 rangesOf xs = record { items = ranges 3 xs; count = length xs }
 
-abbrev pub numbers : ℕ → List ℕ → List ℕ
-numbers zero xs = []
-numbers (suc n) [] = 0 ∷ numbers n []
-numbers (suc n) (x ∷ xs) = x ∷ numbers n xs
+abbrev pub firstNumbers : ℕ → List ℕ → List ℕ
+firstNumbers zero xs = []
+firstNumbers (suc n) [] = 0 ∷ firstNumbers n []
+firstNumbers (suc n) (x ∷ xs) = x ∷ firstNumbers n xs
 
 unfoldable pub indicesOf : List ℕ → Indices
-indicesOf xs = record { items = numbers 3 xs; count = length xs }
+indicesOf xs = record { items = firstNumbers 3 xs; count = length xs }
 
 unfoldable pub firstTop : List ℕ → Top → Top
 firstTop [] other = other

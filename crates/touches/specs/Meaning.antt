@@ -1,6 +1,7 @@
 -- What the answer says, in document 02's words: that it has the form asked for, and that it lists exactly
--- what lvm.c touches (specs/Executions.antt, specs/Executions53.antt). proofs/Meaning.antt proves it for
--- every word of either version.
+-- what lvm.c touches (steps/specs/Lvm.antt, steps/specs/Lvm53.antt): "the registers, constants and upvalues
+-- that lvm.c reads and writes in some execution". proofs/Meaning.antt proves it for every word of either
+-- version.
 -- Assumes nothing.
 use Prim.Native.Nat.{ℕ, _+_, _-_, _≤_, _<_}
 use mathlib.Core.Path.{_≡_}
@@ -8,9 +9,10 @@ use mathlib.Core.Logic.{_⊎_, _↔_}
 use mathlib.Core.Bool.{true, false}
 use mathlib.Core.List.{List, [], _∷_}
 use lib.IntN.{ℤ, pos}
-use lib.ListN.{length, getD, take, drop, replicate}
+use lib.ListN.{length, take, drop, replicate}
 use Rattle.graph.specs.Graph.{In}
-use Rattle.sweep.specs.Steps.{isInvalid}
+use Rattle.sweep.specs.Steps.{isInvalid, listOf}
+use Rattle.steps.specs.Ways.{integers}
 use Rattle.touches.specs.declared.answer.Range.{Range}
 use Rattle.touches.specs.declared.answer.Ranges.{Ranges}
 use Rattle.touches.specs.declared.answer.Indices.{Indices}
@@ -18,12 +20,13 @@ use Rattle.touches.specs.declared.answer.Top.{Top}
 use Rattle.touches.specs.declared.answer.Touches.{Touches}
 use Rattle.fields.specs.declared.version.Version.{Version}
 use Rattle.runs.specs.Script.{stepsOf}
-use Rattle.touches.specs.Versions.{goesOn, isStep}
+use Rattle.touches.specs.Versions.{isStep}
 use Rattle.touches.specs.Touches.{touchesBy, touchesFor}
-use Rattle.touches.specs.Executions.{Cell, register, constant, upvalue, upToTop}
+use Rattle.touches.specs.Cells.{Cell, register, constant, upvalue, upToTop}
 use Rattle.touches.specs.Touched.{
   waysAt,
-  nexts,
+  Any,
+  LeadsTo,
   Reads,
   WrittenOnAll,
   WrittenOnlyTo,
@@ -117,9 +120,9 @@ NamedOnEdge t (constant q) = ⊥
 NamedOnEdge t (upvalue q) = ⊥
 NamedOnEdge t (upToTop first) = ⊥
 
--- A word that is not bad: its lists are exactly what lvm.c touches, where lvm.c's ways on are those of runs
+-- A word that is not bad: its lists are exactly what lvm.c touches, where lvm.c's ways on lead to its steps
 pub record Exact (v : Version) (ws : List ℕ) (p : ℕ) : Type 0 where
-  pub ways : nexts v (waysAt v ws p) (pos (p + 1)) (getD ws p 0) ≡ goesOn v ws p
+  pub ways : (z : ℤ) → Any (LeadsTo v ws p z) (waysAt v ws p) ↔ In z (integers (listOf (stepsOf v ws p)))
   pub reads : (c : Cell) → NamedRead (touchesFor v ws p) c ↔ Reads v ws p c
   pub writes : (c : Cell) → NamedWritten (touchesFor v ws p) c ↔ WrittenOnAll v ws p c
   pub «edge-writes» : (c : Cell) (z : ℤ)
@@ -128,8 +131,8 @@ pub record Exact (v : Version) (ws : List ℕ) (p : ℕ) : Type 0 where
   pub edge : 0 < touchesFor v ws p .«edge_writes» .count → isStep v ws p (touchesFor v ws p .edge) ≡ true
 
 -- register q is in a range up to the top, when that is t
-abbrev pub Below : Top → ℕ → ℕ → Type 0
-Below top t q = (top .count ≡ 1) × ((top .first ≤ q) × (q < t))
+abbrev pub BelowTop : Top → ℕ → ℕ → Type 0
+BelowTop top t q = (top .count ≡ 1) × ((top .first ≤ q) × (q < t))
 
 -- "a range up to the stack top is given apart, by its first register past those touched at every top"
 pub record Tops (v : Version) (ws : List ℕ) (p : ℕ) : Type 0 where
@@ -140,10 +143,10 @@ pub record Tops (v : Version) (ws : List ℕ) (p : ℕ) : Type 0 where
       → NamedWritten (touchesFor v ws p) (register q) ↔ ((t : ℕ) → TopAfter v ws p t → WrittenAt v ws p t q)
   -- with the range up to the top they are what is touched at a top
   pub reads : (t q : ℕ)
-      → (NamedRead (touchesFor v ws p) (register q) ⊎ Below (touchesFor v ws p .«reads_to_top») t q)
+      → (NamedRead (touchesFor v ws p) (register q) ⊎ BelowTop (touchesFor v ws p .«reads_to_top») t q)
       ↔ ReadsAt v ws p t q
   pub writes : (t q : ℕ)
-      → (NamedWritten (touchesFor v ws p) (register q) ⊎ Below (touchesFor v ws p .«writes_to_top») t q)
+      → (NamedWritten (touchesFor v ws p) (register q) ⊎ BelowTop (touchesFor v ws p .«writes_to_top») t q)
       ↔ WrittenAt v ws p t q
   -- and it starts past them
   pub «past-reads» : (q : ℕ) → NamedRead (touchesFor v ws p) (register q)

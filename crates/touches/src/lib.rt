@@ -2,7 +2,7 @@
 // (document 02, C-14 and C-24).
 pub mod answer;
 pub mod arguments;
-pub mod export;
+pub mod c;
 pub mod indices;
 pub mod intervals;
 pub mod locations;

@@ -1,7 +1,7 @@
 // What each opcode reads and writes, row for row as specs/Cases.antt has it; unknown opcodes nothing.
 use crate::operands::*;
 
-pub const TABLE: [u64; 128] = [
+pub const ACCESSES: [u64; 128] = [
     // OP_MOVE: R[A] := R[B]
     READ * R_B + WRITE * R_A,
     // OP_LOADI: R[A] := sBx

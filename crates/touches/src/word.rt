@@ -28,17 +28,17 @@ use crate::intervals::ranges_in;
 use crate::locations::Location;
 use crate::locations::location_of;
 use crate::operands::*;
-use crate::table::TABLE;
+use crate::table::ACCESSES;
 use crate::table53::TABLE_53;
 use crate::tops::top_in;
 use fields::word53::OFFSET_SBX;
 use sweep::edges::Successors;
 
 // By value: reading a constant array copies it, so a loop takes the table once and lends it to `touches_in`.
-pub fn table() -> [u64; 128]
+pub fn access_table() -> [u64; 128]
     ensures { λ r. ⌜ r ≡ accessTable ⌝ }
 {
-    TABLE
+    ACCESSES
 }
 
 fn table_53() -> [u64; 64]
@@ -190,7 +190,7 @@ fn touches_at(rows: &[u64; 128], words: &[u32], p: usize) -> Touches
 pub fn touches_in(rows: &[u64; 128], words: &[u32], p: usize) -> Touches
     ensures { λ r. ⌜ r ≡ touchesWith (now (rows .entry)) (now (words .entry)) p ⌝ }
 {
-    if is_bad(runs::successors::successors(words, p)) {
+    if is_bad(steps::successors::successors(words, p)) {
         return nothing();
     }
     touches_at(rows, words, p)
@@ -199,7 +199,7 @@ pub fn touches_in(rows: &[u64; 128], words: &[u32], p: usize) -> Touches
 pub fn touches(words: &[u32], p: usize) -> Touches
     ensures { λ r. ⌜ r ≡ touchesOf (now (words .entry)) p ⌝ }
 {
-    let rows = table();
+    let rows = access_table();
     touches_in(&rows, words, p)
 }
 
@@ -222,7 +222,7 @@ fn touches_at_53(rows: &[u64; 64], words: &[u32], p: usize) -> Touches
 fn touches_in_53(rows: &[u64; 64], words: &[u32], p: usize) -> Touches
     ensures { λ r. ⌜ r ≡ touchesLent Lua53 (now (rows .entry)) (now (words .entry)) p ⌝ }
 {
-    if is_bad(runs::successors53::successors(words, p)) {
+    if is_bad(steps::successors53::successors(words, p)) {
         return nothing();
     }
     touches_at_53(rows, words, p)

@@ -2,7 +2,7 @@
 -- A refinement of the original: get_const_val and get_upval_name of lifter.rs, over tags and
 -- payloads in place of a Prototype.
 -- Assumes nothing.
-use Prim.Native.Nat.{ℕ, _-_, _/_, _%_, _^_}
+use Prim.Native.Nat.{ℕ, _+_, _-_, _*_, _/_, _%_, _^_}
 use mathlib.Core.Bool.{true, false}
 use mathlib.Core.List.{List}
 use lib.Dec.{ltb, eqb}
@@ -49,6 +49,10 @@ abbrev pub «TAG_LONG_STRING» : ℕ
 -- "a string's place: start in the low 32 bits, length in the high 32"
 abbrev pub spanOf : ℕ → Span
 spanOf payload = record { start = payload % 2 ^ 32; len = payload / 2 ^ 32 }
+
+-- and back: the payload of a string's place
+abbrev pub spanNumber : ℕ → ℕ → ℕ
+spanNumber start size = start + 4294967296 * size
 
 -- "Its 64-bit payload is the integer": read in two's complement
 unfoldable pub signed64 : ℕ → ℤ

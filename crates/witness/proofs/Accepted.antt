@@ -12,6 +12,7 @@ use Rattle.common.specs.Numbers.{«ACCEPTED», «TOO_MANY_WORDS», «SHORT_SLIC
 use Rattle.common.specs.Chain.{refuseIf}
 use Rattle.common.specs.Lists.{over}
 use Rattle.common.proofs.Over.{over-laws}
+use Rattle.sweep.specs.PassInvariants.{at}
 use Rattle.graph.specs.Graph.{Reachable, Segment}
 use Rattle.graph.specs.Longest.{lengthOf, longest, first}
 use Rattle.graph.specs.Meaning.{Meaning}
@@ -25,7 +26,7 @@ use Rattle.runs.specs.Run.{runOf, numberOf, longestOf, firstOf, numberIs, lowes
 use Rattle.runs.proofs.Laws.{laws}
 use Rattle.witness.specs.Following.{follow}
 use Rattle.witness.specs.Witness.{pathOf}
-use Rattle.witness.specs.Walking.{at, walkedBy}
+use Rattle.witness.specs.Walking.{walkedBy}
 use Rattle.witness.proofs.Following.{follow-same}
 
 abbrev pub isAccepted : Run → Bool

@@ -8,6 +8,7 @@ use lib.ListN.{length, drop, set, length-set, length-append}
 use borrow.Author.Tests.{lt-ltb, le-ltb}
 use Rattle.common.specs.Lists.{put}
 use Rattle.common.proofs.Put.{put-laws}
+use Rattle.sweep.specs.PassInvariants.{at}
 use Rattle.sweep.specs.declared.edges.Successors.{Successors}
 use Rattle.sweep.specs.declared.edges.Successors.the-variants.{Invalid, Stop, One, Two}
 use Rattle.sweep.specs.Steps.{listOf, servesOf, Below}
@@ -16,7 +17,7 @@ use Rattle.runs.proofs.Laws.{laws}
 use Rattle.witness.specs.declared.walking.Onward.{Onward}
 use Rattle.witness.specs.declared.walking.Onward.the-variants.{Ends, To}
 use Rattle.witness.specs.Following.{onwards, goingOn, follow}
-use Rattle.witness.specs.Walking.{at, Walks, walkedBy, Walked}
+use Rattle.witness.specs.Walking.{Walks, walkedBy, Walked}
 use Rattle.witness.proofs.Following.{found-in}
 
 -- word p by its steps

@@ -15,7 +15,7 @@ use Rattle.runs.specs.Script.{Script}
 use Rattle.runs.specs.Run.{runOf, marksAfter, lengthsAfter}
 use Rattle.witness.specs.declared.longest.PathRun.{PathRun}
 use Rattle.witness.specs.declared.longest.PathRun.the-variants as PathRun
-use Rattle.witness.specs.Witness.{pathOf, answerBy, pathRunOf, pathBy, marksWitnessed, lengthsWitnessed, pathWitnessed}
+use Rattle.witness.specs.Witness.{pathOf, pathAnswerBy, pathRunOf, pathBy, marksWitnessed, lengthsWitnessed, pathWitnessed}
 
 -- the run of too many words
 pub run-many : (ws : Script) (weights : List ℕ) (a b : ℕ) → mostWords < ws .size → runOf ws weights a b ≡ Run.Refused «TOO_MANY_WORDS» 0

@@ -24,8 +24,8 @@ use Rattle.runs.specs.Run.{runOf, numberOf, marksAfter, lengthsAfter}
 use Rattle.runs.proofs.Laws.{laws}
 use Rattle.witness.specs.Following.{follow}
 use Rattle.witness.specs.declared.longest.PathRun.the-variants as PathRun
-use Rattle.witness.specs.Witness.{pathOf, answerBy, pathRunOf, marksWitnessed, lengthsWitnessed, pathWitnessed}
-use Rattle.witness.specs.Stretch.{Follows, LongestStretch, Witnessed, Path, Paths}
+use Rattle.witness.specs.Witness.{pathOf, pathAnswerBy, pathRunOf, marksWitnessed, lengthsWitnessed, pathWitnessed}
+use Rattle.witness.specs.Stretch.{FollowsLengths, LongestStretch, Witnessed, LongestPath, Paths}
 use Rattle.witness.proofs.Following.{Ascending, follow-few, restOf, follows, segment-of, weighs}
 use Rattle.witness.proofs.Accepted.{longest-is, first-is, first-reached, first-inside, first-length}
 use Rattle.witness.proofs.Outcome.{run-many, path-many, path-short, path-refused, path-accepted}
@@ -44,7 +44,7 @@ module _ (ws : Script) (sound : Sound ws) (weights : List ℕ) (a b l f : ℕ) (
   abbrev rest : List ℕ
   rest = restOf (graphOf ws) (laws .lawful ws sound) (lengthOf (graphOf ws) (weightOf ws weights)) (λ p. ascending (ws .size) (ws .steps p) (sound .below p)) (ws .size - 1) f
 
-  followed : Follows (graphOf ws) (lengthOf (graphOf ws) (weightOf ws weights)) f rest
+  followed : FollowsLengths (graphOf ws) (lengthOf (graphOf ws) (weightOf ws weights)) f rest
   followed =
       follows (graphOf ws) (laws .lawful ws sound) (lengthOf (graphOf ws) (weightOf ws weights)) (λ p. ascending (ws .size) (ws .steps p) (sound .below p)) (ws .size - 1) f
       (omega arith)
@@ -108,13 +108,13 @@ module _ (ws : Script) (sound : Sound ws) (weights m l path : List ℕ) where
   as-run : (n p : ℕ) → runOf ws weights (length m) (length l) ≡ Run.Refused n p → mostWords < ws .size → pathRunOf ws weights (length m) (length l) (length path) ≡ PathRun.Refused n p
   as-run n p e h =
       sym (path-many ws weights m l path h .0)
-      ∙ ap (λ (r : Run). answerBy r []) (sym (run-many ws weights (length m) (length l) h) ∙ e)
+      ∙ ap (λ (r : Run). pathAnswerBy r []) (sym (run-many ws weights (length m) (length l) h) ∙ e)
 
   short-kept : length path < ws .size → (pathWitnessed ws weights m l path ≡ path) × (marksWitnessed ws weights m l path ≡ m) × (lengthsWitnessed ws weights m l path ≡ l)
   unfolding pathWitnessed marksWitnessed lengthsWitnessed
   short-kept h = let s = lt-ltb (length path) (ws .size) h in (rw s, rw s, rw s)
 
-  path-is : Path ws weights m l path
+  path-is : LongestPath ws weights m l path
   path-is =
       record {
         accepted = witnessed;

@@ -16,7 +16,7 @@ use Rattle.runs.specs.Script.{Script, Sound}
 use Rattle.runs.specs.Run.{runOf, numberOf, marksAfter, lengthsAfter}
 use Rattle.runs.proofs.Laws.{laws}
 use Rattle.witness.specs.declared.longest.PathRun.the-variants as PathRun
-use Rattle.witness.specs.Witness.{answerBy, pathBy, pathOf, pathRunOf, marksWitnessed, lengthsWitnessed, pathWitnessed}
+use Rattle.witness.specs.Witness.{pathAnswerBy, pathBy, pathOf, pathRunOf, marksWitnessed, lengthsWitnessed, pathWitnessed}
 use Rattle.witness.specs.Walking.{Walked, runWithin, kept}
 use Rattle.witness.proofs.Accepted.{isAccepted, first-is, first-inside, walked-is}
 use Rattle.witness.proofs.Outcome.{Whole, run-many, many-marks, many-lengths, path-accepted}
@@ -27,8 +27,8 @@ chain many short r = refuseIf many (Run.Refused «TOO_MANY_WORDS» 0) (refuseIf 
 
 through :
     (t u : Bool) (r : Run) (w : List ℕ)
-    → answerBy (chain t u r) w
-    ≡ refuseIf t (PathRun.Refused «TOO_MANY_WORDS» 0) (refuseIf u (PathRun.Refused «SHORT_SLICE» 0) (answerBy r w))
+    → pathAnswerBy (chain t u r) w
+    ≡ refuseIf t (PathRun.Refused «TOO_MANY_WORDS» 0) (refuseIf u (PathRun.Refused «SHORT_SLICE» 0) (pathAnswerBy r w))
 through true u r w = refl
 through false true r w = refl
 through false false r w = refl
@@ -93,7 +93,7 @@ module _ (ws : Script) (weights m l path : List ℕ) {r : Run} (e : r ≡ runWit
       let t = ltb mostWords (ws .size) in
       let u = ltb (length path) (ws .size) in
       let run = runOf ws weights (length m) (length l) in (
-        ap (λ (x : Run). answerBy x (pathOf ws weights)) (sym h ∙ e) ∙ through t u run (pathOf ws weights),
+        ap (λ (x : Run). pathAnswerBy x (pathOf ws weights)) (sym h ∙ e) ∙ through t u run (pathOf ws weights),
         (em, (el, stays t u run (pathOf ws weights) path (λ d. run-many ws weights (length m) (length l) (ltb-true mostWords (ws .size) d)) (sym e ∙ h))),
       )
 

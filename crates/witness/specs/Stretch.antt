@@ -28,9 +28,9 @@ pub record Greatest (g : Graph) (f : ℕ → ℕ) (p : ℕ) (l : List ℕ) (q : 
 
 -- from p along ps each word is "the non-serving successor with the greatest length (the lower on a tie)" of
 -- the one before, "and ends where there is none"
-abbrev pub Follows : Graph → (ℕ → ℕ) → ℕ → List ℕ → Type 0
-Follows g f p [] = (r : ℕ) → In r (g .successors p) → g .serves p r ≡ true
-Follows g f p (q ∷ qs) = Greatest g f p (g .successors p) q × Follows g f q qs
+abbrev pub FollowsLengths : Graph → (ℕ → ℕ) → ℕ → List ℕ → Type 0
+FollowsLengths g f p [] = (r : ℕ) → In r (g .successors p) → g .serves p r ≡ true
+FollowsLengths g f p (q ∷ qs) = Greatest g f p (g .successors p) q × FollowsLengths g f q qs
 
 -- the words of a stretch that weighs L, from the first word on
 pub record LongestStretch (ws : Script) (weights : List ℕ) (longest first : ℕ) (path : List ℕ) : Type 0 where
@@ -40,7 +40,7 @@ pub record LongestStretch (ws : Script) (weights : List ℕ) (longest first : �
   pub stretch : Segment (graphOf ws) first rest
   pub weight : weigh (weightOf ws weights) (first ∷ rest) ≡ longest
   -- which of them it is, where there are several
-  pub chosen : Follows (graphOf ws) (lengthOf (graphOf ws) (weightOf ws weights)) first rest
+  pub chosen : FollowsLengths (graphOf ws) (lengthOf (graphOf ws) (weightOf ws weights)) first rest
   pub few : length path ≤ ws .size
 
 module _ (ws : Script) (weights marks lengths path : List ℕ) where
@@ -57,7 +57,7 @@ module _ (ws : Script) (weights marks lengths path : List ℕ) where
     pub written : take (length (pathOf ws weights)) after ≡ pathOf ws weights
     pub past : drop (length (pathOf ws weights)) after ≡ drop (length (pathOf ws weights)) path
 
-  pub record Path : Type 0 where
+  pub record LongestPath : Type 0 where
     pub accepted :
         ws .size ≤ length path → (longest first : ℕ)
         → runOf ws weights (length marks) (length lengths) ≡ Run.Accepted longest first
@@ -89,8 +89,8 @@ module _ (ws : Script) (weights marks lengths path : List ℕ) where
 pub record Paths : Type 0 where
   -- of any sound script
   pub any : (ws : Script) → Sound ws → (weights marks lengths path : List ℕ)
-      → Path ws weights marks lengths path
+      → LongestPath ws weights marks lengths path
   -- and of the words of either version, where nothing is left to suppose of their steps
   pub paths-of :
       (version : Version) (ws weights marks lengths path : List ℕ)
-      → Path (scriptOf version ws) weights marks lengths path
+      → LongestPath (scriptOf version ws) weights marks lengths path

@@ -9,14 +9,12 @@ use lib.ListN.{length, getD, drop}
 use Rattle.common.specs.Limits.{mostWords}
 use Rattle.common.specs.Numbers.{«TOO_MANY_WORDS», «SHORT_SLICE»}
 use Rattle.common.specs.Chain.{refuseIf}
+use Rattle.sweep.specs.PassInvariants.{at}
 use Rattle.runs.specs.declared.longest.Run.{Run}
 use Rattle.runs.specs.declared.longest.Run.the-variants as Run
 use Rattle.runs.specs.Script.{Script, graphOf}
 use Rattle.runs.specs.Run.{runOf}
 use Rattle.witness.specs.Following.{follow}
-
-abbrev pub at : List ℕ → ℕ → ℕ
-at l p = getD l p 0
 
 -- words that are not too many, a length and a place in the path for each, and a word to start at
 pub record Walks (ws : Script) (l : List ℕ) (first : ℕ) (path : List ℕ) : Type 0 where

@@ -24,9 +24,9 @@ pathOf ws weights =
     (first (graphOf ws) (weightOf ws weights))
 
 -- the answer of the run, with how many words those are
-abbrev pub answerBy : Run → List ℕ → PathRun
-answerBy (Run.Accepted l f) path = PathRun.Accepted l f (length path)
-answerBy (Run.Refused k p) path = PathRun.Refused k p
+abbrev pub pathAnswerBy : Run → List ℕ → PathRun
+pathAnswerBy (Run.Accepted l f) path = PathRun.Accepted l f (length path)
+pathAnswerBy (Run.Refused k p) path = PathRun.Refused k p
 
 -- of the words, the weights, and the lengths of the three slices. The path's is checked with the
 -- run's two, after number 1
@@ -34,7 +34,7 @@ unfoldable pub pathRunOf : Script → List ℕ → ℕ → ℕ → ℕ → PathR
 pathRunOf ws weights marks lengths path =
     refuseIf (ltb mostWords (ws .size)) (PathRun.Refused «TOO_MANY_WORDS» 0)
     (refuseIf (ltb path (ws .size)) (PathRun.Refused «SHORT_SLICE» 0)
-    (answerBy (runOf ws weights marks lengths) (pathOf ws weights)))
+    (pathAnswerBy (runOf ws weights marks lengths) (pathOf ws weights)))
 
 -- "Elements past the count untouched; nothing written on a refusal"
 abbrev pub pathBy : Run → List ℕ → List ℕ → List ℕ

@@ -2,12 +2,13 @@
 // way from there. A walk for each version, so that none asks of a word which version it is of.
 ghost use mathlib.Core.Path.{_≡_};
 ghost use lib.ListN.{length};
+ghost use Rattle.sweep.specs.PassInvariants.{at};
 ghost use Rattle.fields.specs.declared.version.Version.the-variants.{Lua53};
 ghost use Rattle.sweep.specs.Steps.{listOf, servesOf, Below};
 ghost use Rattle.runs.specs.Script.{scriptOf, lua54};
 ghost use Rattle.witness.specs.Following.{onwards};
-ghost use Rattle.witness.specs.Walking.{at, Walks, Walked};
-use runs::successors::successors;
+ghost use Rattle.witness.specs.Walking.{Walks, Walked};
+use steps::successors::successors;
 use sweep::edges::Successors;
 use sweep::edges::serves;
 
@@ -92,7 +93,7 @@ pub(crate) fn write_path_53(words: &[u32], lengths: &[u32], first: usize, path: 
     while count < n {
         path[count] = p as u32;
         count += 1;
-        let onward = go_on(runs::successors53::successors(words, p), lengths, p);
+        let onward = go_on(steps::successors53::successors(words, p), lengths, p);
         let Onward::To(q) = onward else {
             return count;
         };

@@ -6,17 +6,17 @@ use crate::showing::is_marked;
 use crate::showing::unmarked;
 use common::numbers::MALFORMED_CHUNK;
 use findings::Function;
-use pages::Sheet;
+use pages::PageState;
 use pages::byte_at;
 use pages::either;
 use pages::fill;
 use pages::number;
 use pages::put;
 use pages::word_at;
-use runs::successors::successors;
+use steps::successors::successors;
 use sweep::edges::Successors;
 
-fn put_escape(page: &mut [u8], s: Sheet, b: u8) -> Sheet {
+fn put_escape(page: &mut [u8], s: PageState, b: u8) -> PageState {
     let mut digits = [0u8; 16];
     let k = io::hex(b as u64, 4, &mut digits);
     let a = put(page, s, b"\\u");
@@ -34,7 +34,7 @@ fn is_plain(b: u8) -> bool {
     b != b'\\'
 }
 
-fn put_byte(page: &mut [u8], s: Sheet, b: u8) -> Sheet {
+fn put_byte(page: &mut [u8], s: PageState, b: u8) -> PageState {
     if is_plain(b) {
         return put(page, s, &[b]);
     }
@@ -42,7 +42,7 @@ fn put_byte(page: &mut [u8], s: Sheet, b: u8) -> Sheet {
 }
 
 // Text between quotes.
-fn put_text(page: &mut [u8], s: Sheet, text: &[u8]) -> Sheet {
+fn put_text(page: &mut [u8], s: PageState, text: &[u8]) -> PageState {
     let mut t = put(page, s, b"\"");
     for i in 0..text.len() {
         t = put_byte(page, t, byte_at(text, i));
@@ -50,7 +50,7 @@ fn put_text(page: &mut [u8], s: Sheet, text: &[u8]) -> Sheet {
     put(page, t, b"\"")
 }
 
-fn put_source(page: &mut [u8], s: Sheet, source: &[u8]) -> Sheet {
+fn put_source(page: &mut [u8], s: PageState, source: &[u8]) -> PageState {
     if is_marked(source) {
         return put_text(page, s, unmarked(source));
     }
@@ -58,7 +58,7 @@ fn put_source(page: &mut [u8], s: Sheet, source: &[u8]) -> Sheet {
 }
 
 // A number of a list. There are many, so no template is read for each.
-fn put_item(page: &mut [u8], s: Sheet, is_first: bool, n: u64) -> Sheet {
+fn put_item(page: &mut [u8], s: PageState, is_first: bool, n: u64) -> PageState {
     if is_first {
         return number(page, s, n);
     }
@@ -67,7 +67,7 @@ fn put_item(page: &mut [u8], s: Sheet, is_first: bool, n: u64) -> Sheet {
 }
 
 // The first n numbers of a list.
-fn put_numbers(page: &mut [u8], s: Sheet, before: &[u8], list: &[u32], n: usize) -> Sheet {
+fn put_numbers(page: &mut [u8], s: PageState, before: &[u8], list: &[u32], n: usize) -> PageState {
     let mut t = put(page, s, before);
     for i in 0..n {
         t = put_item(page, t, i == 0, word_at(list, i) as u64);
@@ -75,13 +75,13 @@ fn put_numbers(page: &mut [u8], s: Sheet, before: &[u8], list: &[u32], n: usize)
     put(page, t, b"]")
 }
 
-fn put_two(page: &mut [u8], s: Sheet, q: usize, r: usize) -> Sheet {
+fn put_two(page: &mut [u8], s: PageState, q: usize, r: usize) -> PageState {
     let a = put_item(page, s, true, q as u64);
     put_item(page, a, false, r as u64)
 }
 
 // The words that can follow word p.
-fn put_steps(page: &mut [u8], s: Sheet, words: &[u32], p: usize) -> Sheet {
+fn put_steps(page: &mut [u8], s: PageState, words: &[u32], p: usize) -> PageState {
     let w = successors(words, p);
     match w {
         Successors::Invalid => s,
@@ -92,13 +92,13 @@ fn put_steps(page: &mut [u8], s: Sheet, words: &[u32], p: usize) -> Sheet {
 }
 
 // Those words between brackets.
-fn put_next(page: &mut [u8], s: Sheet, words: &[u32], p: usize) -> Sheet {
+fn put_next(page: &mut [u8], s: PageState, words: &[u32], p: usize) -> PageState {
     let a = put(page, s, either(p == 0, b"[", b",["));
     let b = put_steps(page, a, words, p);
     put(page, b, b"]")
 }
 
-fn put_all_steps(page: &mut [u8], s: Sheet, words: &[u32]) -> Sheet {
+fn put_all_steps(page: &mut [u8], s: PageState, words: &[u32]) -> PageState {
     let mut t = put(page, s, b",\"next\":[");
     for p in 0..words.len() {
         t = put_next(page, t, words, p);
@@ -106,12 +106,12 @@ fn put_all_steps(page: &mut [u8], s: Sheet, words: &[u32]) -> Sheet {
     put(page, t, b"]")
 }
 
-fn put_file(page: &mut [u8], s: Sheet, file: &[u8]) -> Sheet {
+fn put_file(page: &mut [u8], s: PageState, file: &[u8]) -> PageState {
     let a = put(page, s, b"{\"file\":");
     put_text(page, a, file)
 }
 
-fn put_options(page: &mut [u8], s: Sheet, limit: u64, is_weighted: bool) -> Sheet {
+fn put_options(page: &mut [u8], s: PageState, limit: u64, is_weighted: bool) -> PageState {
     let weighted = either(is_weighted, b",\"weighted\":true", b",\"weighted\":false");
     let a = put(page, s, weighted);
     let behind = either(limit == NO_LIMIT, b"}\n", b",\"limit\":#}\n");
@@ -121,12 +121,12 @@ fn put_options(page: &mut [u8], s: Sheet, limit: u64, is_weighted: bool) -> Shee
 // Which file and source the objects behind it are about.
 pub fn put_head(
     page: &mut [u8],
-    s: Sheet,
+    s: PageState,
     file: &[u8],
     source: &[u8],
     limit: u64,
     is_weighted: bool,
-) -> Sheet {
+) -> PageState {
     let a = put_file(page, s, file);
     let b = put(page, a, b",\"source\":");
     let c = put_source(page, b, source);
@@ -134,7 +134,7 @@ pub fn put_head(
 }
 
 // The function's number, the one that it stands in, its lines and words.
-fn put_which(page: &mut [u8], s: Sheet, f: Function) -> Sheet {
+fn put_which(page: &mut [u8], s: PageState, f: Function) -> PageState {
     let numbers = either(f.k == 0, b"{\"function\":#", b"{\"function\":#,\"in\":#");
     let a = fill(page, s, numbers, [f.k, f.parent, 0, 0]);
     fill(
@@ -147,13 +147,13 @@ fn put_which(page: &mut [u8], s: Sheet, f: Function) -> Sheet {
 
 fn put_run(
     page: &mut [u8],
-    s: Sheet,
+    s: PageState,
     f: Function,
     words: &[u32],
     lines: &[u32],
     lengths: &[u32],
     path: &[u32],
-) -> Sheet {
+) -> PageState {
     let a = fill(
         page,
         s,
@@ -166,7 +166,7 @@ fn put_run(
     put_all_steps(page, d, words)
 }
 
-fn put_refused(page: &mut [u8], s: Sheet, refusal: u64, place: u64) -> Sheet {
+fn put_refused(page: &mut [u8], s: PageState, refusal: u64, place: u64) -> PageState {
     fill(
         page,
         s,
@@ -178,13 +178,13 @@ fn put_refused(page: &mut [u8], s: Sheet, refusal: u64, place: u64) -> Sheet {
 // A function, with all its words; or why it is refused.
 pub fn put_function(
     page: &mut [u8],
-    s: Sheet,
+    s: PageState,
     f: Function,
     words: &[u32],
     lines: &[u32],
     lengths: &[u32],
     path: &[u32],
-) -> Sheet {
+) -> PageState {
     let a = put_which(page, s, f);
     if f.number != 0 {
         let b = put_refused(page, a, f.number, f.place);
@@ -198,13 +198,13 @@ pub fn put_function(
 // A file that is refused.
 pub fn put_refused_file(
     page: &mut [u8],
-    s: Sheet,
+    s: PageState,
     file: &[u8],
     bytes: &[u8],
     refusal: u64,
     place: u64,
     is_cut: bool,
-) -> Sheet {
+) -> PageState {
     let b = put_file(page, s, file);
     let c = put_refused(page, b, refusal, place);
     let d = put_why(page, c, bytes, refusal, is_cut);
@@ -212,7 +212,7 @@ pub fn put_refused_file(
 }
 
 // A file that is too long.
-pub fn put_too_long(page: &mut [u8], s: Sheet, file: &[u8]) -> Sheet {
+pub fn put_too_long(page: &mut [u8], s: PageState, file: &[u8]) -> PageState {
     let b = put_file(page, s, file);
     let c = put_refused(page, b, MALFORMED_CHUNK as u64, 0);
     put(page, c, b"longer than 4 MiB\"}\n")
@@ -222,12 +222,12 @@ pub fn put_too_long(page: &mut [u8], s: Sheet, file: &[u8]) -> Sheet {
 // most that can pass in one.
 pub fn put_sum(
     page: &mut [u8],
-    s: Sheet,
+    s: PageState,
     functions: u64,
     over: u64,
     refused: u64,
     most: u64,
-) -> Sheet {
+) -> PageState {
     fill(
         page,
         s,

@@ -1,14 +1,14 @@
 // Refusals in words, with document 01's number behind them.
 use common::numbers::*;
 use index::Why;
-use pages::Sheet;
+use pages::PageState;
 use pages::byte_at;
 use pages::either;
 use pages::fill;
 use pages::put;
 
 // 15, by `index::ends_early`.
-fn put_malformed(page: &mut [u8], s: Sheet, is_cut: bool) -> Sheet {
+fn put_malformed(page: &mut [u8], s: PageState, is_cut: bool) -> PageState {
     let text = either(
         is_cut,
         b"damaged: the bytes end early",
@@ -18,7 +18,7 @@ fn put_malformed(page: &mut [u8], s: Sheet, is_cut: bool) -> Sheet {
 }
 
 // Why a function is refused, and a file where the header is right and the number is not 15.
-pub fn put_reason(page: &mut [u8], s: Sheet, refusal: u64) -> Sheet {
+pub fn put_reason(page: &mut [u8], s: PageState, refusal: u64) -> PageState {
     let a = either(
         refusal == TOO_MANY_WORDS as u64,
         b"more than 32,768 words",
@@ -67,7 +67,7 @@ fn is_small(bytes: &[u8]) -> bool {
 }
 
 // A header of 5.4 that is not the one read here.
-fn put_other(page: &mut [u8], s: Sheet, bytes: &[u8]) -> Sheet {
+fn put_other(page: &mut [u8], s: PageState, bytes: &[u8]) -> PageState {
     let text = either(
         is_small(bytes),
         b"of a Lua with 32-bit numbers",
@@ -77,7 +77,7 @@ fn put_other(page: &mut [u8], s: Sheet, bytes: &[u8]) -> Sheet {
 }
 
 // A file whose header is right.
-fn put_damaged(page: &mut [u8], s: Sheet, refusal: u64, is_cut: bool) -> Sheet {
+fn put_damaged(page: &mut [u8], s: PageState, refusal: u64, is_cut: bool) -> PageState {
     if refusal == MALFORMED_CHUNK as u64 {
         return put_malformed(page, s, is_cut);
     }
@@ -85,7 +85,13 @@ fn put_damaged(page: &mut [u8], s: Sheet, refusal: u64, is_cut: bool) -> Sheet {
 }
 
 // Why a file is refused.
-pub fn put_why(page: &mut [u8], s: Sheet, bytes: &[u8], refusal: u64, is_cut: bool) -> Sheet {
+pub fn put_why(
+    page: &mut [u8],
+    s: PageState,
+    bytes: &[u8],
+    refusal: u64,
+    is_cut: bool,
+) -> PageState {
     let why = index::why_refused(bytes);
     match why {
         Why::NotLua => put(page, s, b"not a compiled Lua script"),
@@ -97,7 +103,7 @@ pub fn put_why(page: &mut [u8], s: Sheet, bytes: &[u8], refusal: u64, is_cut: bo
 }
 
 // The number of a refusal, and its place where it has one.
-pub fn put_number(page: &mut [u8], s: Sheet, refusal: u64, place: u64) -> Sheet {
+pub fn put_number(page: &mut [u8], s: PageState, refusal: u64, place: u64) -> PageState {
     let a = either(refusal == UNKNOWN_TAG as u64, b" (#, constant #)", b" (#)");
     let b = either(refusal == REACHES_INVALID as u64, b" (#, word #)", a);
     let c = either(refusal == UNSET_REGISTER as u64, b" (#, word #)", b);
@@ -105,7 +111,7 @@ pub fn put_number(page: &mut [u8], s: Sheet, refusal: u64, place: u64) -> Sheet 
 }
 
 // Why a function is refused.
-pub fn put_refusal(page: &mut [u8], s: Sheet, refusal: u64, place: u64) -> Sheet {
+pub fn put_refusal(page: &mut [u8], s: PageState, refusal: u64, place: u64) -> PageState {
     let a = put_reason(page, s, refusal);
     put_number(page, a, refusal, place)
 }

@@ -1,5 +1,5 @@
 // Names and places in a line of text.
-use pages::Sheet;
+use pages::PageState;
 use pages::byte_at;
 use pages::put;
 use pages::rest;
@@ -20,7 +20,7 @@ fn shown(b: u8) -> u8 {
 }
 
 // A name, byte by byte.
-pub fn put_name(page: &mut [u8], s: Sheet, name: &[u8]) -> Sheet {
+pub fn put_name(page: &mut [u8], s: PageState, name: &[u8]) -> PageState {
     let mut t = s;
     for i in 0..name.len() {
         t = put(page, t, &[shown(byte_at(name, i))]);

@@ -40,7 +40,7 @@ search-rest-requires c κs =
     let m = c .before .before .before .before .before .before .before .before .before in
     let s = entry m in
     let k = searched m .search .kept in
-    (searched m .before .before .before .before .before .table .ensures, room-stays (s .pre .0) (k .1 .1 .1 .0) (k .1 .1 .1 .1 .0) (k .1 .1 .1 .1 .1 .0), rest m)
+    (searched m .before .before .before .before .before .access-table .ensures, room-stays (s .pre .0) (k .1 .1 .1 .0) (k .1 .1 .1 .1 .0) (k .1 .1 .1 .1 .1 .0), rest m)
 
 returns-2 : tie.Need-returns-2
 returns-2 c =
@@ -66,7 +66,7 @@ assign-in-spec =
     tie.close
     (tie.spec
     (λ c κs. search needs)
-    (λ c κs. let s = c .before .before .before .before .before .before .before .before .before .before in (c .before .before .before .before .table .ensures, s .pre .0, omega arith, omega (arith, s .fits .parameters)))
+    (λ c κs. let s = c .before .before .before .before .before .before .before .before .before .before in (c .before .before .before .before .access-table .ensures, s .pre .0, omega arith, omega (arith, s .fits .parameters)))
     (λ c κs. let s = c .before .before .before .before .before .before .before .before .before .before .before .before .before .before .before .before .before .before .before in omega (arith, s .pre .1, s .pre .0 .unset-long, c .before .before .before .before .before .before .before .before .search .kept .1 .1 .1 .0))
     (λ c κs. let m = c .before .before .before in (entry m .pre .0 .few, marks m, none-bad (entry m .args .words .now) (searched m .search .ensures)))
     (λ c. c .before .before .before .before .before .mark-words .kept .1 .0)

@@ -1,35 +1,35 @@
-use mathlib.Core.Path.{refl, sym}
-use native.Mathlib.Nat.{pos-of-ne-zero}
+use mathlib.Core.Path.{_≡_, sym, _∙_}
 use lib.ListN.{length}
 use lib.Seq.{length-take-le}
 use borrow.Author.Needs.{needs}
-use Rattle.common.specs.Numbers.{«TOO_MANY_WORDS», «SHORT_SLICE», «NO_WORDS»}
-use Rattle.assignment.proofs.Outcome.{assigned-many, assigned-short, assigned-none, assigned-words, outcome-kept, outcome-words}
+use Rattle.common.specs.Numbers.{«ACCEPTED»}
+use Rattle.common.specs.Chain.{sizesNumber}
+use Rattle.common.proofs.Refusing.{sizes-pass}
+use Rattle.assignment.proofs.Outcome.{assigned-refused, assigned-passed, refusal-untouched, outcome-kept, outcome-words}
 use Rattle.assignment.proofs.definite.definite_assignment.Statement.{statement}
 use Rattle.assignment.proofs.definite.definite_assignment.Tie as tie
 
 returns : tie.Need-returns
-returns c = let s = c .before .before .before .args in outcome-kept _ (s .parameters) _ «TOO_MANY_WORDS» (assigned-many _ (s .parameters) _ (c .if1 .taken)) refl
-
-returns-2 : tie.Need-returns-2
-returns-2 c = let s = c .before .before .before .before .args in outcome-kept _ (s .parameters) _ «SHORT_SLICE» (assigned-short _ (s .parameters) _ (c .before .if1 .left) (c .if2 .taken)) refl
-
-returns-3 : tie.Need-returns-3
-returns-3 c = let s = c .before .before .before .before .before .args in outcome-kept _ (s .parameters) _ «NO_WORDS» (assigned-none _ (s .parameters) _ (c .before .before .if1 .left) (c .before .if2 .left) (c .if3 .taken)) refl
+returns c =
+    let s = c .before .before .before .before .args in
+    let e = c .before .size-refusal .ensures in
+    let n : sizesNumber (length (s .words .now)) (length (s .marks .now)) ≡ «ACCEPTED» → ⊥ = λ z. c .if1 .taken (e ∙ z) in
+    rw e (outcome-kept (s .words .now) (s .parameters) (s .marks .now) (sizesNumber (length (s .words .now)) (length (s .marks .now)))
+    (assigned-refused (s .words .now) (s .parameters) (length (s .marks .now)) n) (refusal-untouched (s .words .now) (s .parameters) (length (s .marks .now)) n))
 
 pub definite-assignment-spec : {M : Type 1} → statement M
 definite-assignment-spec =
     tie.close
     (tie.spec
+    (λ c κs. search needs)
     returns
-    returns-2
-    returns-3
-    (λ c. search needs)
-    (λ c. sym (length-take-le _ _ (c .before .before .if2 .left)))
-    (λ c κs. let d = c .before in (pos-of-ne-zero (d .if3 .left), d .before .before .if1 .left, length-take-le _ _ (d .before .if2 .left)))
+    (λ c. sizes-pass _ _ (sym (c .before .size-refusal .ensures) ∙ c .if1 .left) .1)
+    (λ c. let d = c .before in sym (length-take-le _ _ (sizes-pass _ _ (sym (d .before .size-refusal .ensures) ∙ d .if1 .left) .1)))
+    (λ c κs. let d = c .before in let p = sizes-pass _ _ (sym (d .before .size-refusal .ensures) ∙ d .if1 .left) in (p .2, p .0, length-take-le _ _ (p .1)))
     (λ c. search needs)
     (λ c.
     let a = c .before .before .assign .ensures in
     let d = c .before .before .before .before in
-    let s = c .before .before .before .before .before .before .before .before .before .args in
-    outcome-words (s .words .now) (s .parameters) (s .marks .now) (assigned-words (s .words .now) (s .parameters) (length (s .marks .now)) (d .before .before .if1 .left) (d .before .if2 .left) (pos-of-ne-zero (d .if3 .left))) (a .0) (a .1)))
+    let s = d .before .before .before .before .args in
+    outcome-words (s .words .now) (s .parameters) (s .marks .now)
+    (assigned-passed (s .words .now) (s .parameters) (length (s .marks .now)) (sym (d .before .size-refusal .ensures) ∙ d .if1 .left)) (a .0) (a .1)))

@@ -5,14 +5,14 @@ use lib.Bits.{bitOr}
 use borrow.Author.Needs.{needs}
 use Rattle.touches.specs.declared.answer.Range.{Range}
 use Rattle.assignment.specs.Uses.{inRanges}
-use Rattle.assignment.specs.Blocks.{Holds}
+use Rattle.assignment.specs.Blocks.{HoldsBits}
 use Rattle.assignment.proofs.Within.{of-none, of-one, of-two, of-three}
 use Rattle.assignment.proofs.Sets.{among-none, among-one, among-more}
 use Rattle.assignment.proofs.ranges.in_ranges.Statement.{statement}
 use Rattle.assignment.proofs.ranges.in_ranges.Tie as tie
 
 abbrev Among : ℕ → ℕ → List Range → Type 0
-Among r x xs = Holds r (λ s. inRanges s xs) x
+Among r x xs = HoldsBits r (λ s. inRanges s xs) x
 
 abbrev same : List Range → List Range
 same xs = xs

@@ -22,7 +22,7 @@ returns-2 c =
     let s = c .before .before .before .before .before .before in
     let one = c .before .before .before .if2 .taken in
     let a = c .before .next-of .ensures in (
-      c .smaller .ensures ∙ ap (λ (x : ℕ). min x 65536) (a .0) ∙ of-one (nextIn (s .args .r)) (s .args .x .items) (s .pre) (s .args .x .count) one,
+      c .smaller-size .ensures ∙ ap (λ (x : ℕ). min x 65536) (a .0) ∙ of-one (nextIn (s .args .r)) (s .args .x .items) (s .pre) (s .args .x .count) one,
       subst (λ (x : ℕ). x ≤ 65536) (of-one endOf (s .args .x .items) (s .pre) (s .args .x .count) one) (omega (arith, a .1)),
     )
 
@@ -33,7 +33,7 @@ returns-3 c =
     let two = c .before .before .before .before .before .before .if3 .taken in
     let a = c .before .before .before .before .next-of2 .ensures in
     let b = c .before .before .next-of3 .ensures in (
-      c .smaller3 .ensures ∙ ap₂ min (a .0) (c .before .smaller2 .ensures ∙ ap (λ (x : ℕ). min x 65536) (b .0))
+      c .smaller-size3 .ensures ∙ ap₂ min (a .0) (c .before .smaller-size2 .ensures ∙ ap (λ (x : ℕ). min x 65536) (b .0))
           ∙ of-two (nextIn (s .args .r)) (s .args .x .items) (s .pre) (s .args .x .count) two,
       subst (λ (x : ℕ). x ≤ 65536) (of-two endOf (s .args .x .items) (s .pre) (s .args .x .count) two) (omega (arith, a .1, b .1)),
     )
@@ -46,7 +46,7 @@ returns-4 c =
     let a = c .before .before .before .before .before .before .before .next-of4 .ensures in
     let b = c .before .before .before .before .before .next-of5 .ensures in
     let d = c .before .before .before .next-of6 .ensures in (
-      c .smaller6 .ensures ∙ ap₂ min (a .0) (c .before .smaller5 .ensures ∙ ap₂ min (b .0) (c .before .before .smaller4 .ensures ∙ ap (λ (x : ℕ). min x 65536) (d .0)))
+      c .smaller-size6 .ensures ∙ ap₂ min (a .0) (c .before .smaller-size5 .ensures ∙ ap₂ min (b .0) (c .before .before .smaller-size4 .ensures ∙ ap (λ (x : ℕ). min x 65536) (d .0)))
           ∙ of-three (nextIn (s .args .r)) (s .args .x .items) (s .pre) (s .args .x .count) (e .before .before .if1 .left) (e .before .if2 .left) (e .if3 .left),
       subst (λ (x : ℕ). x ≤ 65536) (of-three endOf (s .args .x .items) (s .pre) (s .args .x .count) (e .before .before .if1 .left) (e .before .if2 .left) (e .if3 .left)) (omega (arith, a .1, b .1, d .1)),
     )

@@ -9,14 +9,14 @@ returns : tie.Need-returns
 returns c =
     let x = c .before .before .before .before .args .x in
     let r = c .before .before .before .before .args .r in
-    let e = c .before .before .larger .ensures in
+    let e = c .before .before .larger-size .ensures in
     (rw (le-leb (max (x .first) r) (x .last) (omega (arith, e, c .if1 .taken))) e, search needs)
 
 returns-2 : tie.Need-returns-2
 returns-2 c =
     let x = c .before .before .before .before .args .x in
     let r = c .before .before .before .before .args .r in
-    let e = c .before .before .larger .ensures in
+    let e = c .before .before .larger-size .ensures in
     (rw (lt-leb (max (x .first) r) (x .last) (omega (arith, e, c .if1 .left))), search needs)
 
 pub next-of-spec : {M : Type 1} → statement M

@@ -9,19 +9,19 @@ use Rattle.assignment.proofs.search.note.Tie as tie
 returns : tie.Need-returns
 returns c =
     let s = c .before .before .before .before .before .before in
-    notes-of (s .args .r) (s .args .t) (s .args .s) (s .args .at) (s .args .p) (s .args .seen) _ (c .before .before .before .before .next-in .result) (c .before .before .before .smaller .ensures) (c .before .before .before .before .next-in .ensures) (c .before .before .bad-too .ensures)
+    notes-of (s .args .r) (s .args .t) (s .args .s) (s .args .at) (s .args .p) (s .args .seen) _ (c .before .before .before .before .next-in .result) (c .before .before .before .smaller-size .ensures) (c .before .before .before .before .next-in .ensures) (c .before .before .bad-too .ensures)
     (omega arith) (λ h. c .if1 .taken) (inl refl)
 
 returns-2 : tie.Need-returns-2
 returns-2 c =
     let s = c .before .before .before .before .before .before .before .before in
-    notes-of (s .args .r) (s .args .t) (s .args .s) (s .args .at) (s .args .p) (s .args .seen) _ (c .before .before .before .before .before .before .next-in .result) (c .before .before .before .before .before .smaller .ensures) (c .before .before .before .before .before .before .next-in .ensures) (c .before .before .before .before .bad-too .ensures)
+    notes-of (s .args .r) (s .args .t) (s .args .s) (s .args .at) (s .args .p) (s .args .seen) _ (c .before .before .before .before .before .before .next-in .result) (c .before .before .before .before .before .smaller-size .ensures) (c .before .before .before .before .before .before .next-in .ensures) (c .before .before .before .before .bad-too .ensures)
     (omega arith) (λ h. absurd (no-hits (s .args .r) (s .args .t) (s .args .at) (c .before .in-ranges .ensures) (c .if2 .taken) h)) (inl refl)
 
 returns-3 : tie.Need-returns-3
 returns-3 c =
     let s = c .before .before .before .before .before .before .before .before in
-    notes-of (s .args .r) (s .args .t) (s .args .s) (s .args .at) (s .args .p) (s .args .seen) _ (c .before .before .before .before .before .before .next-in .result) (c .before .before .before .before .before .smaller .ensures) (c .before .before .before .before .before .before .next-in .ensures) (c .before .before .before .before .bad-too .ensures)
+    notes-of (s .args .r) (s .args .t) (s .args .s) (s .args .at) (s .args .p) (s .args .seen) _ (c .before .before .before .before .before .before .next-in .result) (c .before .before .before .before .before .smaller-size .ensures) (c .before .before .before .before .before .before .next-in .ensures) (c .before .before .before .before .bad-too .ensures)
     (omega (arith, c .before .before .if1 .left)) (λ h. omega arith) (inr (refl, some-hits (s .args .r) (s .args .t) (s .args .at) (c .before .in-ranges .ensures) (c .if2 .left)))
 
 pub note-spec : {M : Type 1} → statement M

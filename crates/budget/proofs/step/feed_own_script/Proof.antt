@@ -1,6 +1,7 @@
 use borrow.Author.Needs.{needs}
 use borrow.Author.Tests.{ltb-false}
-use Rattle.budget.specs.Four.{lastScript, feedFourOf}
+use Rattle.common.specs.Limits.{lastScript}
+use Rattle.budget.specs.Four.{feedFourOf}
 use Rattle.budget.proofs.step.feed_own_script.Statement.{statement}
 use Rattle.budget.proofs.step.feed_own_script.Tie as tie
 

@@ -8,7 +8,7 @@ use borrow.Author.Needs.{needs}
 use Rattle.values.specs.declared.ir.SemanticInstruction.{SemanticInstruction}
 use Rattle.common.specs.Lists.{put}
 use Rattle.common.proofs.Put.{put-laws}
-use Rattle.exports.specs.Record.{numbersOf}
+use Rattle.exports.specs.Flat.{numbersOf}
 use Rattle.exports.proofs.Counted.{length-numbers}
 use Rattle.exports.proofs.lifted.numbers_of.Statement.{statement}
 use Rattle.exports.proofs.lifted.numbers_of.Tie as tie

@@ -3,7 +3,7 @@
 use mathlib.Core.Path.{refl}
 use native.Mathlib.Omega.{arith}
 use borrow.Author.Needs.{needs}
-use Rattle.exports.specs.Record.{headNumbers}
+use Rattle.exports.specs.Flat.{headNumbers}
 use Rattle.common.proofs.Put.{put-laws}
 use Rattle.exports.proofs.lifted.put_head.Statement.{statement}
 use Rattle.exports.proofs.lifted.put_head.Tie as tie

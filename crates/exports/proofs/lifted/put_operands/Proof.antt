@@ -3,7 +3,7 @@
 use mathlib.Core.Path.{refl}
 use native.Mathlib.Omega.{arith}
 use borrow.Author.Needs.{needs}
-use Rattle.exports.specs.Record.{operandsNumbers}
+use Rattle.exports.specs.Flat.{operandsNumbers}
 use Rattle.common.proofs.Put.{put-laws}
 use Rattle.exports.proofs.lifted.put_operands.Statement.{statement}
 use Rattle.exports.proofs.lifted.put_operands.Tie as tie

@@ -2,7 +2,7 @@
 -- Assumes nothing.
 use native.Mathlib.Omega.{arith}
 use borrow.Author.Needs.{needs}
-use Rattle.exports.specs.Record.{headNumbers, operandsNumbers, readsNumbers, writesNumbers, numbersOf}
+use Rattle.exports.specs.Flat.{headNumbers, operandsNumbers, readsNumbers, writesNumbers, numbersOf}
 use Rattle.common.proofs.Put.{put-laws}
 use Rattle.exports.proofs.Counted.{length-head, length-head-operands, length-before-writes, length-operands, length-reads, length-writes}
 use Rattle.exports.proofs.lifted.put_record.Statement.{statement}

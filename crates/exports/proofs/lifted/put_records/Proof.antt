@@ -6,7 +6,7 @@ use native.Mathlib.Omega.{arith}
 use lib.ListN.{length}
 use borrow.Author.Needs.{needs}
 use Rattle.common.specs.Lists.{put}
-use Rattle.exports.specs.Record.{recordsNumbers}
+use Rattle.exports.specs.Flat.{recordsNumbers}
 use Rattle.exports.proofs.Counted.{record-none, record-more}
 use Rattle.exports.proofs.lifted.put_records.Statement.{statement}
 use Rattle.exports.proofs.lifted.put_records.Tie as tie

@@ -3,7 +3,7 @@
 use mathlib.Core.Path.{refl}
 use native.Mathlib.Omega.{arith}
 use borrow.Author.Needs.{needs}
-use Rattle.exports.specs.Record.{writesNumbers}
+use Rattle.exports.specs.Flat.{writesNumbers}
 use Rattle.common.proofs.Put.{put-laws}
 use Rattle.exports.proofs.lifted.put_writes.Statement.{statement}
 use Rattle.exports.proofs.lifted.put_writes.Tie as tie

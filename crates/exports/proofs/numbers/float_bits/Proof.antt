@@ -6,7 +6,7 @@ use lib.Dec.{T}
 use lib.Ieee
 use lib.Ieee.{Float, nan, inf, fin, isNan, eq}
 use Rattle.common.specs.Chain.{choose}
-use Rattle.exports.specs.Record.{floatBits}
+use Rattle.exports.specs.Flat.{floatBits}
 use Rattle.exports.proofs.numbers.float_bits.Statement.{statement}
 use Rattle.exports.proofs.numbers.float_bits.Tie as tie
 

@@ -6,20 +6,20 @@ use lib.ListN.{length}
 use borrow.Author.Needs.{needs}
 use Rattle.common.specs.Lists.{put}
 use Rattle.common.proofs.Put.{put-laws}
-use Rattle.listing.specs.Answer.{linesOf}
+use Rattle.listing.specs.Answer.{listingLines}
 use Rattle.listing.proofs.Lines.{one-line-more, last-line}
 use Rattle.listing.proofs.rows.put_listing.Statement.{statement}
 use Rattle.listing.proofs.rows.put_listing.Tie as tie
 
 abbrev Inv-loop : tie.InvT-loop
 Inv-loop words lengths longest first page₀ n p₀ page p =
-    (p ≤ length words) × (length page ≡ length page₀) × (page ≡ put page₀ 0 (linesOf words lengths p))
+    (p ≤ length words) × (length page ≡ length page₀) × (page ≡ put page₀ 0 (listingLines words lengths p))
 
 abbrev μ-loop : tie.MeasureT-loop
 μ-loop words lengths longest first page₀ n p₀ page p = n - p
 
 loop-holds : tie.Need-loop-holds Inv-loop μ-loop
-unfolding linesOf
+unfolding listingLines
 loop-holds c = (omega arith, refl, put-laws .none (c .before .before .before .args .page .now) 0)
 
 loop-again : tie.Need-loop-again Inv-loop μ-loop

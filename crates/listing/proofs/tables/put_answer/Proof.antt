@@ -7,7 +7,7 @@ use lib.ListN.{replicate, length, take}
 use borrow.Author.Needs.{needs}
 use Rattle.common.specs.Limits.{mostLines}
 use Rattle.sheet.specs.declared.reading.Sheet.the-variants.{Words, Malformed, TooLong}
-use Rattle.sheet.specs.Format.{sheetOf, wordsOf}
+use Rattle.sheet.specs.Format.{sheetOf, sheetWords}
 use Rattle.sheet.proofs.Laws.{laws}
 use Rattle.listing.proofs.Lines.{words-text, rejected-text}
 use Rattle.listing.proofs.tables.put_answer.Statement.{statement}
@@ -22,7 +22,7 @@ text-at c = start c .args .text .now
 sheet-is : (c : tie.After-read) → c .read .result ≡ sheetOf mostLines (text-at c)
 sheet-is c = c .read .ensures .0
 
-part-is : (c : tie.After-read) (n : ℕ) → c .read .result ≡ Words n → take n (c .read .last .1 .0) ≡ wordsOf (text-at c) n
+part-is : (c : tie.After-read) (n : ℕ) → c .read .result ≡ Words n → take n (c .read .last .1 .0) ≡ sheetWords (text-at c) n
 part-is c n e = ap (λ (l : List ℕ). take n l) (c .read .ensures .1) ∙ laws .stored (text-at c) (replicate 4096 0) n (sym (sheet-is c) ∙ e)
 
 part-count : (c : tie.After-read) (n : ℕ) → c .read .result ≡ Words n → n ≡ length (take n (c .read .last .1 .0))
@@ -48,14 +48,14 @@ returns-2 c =
     let p = c .before .before .before .before in
     let a = p .before .before .before .before .before in
     let told = p .before .before .enum-told .given in
-    rejected-text (text-at a) (start a .args .page .now) _ _ _ _ (Malformed (told .0 .0)) (sym (sheet-is a) ∙ told .1) tt (rw (told .1) at (p .before .number .ensures)) (rw (told .1) at (p .place .ensures)) (c .before .before .put-refusal .ensures .0) (c .before .before .put-refusal .ensures .1)
+    rejected-text (text-at a) (start a .args .page .now) _ _ _ _ (Malformed (told .0 .0)) (sym (sheet-is a) ∙ told .1) tt (rw (told .1) at (p .before .sheet-number .ensures)) (rw (told .1) at (p .sheet-place .ensures)) (c .before .before .put-refusal .ensures .0) (c .before .before .put-refusal .ensures .1)
 
 returns-3 : tie.Need-returns-3
 returns-3 c =
     let p = c .before .before .before .before in
     let a = p .before .before .before .before .before in
     let told = p .before .before .enum-told2 .given in
-    rejected-text (text-at a) (start a .args .page .now) _ _ _ _ TooLong (sym (sheet-is a) ∙ told .1) tt (rw (told .1) at (p .before .number2 .ensures)) (rw (told .1) at (p .place2 .ensures)) (c .before .before .put-refusal2 .ensures .0) (c .before .before .put-refusal2 .ensures .1)
+    rejected-text (text-at a) (start a .args .page .now) _ _ _ _ TooLong (sym (sheet-is a) ∙ told .1) tt (rw (told .1) at (p .before .sheet-number2 .ensures)) (rw (told .1) at (p .sheet-place2 .ensures)) (c .before .before .put-refusal2 .ensures .0) (c .before .before .put-refusal2 .ensures .1)
 
 pub put-answer-spec : {M : Type 1} → statement M
 put-answer-spec =

@@ -3,12 +3,12 @@
 use borrow.Author.Needs.{needs}
 use borrow.Author.Tests.{le-leb, lt-leb}
 use Rattle.common.specs.Chain.{choose}
-use Rattle.records.specs.Lift.{bodyOf}
+use Rattle.records.specs.Lift.{recordBody}
 use Rattle.records.proofs.dispatch.lift_body.Statement.{statement}
 use Rattle.records.proofs.dispatch.lift_body.Tie as tie
 
 returns : tie.Need-returns
-unfolding bodyOf choose
+unfolding recordBody choose
 returns c =
     rw (
       le-leb _ _ (c .before .if1 .taken),
@@ -16,7 +16,7 @@ returns c =
     )
 
 returns-2 : tie.Need-returns-2
-unfolding bodyOf choose
+unfolding recordBody choose
 returns-2 c =
     rw (
       lt-leb _ _ (c .before .before .if1 .left),
@@ -25,7 +25,7 @@ returns-2 c =
     )
 
 returns-3 : tie.Need-returns-3
-unfolding bodyOf choose
+unfolding recordBody choose
 returns-3 c =
     rw (
       lt-leb _ _ (c .before .before .before .if1 .left),
@@ -35,7 +35,7 @@ returns-3 c =
     )
 
 returns-4 : tie.Need-returns-4
-unfolding bodyOf choose
+unfolding recordBody choose
 returns-4 c =
     rw (
       lt-leb _ _ (c .before .before .before .before .if1 .left),
@@ -46,7 +46,7 @@ returns-4 c =
     )
 
 returns-5 : tie.Need-returns-5
-unfolding bodyOf choose
+unfolding recordBody choose
 returns-5 c =
     rw (
       lt-leb _ _ (c .before .before .before .before .if1 .left),

@@ -1,7 +1,7 @@
 -- `records::walk::lift_proto_lua54` meets its contract: a walk of its MIR, by hand. `planned` decides the answer and the number of turns;
 -- the borrow of `records` is opened once, before the loop, and closed once, after it; in a turn `lift_at` is called by value. All that the
 -- proof knows of the two callees is that each meets its contract. What the five shared slices own stands in one formula, `Lent` (proofs/Lent.antt).
--- The invariant: the row is `filled` up to i. The variant: the number of turns left. Assumes nothing.
+-- The invariant: the row is `filledRecords` up to i. The variant: the number of turns left. Assumes nothing.
 use mathlib.Core.Path.{_≡_, refl, sym, _∙_, ap, subst}
 use Prim.Native.Nat.{ℕ, zero, suc, _+_, _*_, _<_, _^_}
 use native.Mathlib.Nat.{add-zero, zero-add, lt-suc-self, lt-irrefl}
@@ -52,7 +52,7 @@ use Rattle.records.specs.declared.refusals.Plan.{Plan}
 use Rattle.common.specs.declared.answer.Answer.{Answer}
 use Rattle.records.specs.Lift.{liftOf}
 use Rattle.records.specs.Refusals.{planOf}
-use Rattle.records.specs.Walk.{filled}
+use Rattle.records.specs.Walk.{filledRecords}
 use Rattle.records.specs.Laws.{PlanLaws}
 use Rattle.records.proofs.Laws.{plan-laws}
 use Rattle.records.proofs.ElementWise.{length-filled}
@@ -131,7 +131,7 @@ module _ {M : Type 1} (𝓤 : URA M) (H : Heap 𝓤) (A : Atoms 𝓤) (W : Given
 
   -- the records once i are stored, and at exit
   abbrev done-to : ℕ → List SemanticInstruction
-  done-to i = filled ws ts ps ns i ys
+  done-to i = filledRecords ws ts ps ns i ys
 
   abbrev zs : List SemanticInstruction
   zs = done-to n

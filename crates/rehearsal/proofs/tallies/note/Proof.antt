@@ -1,6 +1,6 @@
 -- `rehearsal::tallies::note` meets its contract.
 -- Assumes nothing.
-use Rattle.rehearsal.specs.Running.{noted}
+use Rattle.rehearsal.specs.Running.{notedTallies}
 use borrow.Author.Needs.{needs}
 use Rattle.rehearsal.proofs.tallies.note.Statement.{statement}
 use Rattle.rehearsal.proofs.tallies.note.Tie as tie
@@ -15,7 +15,7 @@ with-tally-requires : tie.Need-with-tally-requires
 with-tally-requires c κs = search needs
 
 returns : tie.Need-returns
-unfolding noted
+unfolding notedTallies
 returns c = rw (c .with-tally .ensures, c .before .noted-tally .ensures, c .before .before .tally-at .ensures)
 
 pub note-spec : {M : Type 1} → statement M

@@ -3,7 +3,8 @@ use Prim.Native.Nat.{_≤_}
 use native.Mathlib.Omega.{arith}
 use lib.ListN.{take, drop, length-take, length-drop}
 use borrow.Author.Needs.{needs}
-use Rattle.sheet.specs.Line.{mostWord, valueOf}
+use Rattle.common.specs.Limits.{mostWord}
+use Rattle.sheet.specs.Line.{lineValue}
 use Rattle.sheet.proofs.Round.{line-short, line-big, line-fits}
 use Rattle.sheet.proofs.lines.is_line.Statement.{statement}
 use Rattle.sheet.proofs.lines.is_line.Tie as tie
@@ -22,7 +23,7 @@ returns-3 : tie.Need-returns-3
 returns-3 c =
     let s = c .before .before .before .before .before .args in
     let v = c .before .before .value in
-    let e : v .result ≡ valueOf (take 11 (drop (s .at) (s .text .now))) = v .ensures in
+    let e : v .result ≡ lineValue (take 11 (drop (s .at) (s .text .now))) = v .ensures in
     let h : v .result ≤ mostWord = c .before .if2 .left in
     c .shows .ensures ∙ rw e (sym (line-fits (take 11 (drop (s .at) (s .text .now))) (rw e at h)))
 

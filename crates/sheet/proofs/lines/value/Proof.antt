@@ -5,13 +5,13 @@ use native.Mathlib.Nat.{mod-lt}
 use native.Mathlib.Omega.{arith}
 use lib.ListN.{take, drop, getD}
 use lib.Seq.{slice}
-use Rattle.sheet.specs.Line.{valueFrom, valueOf}
+use Rattle.sheet.specs.Line.{valueFrom, lineValue}
 use Rattle.sheet.proofs.Compare.{value-turn, value-start, value-end, bound-more, bound-fits}
 use Rattle.sheet.proofs.lines.value.Statement.{statement}
 use Rattle.sheet.proofs.lines.value.Tie as tie
 
 abbrev Inv-loop : tie.InvT-loop
-Inv-loop text at v₀ i₀ v i = (i ≤ 10) × (v + 2 ≤ 2 * 10 ^ i) × (valueFrom v (slice i 10 (drop at text)) ≡ valueOf (take 11 (drop at text)))
+Inv-loop text at v₀ i₀ v i = (i ≤ 10) × (v + 2 ≤ 2 * 10 ^ i) × (valueFrom v (slice i 10 (drop at text)) ≡ lineValue (take 11 (drop at text)))
 
 abbrev μ-loop : tie.MeasureT-loop
 μ-loop text at v₀ i₀ v i = 10 - i

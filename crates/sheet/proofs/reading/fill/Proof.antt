@@ -4,13 +4,13 @@ use mathlib.Core.List.{_++_}
 use Prim.Native.Nat.{_-_, _≤_}
 use native.Mathlib.Omega.{arith}
 use lib.ListN.{length, drop, length-set}
-use Rattle.sheet.specs.Format.{wordAt, wordsOf}
+use Rattle.sheet.specs.Format.{sheetWordAt, sheetWords}
 use Rattle.sheet.proofs.Scanned.{words-none, words-more}
 use Rattle.sheet.proofs.reading.fill.Statement.{statement}
 use Rattle.sheet.proofs.reading.fill.Tie as tie
 
 abbrev Inv-loop : tie.InvT-loop
-Inv-loop text words₀ n k₀ words k = (k ≤ n) × (length words ≡ length words₀) × (words ≡ wordsOf text k ++ drop k words₀)
+Inv-loop text words₀ n k₀ words k = (k ≤ n) × (length words ≡ length words₀) × (words ≡ sheetWords text k ++ drop k words₀)
 
 abbrev μ-loop : tie.MeasureT-loop
 μ-loop text words₀ n k₀ words k = n - k
@@ -19,11 +19,11 @@ loop-holds : tie.Need-loop-holds Inv-loop μ-loop
 loop-holds c = (omega arith, refl, words-none (c .before .before .args .text .now) (c .before .before .args .words .now))
 
 cast-words : tie.Need-cast-words Inv-loop μ-loop
-unfolding wordAt
+unfolding sheetWordAt
 cast-words c = omega (arith, c .before .before .before .before .before .pre .2 (c .before .before .loop .k) (omega arith), c .value .ensures)
 
 loop-again : tie.Need-loop-again Inv-loop μ-loop
-unfolding wordAt
+unfolding sheetWordAt
 loop-again c =
     let l = c .before .before .loop in
     let s = c .before .before .before .before .before .args in

@@ -8,7 +8,7 @@ use Rattle.common.specs.Limits.{mostWords}
 use Rattle.common.specs.Lists.{put}
 use Rattle.chunk.specs.declared.counts.Counts.{Counts}
 use Rattle.chunk.specs.Chunk.{countsOf, filled, after, wordsOf, wordsRoom}
-use Rattle.chunk.specs.Laws.{Within}
+use Rattle.chunk.specs.Laws.{CountsWithin}
 use Rattle.survey.proofs.Columns.{within, line-refused, words-part, line-accepted}
 use Rattle.survey.proofs.lines.put_line.Statement.{statement}
 use Rattle.survey.proofs.lines.put_line.Tie as tie
@@ -35,7 +35,7 @@ counts-are a = a .words-of .ensures .0 ∙ ap (λ (n : ℕ). countsOf (filled (s
 words-are : (a : tie.After-words-of) → words a ≡ after wordsOf (filled (start a .args .k) (start a .args .bytes .now) (wordsRoom mostWords)) (table a)
 words-are a = a .words-of .ensures .1 ∙ ap (λ (n : ℕ). after wordsOf (filled (start a .args .k) (start a .args .bytes .now) (wordsRoom n)) (table a)) (as-many a)
 
-inside : (a : tie.After-words-of) → Within (counts a)
+inside : (a : tie.After-words-of) → CountsWithin (counts a)
 inside a = within (start a .args .k) (start a .args .bytes .now) (table a) (words a) (counts a) (counts-are a) (words-are a)
 
 put-only-requires : tie.Need-put-only-requires

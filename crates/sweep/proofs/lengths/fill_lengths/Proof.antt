@@ -4,7 +4,8 @@ use Prim.Native.Nat.{ℕ, _+_, _-_, _≤_, _<_}
 use native.Mathlib.Omega.{arith}
 use lib.Bits.{bitAnd}
 use lib.ListN.{length, getD}
-use Rattle.sweep.specs.PassInvariants.{heaviest, weightBy}
+use Rattle.common.specs.Limits.{heaviestWeight}
+use Rattle.sweep.specs.PassInvariants.{weightBy}
 use Rattle.sweep.proofs.Entries.{entries-length}
 use Rattle.sweep.proofs.Measures.{Filling, filling-none, filling-asks, filling-more, filling-done, measures-at}
 use Rattle.sweep.proofs.lengths.fill_lengths.Statement.{statement}
@@ -25,7 +26,7 @@ module _ (c : tie.In-loop Inv-loop μ-loop) where
   w = weightBy (start .args .mask) (start .args .words .now) (start .args .weights .now)
 
   -- a weight is a byte
-  light : (q : ℕ) → w q ≤ heaviest
+  light : (q : ℕ) → w q ≤ heaviestWeight
   light q = let k = c .before .before .before .before in omega (arith, k .shared-slice-known2 .given (bitAnd (getD (start .args .words .now) q 0) (start .args .mask)))
 
   abbrev word : ℕ
@@ -37,7 +38,7 @@ module _ (c : tie.In-loop Inv-loop μ-loop) where
       subst (λ (x : ℕ). Filling w (start .args .lengths .now) (start .args .marks .now) (c .before .loop .lengths) x (c .before .loop .above) (c .before .loop .invalid)) e (c .before .loop .inv)
 
   in-lengths : word < length (c .before .loop .lengths)
-  in-lengths = filling-asks w heaviest light _ _ _ _ _ _ filling .in-l
+  in-lengths = filling-asks w heaviestWeight light _ _ _ _ _ _ filling .in-l
 
   in-words : word < length (start .args .words .now)
   in-words = let f = filling .filled in omega (arith, in-lengths, f .l-same, entries-length (start .args .lengths .now), start .pre .1)
@@ -65,10 +66,10 @@ fill-lengths-spec =
     (λ c. omega (arith, in-words c))
     (λ c. in-words (c .before))
     (λ c κs. start (c .before) .pre .2)
-    (λ c κs. let d = c .before .before .before in (filling-asks (w d) heaviest (light d) _ _ _ _ _ _ (filling d), c .before .weigh .ensures .1))
+    (λ c κs. let d = c .before .before .before in (filling-asks (w d) heaviestWeight (light d) _ _ _ _ _ _ (filling d), c .before .weigh .ensures .1))
     (λ c. omega (arith, in-measured (c .before .before)))
     (λ c. in-measured (c .before .before))
     (λ c. omega (arith, turn (c .before .before) .loop-test .taken))
-    (λ c. let k = c .before .before in let d = turn k in filling-left (filling-more (w d) heaviest (light d) _ _ _ _ _ _ (filling d) (measures-at (w d) _ _ _ _ (k .before .before .weigh .ensures .0) (k .measure .ensures .0))) (sym (k .measure .ensures .1 _)))
+    (λ c. let k = c .before .before in let d = turn k in filling-left (filling-more (w d) heaviestWeight (light d) _ _ _ _ _ _ (filling d) (measures-at (w d) _ _ _ _ (k .before .before .weigh .ensures .0) (k .measure .ensures .0))) (sym (k .measure .ensures .1 _)))
     (λ c. let f = c .before .loop .inv .filled in f .l-same ∙ entries-length _)
     (λ c. filling-done (c .before .loop .inv) (c .loop-test .left)))

@@ -2,7 +2,7 @@ use mathlib.Core.Bool.{cond}
 use Prim.Native.Nat.{_+_, _-_, _<_}
 use native.Mathlib.Omega.{arith}
 use lib.ListN.{length}
-use Rattle.graph.specs.Laws.{ones}
+use Rattle.graph.specs.Laws.{markedCount}
 use Rattle.sweep.specs.Entries.{entries, queueOf, graphIn}
 use Rattle.sweep.proofs.Entries.{queue-length, same-length}
 use Rattle.sweep.proofs.Turn.{head-in, followed}
@@ -14,7 +14,7 @@ abbrev Inv-loop : tie.InvT-loop
 Inv-loop marks₀ lengths₀ head tail t₀ marks lengths t = FollowingIn marks₀ lengths₀ head marks lengths (t .0) (t .1) (t .2)
 
 abbrev μ-loop : tie.MeasureT-loop
-μ-loop marks₀ lengths₀ head tail t₀ marks lengths t = (length (entries lengths₀) - ones (length (entries lengths₀)) marks) + cond (t .0) 1 0
+μ-loop marks₀ lengths₀ head tail t₀ marks lengths t = (length (entries lengths₀) - markedCount (length (entries lengths₀)) marks) + cond (t .0) 1 0
 
 in-queue : (s : tie.Start Inv-loop μ-loop) → s .args .head < length (s .args .lengths .now)
 in-queue s =

@@ -8,7 +8,7 @@ use Rattle.common.specs.Limits.{mostWords}
 use Rattle.graph.specs.Graph.{Graph, Lawful}
 use Rattle.sweep.specs.Entries.{«TARGETS», «ENTRIES», entries, queueOf, graphIn}
 use Rattle.sweep.proofs.Entries.{entries-length, in-graph, none-in-graph, both-in-graph, entry-next, entry-target, entry-both}
-use Rattle.sweep.proofs.Turn.{Both, first-in, turned-none, turned-one, second-asks, first-long, turned-two}
+use Rattle.sweep.proofs.Turn.{Both, other-way, first-in, turned-none, turned-one, second-asks, first-long, turned-two}
 use Rattle.sweep.proofs.Held.{push-asks-in}
 use Rattle.sweep.proofs.search.visit.Statement.{statement}
 use Rattle.sweep.proofs.search.visit.Tie as tie
@@ -49,10 +49,10 @@ next c = let s = enter (c .before) in in-graph (l s) (s .args .p) (entry-next (e
 jump : (c : tie.Then3) → let s = enter (c .before .before .before) in (entry s % «TARGETS») ∷ [] ≡ graph s .successors (s .args .p)
 jump c = let s = enter (c .before .before .before) in in-graph (l s) (s .args .p) (entry-target (entry s) (s .args .p) (c .if3 .taken))
 
-fork : (c : tie.Else3) → let s = enter (c .before .before .before) in Both (graph s) (s .args .p) (s .args .p + 1) (entry s % «TARGETS»)
+fork : (c : tie.Else3) → let s = enter (c .before .before .before) in Both (graph s) (s .args .p) (entry s % «TARGETS») (s .args .p + 1)
 fork c =
     let s = enter (c .before .before .before) in
-    both-in-graph (l s) (s .args .p) (entry-both (entry s) (s .args .p) (c .before .if2 .left) (c .before .before .if1 .left) (c .if3 .left))
+    other-way (both-in-graph (l s) (s .args .p) (entry-both (entry s) (s .args .p) (c .before .if2 .left) (c .before .before .if1 .left) (c .if3 .left)))
 
 returns : tie.Need-returns
 returns c =
@@ -77,13 +77,13 @@ push-requires c κs =
     let s = enter (d .before .before .before) in
     push-asks-in (second-asks (graph s) (law s) (m s) (queueOf (l s)) _ _ (s .pre .room) (fork d) (few s))
 
--- after the target is pushed
+-- after the next word is pushed
 module _ (c : tie.After-push) where
   abbrev forked : tie.Else3
   forked = c .before .before .before
 
-  next-long : let s = enter (forked .before .before .before) in s .args .p + 1 < length (c .push .last .0)
-  next-long =
+  target-long : let s = enter (forked .before .before .before) in entry s % «TARGETS» < length (c .push .last .0)
+  target-long =
       let s = enter (forked .before .before .before) in
       let e = c .push .ensures in
       first-long (graph s) (law s) (m s) (queueOf (l s)) (s .args .p) (s .args .tail) (s .pre .room) (fork forked) (e .queued)
@@ -110,9 +110,9 @@ visit-spec =
     (λ c κs. in-m (enter (c .before .before .before .before)) (jump (c .before)))
     (λ c. search needs)
     returns-3
+    (λ c. let s = enter (c .before .before .before .before .before) in omega (arith, in-l s, s .pre .held .lent .l-same, few s))
     push-requires
-    (λ c. let u = c .before .before .before .before .before in let s = enter (forked u .before .before .before) in omega (arith, in-l s, s .pre .held .lent .l-same, few s))
-    (λ c κs. next-long (c .before .before .before .before .before))
+    (λ c κs. target-long (c .before .before .before .before .before))
     (λ c. search needs)
     (λ c. search needs)
     returns-4)

@@ -4,7 +4,8 @@ use Prim.Native.Nat.{ℕ, _+_, _-_, _≤_, _<_}
 use native.Mathlib.Omega.{arith}
 use lib.Bits.{bitAnd}
 use lib.ListN.{length, getD}
-use Rattle.sweep.specs.PassInvariants.{heaviest, weightBy, at}
+use Rattle.common.specs.Limits.{heaviestWeight}
+use Rattle.sweep.specs.PassInvariants.{weightBy, at}
 use Rattle.sweep.specs.TwiceInvariants.{KeptWords, lengthBy, keptIn}
 use Rattle.sweep.proofs.Keeping.{Raising, raising-none, raising-asks, raising-more, raising-done}
 use Rattle.sweep.proofs.twice.raise_lengths.Statement.{statement}
@@ -25,7 +26,7 @@ module _ (c : tie.In-loop Inv-loop μ-loop) where
   w = weightBy (start .args .mask) (start .args .words .now) (start .args .weights .now)
 
   -- a weight is a byte
-  light : (q : ℕ) → w q ≤ heaviest
+  light : (q : ℕ) → w q ≤ heaviestWeight
   light q = let k = c .before .before .before .before in omega (arith, k .shared-slice-known2 .given (bitAnd (getD (start .args .words .now) q 0) (start .args .mask)))
 
   abbrev word : ℕ

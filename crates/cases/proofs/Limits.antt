@@ -1,7 +1,0 @@
--- Each limit is the documents' number.
--- Assumes nothing.
-use mathlib.Core.Path.{refl}
-use Rattle.cases.specs.Limits.{Limits}
-
-pub limits : Limits
-limits = record { words = refl; constants = refl; names = refl; lines = refl; weights = refl; heaviest = refl }

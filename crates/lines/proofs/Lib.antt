@@ -1,0 +1,6 @@
+pub mod Cursors
+pub mod Ldebug
+pub mod Passes
+pub mod Infos
+pub mod HeadsRead
+pub mod LineReads

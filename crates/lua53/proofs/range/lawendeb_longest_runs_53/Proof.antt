@@ -1,6 +1,0 @@
-use borrow.Author.Needs.{needs}
-use Rattle.lua53.proofs.range.lawendeb_longest_runs_53.Statement.{statement}
-use Rattle.lua53.proofs.range.lawendeb_longest_runs_53.Tie as tie
-
-pub lawendeb-longest-runs-53-spec : {M : Type 1} → statement M
-lawendeb-longest-runs-53-spec = tie.close (tie.spec (λ c κs. search needs) (λ c κs. search needs) (λ c. search needs) (λ c. search needs) (λ c. (cc, (search needs, search needs))))

@@ -1,0 +1,27 @@
+-- The P cases hold of the definitions.
+-- Assumes nothing.
+use mathlib.Core.Path.{refl}
+use Rattle.fields.specs.Table.{classOf, companionOf, fallbackOf}
+use Rattle.fields.specs.Table53.{classOf as classOf53, companionOf as companionOf53}
+use Rattle.sweep.specs.Steps.{unless, one, ordered, two, servesOf}
+use Rattle.steps.specs.Successors.{opcodeAt, isBetween, companionPresent, successorsOf}
+use Rattle.steps.specs.Successors53.{opcodeAt as opcodeAt53, companionPresent as companionPresent53, successorsOf as successorsOf53}
+use Rattle.graph.specs.Marks.{leads, markOf}
+use Rattle.common.specs.Lowest.{lowestFrom}
+use Rattle.graph.specs.Longest.{within, heaviest, lengthOf, most, longest, first}
+use Rattle.runs.specs.Weights.{lowestZero, refusesWeights, weightsPlace}
+use Rattle.runs.specs.Run.{lowestInvalid, runOf}
+use Rattle.values.specs.Values.{choose, constantOf}
+use Rattle.families.specs.Parts.{plus, eventOf, constant, arguments, results}
+use Rattle.records.specs.Lift.{extendedIndex, wrap, loads, arithmetic, control, calls, recordBody, before, companionPc, confidenceOf, liftOf}
+use Rattle.pcases.specs.Cases.{Hold, pCases, cases53}
+
+pub cases-hold : Hold pCases
+unfolding unless one ordered two opcodeAt isBetween companionPresent successorsOf servesOf classOf companionOf fallbackOf leads markOf within heaviest lengthOf most lowestFrom longest first lowestZero refusesWeights lowestInvalid runOf choose constantOf plus eventOf constant arguments results extendedIndex wrap loads arithmetic control calls recordBody before companionPc confidenceOf liftOf
+cases-hold =
+    ((refl, refl, refl), (refl, (refl, (refl, (refl, ((refl, refl), ((refl, refl), ((refl, refl), ((refl, refl), (refl, (refl, (refl, (refl, (refl, (refl, (refl, (refl, (refl, (refl, (refl, (refl, (refl, (refl, (refl, tt))))))))))))))))))))))))
+
+pub cases53-hold : Hold cases53
+unfolding unless one ordered two opcodeAt53 companionPresent53 successorsOf53 servesOf classOf53 companionOf53 leads markOf within heaviest lengthOf most lowestFrom longest first lowestZero refusesWeights weightsPlace lowestInvalid runOf
+cases53-hold =
+    (refl, (refl, (refl, (refl, (refl, (refl, (refl, (refl, (refl, (refl, (refl, (refl, (refl, (refl, (refl, (refl, (refl, (refl, tt))))))))))))))))))

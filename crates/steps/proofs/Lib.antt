@@ -1,0 +1,13 @@
+pub mod ByNumber
+pub mod Bad53
+pub mod Bad54
+pub mod Columns
+pub mod Columns53
+pub mod Laws
+pub mod Lvm
+pub mod Lvm53
+pub mod NextWords
+pub mod Shapes
+pub mod Ways
+pub mod Words
+pub mod Words53
