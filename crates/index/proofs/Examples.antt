@@ -2,28 +2,10 @@
 use mathlib.Core.Path.{refl}
 use Rattle.chunk.specs.Reading.{repeat, littleEnd}
 use Rattle.chunk.specs.Lundump.{loadBlock, loadByte, unsignedFrom, loadUnsigned, loadNumber, loadInteger, stringOf, loadStringN, loadString, loadVector, loadItems, wordsFrom, loadCode, constantByTag, loadConstant, loadUpvalues, loadAbsLine, loadLocVar, loadLines, namesFrom, loadNames, loadHead, functionWith, several, noneOf, loadProtos, checkBytes, checkHeader, undump}
-use Rattle.chunk.specs.Chunk.{pick, chosen}
-use Rattle.lines.specs.Choices.{functionAt}
-use Rattle.lines.specs.Heads.{readHead, headOf}
 use Rattle.common.specs.Lists.{put}
 use Rattle.index.specs.Listing.{functionsOf}
 use Rattle.index.specs.Refusing.{goesOn, endsEarly, signed, whyRefused}
-use Rattle.index.specs.Examples.{ExampleHeads, ExampleReasons}
-
-pub example-heads : ExampleHeads
-unfolding repeat littleEnd loadBlock loadByte unsignedFrom loadUnsigned loadNumber loadInteger stringOf loadStringN loadString loadVector loadItems wordsFrom loadCode constantByTag loadConstant loadUpvalues loadAbsLine loadLocVar loadLines namesFrom loadNames loadHead functionWith several noneOf loadProtos checkBytes checkHeader undump pick chosen functionAt readHead headOf
-example-heads =
-    record {
-      linedefined = refl;
-      lastlinedefined = refl;
-      numparams = refl;
-      is-vararg = refl;
-      maxstacksize = refl;
-      no-source = refl;
-      main-source = refl;
-      main-is-vararg = refl;
-      by-place = refl;
-    }
+use Rattle.index.specs.Examples.{ExampleReasons}
 
 pub example-reasons : ExampleReasons
 unfolding repeat littleEnd loadBlock loadByte unsignedFrom loadUnsigned loadNumber loadInteger stringOf loadStringN loadString loadVector loadItems wordsFrom loadCode constantByTag loadConstant loadUpvalues loadAbsLine loadLocVar loadLines namesFrom loadNames loadHead functionWith several noneOf loadProtos checkBytes checkHeader undump functionsOf put goesOn endsEarly signed whyRefused

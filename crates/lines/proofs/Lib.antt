@@ -4,3 +4,4 @@ pub mod Passes
 pub mod Infos
 pub mod HeadsRead
 pub mod LineReads
+pub mod Examples

@@ -3,3 +3,4 @@ pub mod Choices
 pub mod Ldebug
 pub mod Lines
 pub mod Heads
+pub mod Examples
