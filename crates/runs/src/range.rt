@@ -41,9 +41,9 @@ pub enum RunRange {
     },
 }
 
-// Whether 18 or 19 refuses two tables of 128 weights: a low weight is 0 or above its high one. Where none is, no
-// high weight is 0 either, so that one look at both is enough. It looks at all of them, so that the compiler
-// takes many at a time.
+// Whether 18 or 19 refuses two tables of 128 weights: a low weight is 0 or above its high one. Where none is,
+// no high weight is 0 either, so that one look at both is enough. It looks at all of them, so that the
+// compiler takes many at a time.
 fn has_refused(low: &[u8], high: &[u8]) -> bool
     requires { ⌜ (length (now low) ≡ weightCount) × (length (now high) ≡ weightCount) ⌝ }
     ensures { λ r. ⌜ r ≡ refusesRange (now (low .entry)) (now (high .entry)) ⌝ }
