@@ -1,6 +1,6 @@
 -- A feed of four meets its contract, whichever version's words it takes: a walk of its MIR, by hand, over what the words are read as and over the name of
 -- the function that it calls. The words and the weights are had twice, once for the callee; the meters' borrow is opened once; the four are read whole, the callee is called by value, and the meter that it gives is stored in the fed script's field, in an arm for each script; the borrow is closed at the record with that field.
--- All that the proof knows of the callee is that it meets its contract. `budget::lent::lawendeb_feed_four` and `budget53::lawendeb_feed_four_53` meet theirs by it.
+-- All that the proof knows of the callee is that it meets its contract. `budget::c::lawendeb_feed_four` and `budget53::lawendeb_feed_four_53` meet theirs by it.
 -- Assumes nothing.
 use mathlib.Core.Path.{_≡_, refl, ap, subst, _∙_}
 use Prim.Native.Nat.{ℕ, _<_, _^_}

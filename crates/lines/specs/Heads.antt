@@ -1,5 +1,5 @@
--- loadFunction's head with all that it reads, where loadHead of specs/Lundump.antt keeps the last number
--- only; and what is told of it.
+-- loadFunction's head with all that it reads, where loadHead of chunk/specs/Lundump.antt keeps the last
+-- number only; and what is told of it.
 -- Assumes nothing.
 use mathlib.Core.Path.{_≡_}
 use mathlib.Core.List.{List}

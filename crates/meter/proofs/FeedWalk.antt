@@ -1,6 +1,6 @@
 -- A feed meets its contract, whichever version's words it takes: a walk of its MIR, by hand, over what the words are read as and over the name of the function that it calls.
 -- The words and the weights are had twice, once for the callee; the meter's borrow is opened once; the meter is read whole, the callee is called by value, and its meter is stored whole; the borrow is closed at the new record.
--- All that the proof knows of the callee is that it meets its contract. `meter::lent::lawendeb_feed_4` and `meter53::lawendeb_feed_53` meet theirs by it.
+-- All that the proof knows of the callee is that it meets its contract. `meter::c::lawendeb_feed_4` and `meter53::lawendeb_feed_53` meet theirs by it.
 -- Assumes nothing.
 use mathlib.Core.Path.{_≡_, refl, ap}
 use Prim.Native.Nat.{ℕ, _<_, _^_}

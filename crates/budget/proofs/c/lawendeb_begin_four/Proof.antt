@@ -1,4 +1,4 @@
--- `budget::lent::lawendeb_begin_four` meets its contract: a walk of its MIR, by hand. The meters' borrow is opened once; the four are read whole, `begin_four` is called by value, and its meters are stored whole; the borrow is closed at the new record.
+-- `budget::c::lawendeb_begin_four` meets its contract: a walk of its MIR, by hand. The meters' borrow is opened once; the four are read whole, `begin_four` is called by value, and its meters are stored whole; the borrow is closed at the new record.
 -- All that the proof knows of `begin_four` is that it meets its contract.
 -- Assumes nothing.
 use mathlib.Core.Path.{_≡_, refl, ap}

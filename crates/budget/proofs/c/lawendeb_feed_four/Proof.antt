@@ -1,4 +1,4 @@
--- `budget::lent::lawendeb_feed_four` meets its contract: by the walk that the feeds of four of both versions share. All that the proof knows of `feed_own` is that it meets its contract.
+-- `budget::c::lawendeb_feed_four` meets its contract: by the walk that the feeds of four of both versions share. All that the proof knows of `feed_own` is that it meets its contract.
 -- Assumes nothing.
 use contract.Running.{givenOf, tables, tablesOf}
 use denote.Triple.Spec.{tripleOf}

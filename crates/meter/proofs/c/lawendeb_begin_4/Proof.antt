@@ -1,4 +1,4 @@
--- `meter::lent::lawendeb_begin_4` meets its contract: a walk of its MIR, by hand. The borrow is opened, the meter is read whole, `begin_step` is called by value, its meter is stored whole, and the borrow is closed.
+-- `meter::c::lawendeb_begin_4` meets its contract: a walk of its MIR, by hand. The borrow is opened, the meter is read whole, `begin_step` is called by value, its meter is stored whole, and the borrow is closed.
 -- All that the proof knows of `begin_step` is that it meets its contract. It names no field of a meter.
 -- Assumes nothing.
 use mathlib.Core.Path.{_≡_, refl}

@@ -1,4 +1,4 @@
--- `meter::lent::lawendeb_feed_4` meets its contract: by the walk that the feeds of both versions share. All that the proof knows of `feed_step` is that it meets its contract.
+-- `meter::c::lawendeb_feed_4` meets its contract: by the walk that the feeds of both versions share. All that the proof knows of `feed_step` is that it meets its contract.
 -- Assumes nothing.
 use contract.Running.{givenOf, tables, tablesOf}
 use denote.Triple.Spec.{tripleOf}
