@@ -12,7 +12,7 @@ use Rattle.touches.specs.declared.arguments.Arguments.{Arguments}
 use Rattle.fields.specs.Laws.{all}
 use Rattle.fields.proofs.Laws.{laws}
 use Rattle.touches.specs.Operands.{Operand, «R[A]», «R[A+1]», «R[A+2]», «R[A+3]», «R[A+1…A+B-1]», «R[A+1…A+B]», locationOf}
-use Rattle.touches.specs.Cases.{Edge, noEdge, «p+1», «p+2», «p+1-Bx», «p+1+sBx», Accesses}
+use Rattle.touches.specs.Cases.{OwnEdge, noEdge, «p+1», «p+2», «p+1-Bx», «p+1+sBx», Accesses}
 use Rattle.touches.specs.Table.{operandNumber, operandFrom, edgeNumber, opcodesOf}
 use Rattle.steps.specs.Executions.{Access, Arm, goOf}
 use Rattle.touches.specs.Cells.{Cell, register, upToTop, names}
@@ -324,7 +324,7 @@ module _ (i pi ni : Arguments) (c : Cell) where
         (λ (h : T (leads v (a .edge) (goOf w)) × Any Is (a .«edge-writes»)). absurd (never 3 (a .«edge-writes») (agrees .no-edge-tops) e (h .1)))
         (listed w t k))
 
-edge-is : (e : Edge) → edgeNumber e ≡ 0 → e ≡ noEdge
+edge-is : (e : OwnEdge) → edgeNumber e ≡ 0 → e ≡ noEdge
 edge-is noEdge h = refl
 edge-is «p+1» h = absurd (omega (arith, h))
 edge-is «p+2» h = absurd (omega (arith, h))

@@ -5,25 +5,25 @@ ghost use mathlib.Core.Path.{_≡_};
 ghost use lib.ListN.{length};
 
 // Bytes of a file.
-pub(crate) const FILE_BYTES: usize = 4194304;
+pub const FILE_BYTES: usize = 4194304;
 
 // Functions of a file.
-pub(crate) const MOST_FUNCTIONS: usize = 131072;
+pub const MOST_FUNCTIONS: usize = 131072;
 
-pub(crate) fn bytes() -> [u8; FILE_BYTES]
+pub fn bytes() -> [u8; FILE_BYTES]
     ensures { λ r. ⌜ 4194304 ≡ length r ⌝ }
 {
     [0; FILE_BYTES]
 }
 
-pub(crate) fn places() -> [u64; MOST_FUNCTIONS]
+pub fn places() -> [u64; MOST_FUNCTIONS]
     ensures { λ r. ⌜ 131072 ≡ length r ⌝ }
 {
     [0; MOST_FUNCTIONS]
 }
 
 // What each opcode weighs where nothing else is said.
-pub(crate) fn weights() -> [u8; 128]
+pub fn weights() -> [u8; 128]
     ensures { λ r. ⌜ 128 ≡ length r ⌝ }
 {
     [1; 128]

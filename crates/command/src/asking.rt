@@ -2,6 +2,7 @@
 use pages::byte_at;
 use pages::first;
 use pages::is_same;
+use wording::NO_LIMIT;
 
 pub enum Wish {
     Telling,
@@ -28,10 +29,7 @@ pub struct Asked {
     pub file: usize,
 }
 
-// No limit; no number that is read is so large.
-pub(crate) const NO_LIMIT: u64 = 18446744073709551615;
-
-// So large a number takes no digit more.
+// So large a number takes no digit more: it is NO_LIMIT, and no number that is read is.
 const LARGE: u64 = 100000000000000000;
 
 fn with_digit(n: u64, b: u8) -> u64 {
@@ -197,7 +195,7 @@ fn complete(a: Asked) -> Asked {
 }
 
 // All arguments in turn.
-pub(crate) fn read_all() -> Asked {
+pub fn read_all() -> Asked {
     let mut a = Asked {
         wish: Wish::Telling,
         awaits: Awaits::Anything,

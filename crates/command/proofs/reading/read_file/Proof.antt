@@ -3,8 +3,8 @@ use mathlib.Core.Path.{_≡_}
 use lib.ListN.{length}
 use native.Mathlib.Omega.{arith}
 use borrow.Author.Needs.{needs}
-use Rattle.lawendeb.proofs.reading.read_file.Statement.{statement}
-use Rattle.lawendeb.proofs.reading.read_file.Tie as tie
+use Rattle.command.proofs.reading.read_file.Statement.{statement}
+use Rattle.command.proofs.reading.read_file.Tie as tie
 
 abbrev Inv-loop : tie.InvT-loop
 Inv-loop fd buffer₀ at₀ turn₀ turn-end buffer at turn = (length buffer ≡ length buffer₀)

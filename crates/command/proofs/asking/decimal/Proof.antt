@@ -1,8 +1,8 @@
 use Prim.Native.Nat.{_-_}
 use native.Mathlib.Omega.{arith}
 use borrow.Author.Needs.{needs}
-use Rattle.lawendeb.proofs.asking.decimal.Statement.{statement}
-use Rattle.lawendeb.proofs.asking.decimal.Tie as tie
+use Rattle.command.proofs.asking.decimal.Statement.{statement}
+use Rattle.command.proofs.asking.decimal.Tie as tie
 
 abbrev Inv-loop : tie.InvT-loop
 Inv-loop text n₀ i₀ i-end n i = Unit {0}

@@ -1,8 +1,8 @@
 use Prim.Native.Nat.{ℕ}
 use mathlib.Core.Path.{_≡_, sym}
 use lib.ListN.{length, replicate, length-replicate}
-use Rattle.lawendeb.proofs.rooms.bytes.Statement.{statement}
-use Rattle.lawendeb.proofs.rooms.bytes.Tie as tie
+use Rattle.command.proofs.rooms.bytes.Statement.{statement}
+use Rattle.command.proofs.rooms.bytes.Tie as tie
 
 counted : {A : Type 0} (n : ℕ) (x : A) → n ≡ length (replicate n x)
 counted n x = sym (length-replicate n x)

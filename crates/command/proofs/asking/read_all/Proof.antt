@@ -1,8 +1,8 @@
 use Prim.Native.Nat.{_-_}
 use native.Mathlib.Omega.{arith}
 use borrow.Author.Needs.{needs}
-use Rattle.lawendeb.proofs.asking.read_all.Statement.{statement}
-use Rattle.lawendeb.proofs.asking.read_all.Tie as tie
+use Rattle.command.proofs.asking.read_all.Statement.{statement}
+use Rattle.command.proofs.asking.read_all.Tie as tie
 
 abbrev Inv-loop : tie.InvT-loop
 Inv-loop a₀ i₀ i-end a i = Unit {0}

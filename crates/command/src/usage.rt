@@ -39,7 +39,7 @@ fn put_options(page: &mut [u8], s: PageState) -> PageState {
     put(page, c, b"  --version       which release this is\n\n")
 }
 
-pub(crate) fn put_usage(page: &mut [u8], s: PageState) -> PageState {
+pub fn put_usage(page: &mut [u8], s: PageState) -> PageState {
     let a = put_purpose(page, s);
     let b = put_options(page, a);
     put(
@@ -49,7 +49,7 @@ pub(crate) fn put_usage(page: &mut [u8], s: PageState) -> PageState {
     )
 }
 
-pub(crate) fn put_version(page: &mut [u8], s: PageState) -> PageState {
+pub fn put_version(page: &mut [u8], s: PageState) -> PageState {
     put(
         page,
         s,
@@ -58,7 +58,7 @@ pub(crate) fn put_version(page: &mut [u8], s: PageState) -> PageState {
 }
 
 // An argument that is not understood.
-pub(crate) fn put_unclear(page: &mut [u8], s: PageState, i: usize) -> PageState {
+pub fn put_unclear(page: &mut [u8], s: PageState, i: usize) -> PageState {
     let mut text = io::buffer();
     let n = os::arg(i, &mut text);
     let a = put(page, s, b"refused: this argument is not understood: ");
@@ -67,7 +67,7 @@ pub(crate) fn put_unclear(page: &mut [u8], s: PageState, i: usize) -> PageState 
 }
 
 // A line of a weights file that can't be read; 0 for a file that is too long.
-pub(crate) fn put_bad_line(page: &mut [u8], s: PageState, name: &[u8], line: usize) -> PageState {
+pub fn put_bad_line(page: &mut [u8], s: PageState, name: &[u8], line: usize) -> PageState {
     let a = put(page, s, b"refused: ");
     let b = put_name(page, a, name);
     if line == 0 {

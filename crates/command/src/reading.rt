@@ -31,7 +31,7 @@ fn ended(fd: i32, buffer: &[u8], at: usize) -> Reading {
 }
 
 // Fills the buffer. Each turn but the last reads a byte at least.
-pub(crate) fn read_file(fd: i32, buffer: &mut [u8]) -> Reading {
+pub fn read_file(fd: i32, buffer: &mut [u8]) -> Reading {
     let mut at = 0;
     for turn in 0..buffer.len() {
         let got = read_some(fd, buffer, at);
