@@ -12,7 +12,7 @@ use Rattle.graph.specs.Longest.{within, heaviest, lengthOf, most, longest, firs
 use Rattle.runs.specs.Weights.{lowestZero, refusesWeights, weightsPlace}
 use Rattle.runs.specs.Run.{lowestInvalid, runOf}
 use Rattle.values.specs.Values.{choose, constantOf}
-use Rattle.families.specs.Parts.{plus, eventOf, constant, arguments, results}
+use Rattle.builders.specs.Parts.{plus, eventOf, constant, arguments, results}
 use Rattle.records.specs.Lift.{extendedIndex, wrap, loads, arithmetic, control, calls, recordBody, before, companionPc, confidenceOf, liftOf}
 use Rattle.pcases.specs.Cases.{Hold, pCases, cases53}
 

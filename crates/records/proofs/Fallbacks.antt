@@ -10,7 +10,7 @@ use Rattle.fields.specs.Opcodes.{«OP_GETTABUP», «OP_GETFIELD», «OP_SETTABU
 use Rattle.fields.specs.Events.{«TM_INDEX», «TM_NEWINDEX», «TM_LEN», «TM_UNM», «TM_BNOT», «TM_CONCAT», «TM_CALL», «TM_CLOSE»}
 use Rattle.fields.specs.Table.{Row, row, lookup, FallbackRule, fixed, byC, noFallback, fallbackNumber, fallbackOf}
 use Rattle.values.specs.declared.ir.Fallback.the-variants.{NoFallback, Event}
-use Rattle.families.specs.Parts.{eventOf}
+use Rattle.builders.specs.Parts.{eventOf}
 use Rattle.records.specs.Lift.{fallbackBy}
 
 -- a rule whose event, if it has one, is below the numbers of the other rules

@@ -18,9 +18,9 @@ use Rattle.values.specs.declared.ir.ImplicitEffect.{ImplicitEffect}
 use Rattle.values.specs.declared.ir.OptionalPc.{OptionalPc}
 use Rattle.common.specs.Chain.{choose}
 use Rattle.values.specs.Values.{constantOf, nameOf}
-use Rattle.families.specs.declared.builders.Body.{Body}
-use Rattle.families.specs.Shapes.{operandsOf, readsOf, writesOf, body}
-use Rattle.families.specs.Parts.{constant, upvalue, upvalueTarget, rk, rkTarget, countLess, arguments, results}
+use Rattle.builders.specs.declared.builders.Body.{Body}
+use Rattle.builders.specs.Shapes.{operandsOf, readsOf, writesOf, body}
+use Rattle.builders.specs.Parts.{constant, upvalue, upvalueTarget, rk, rkTarget, countLess, arguments, results}
 use Rattle.families.specs.Families as F
 use Rattle.records.specs.Lift.{loads, tables, arithmetic, control, calls, recordBody, liftOf}
 use Rattle.records.specs.Sources.{operandIn, targetIn, immediateFloat, Sources}
