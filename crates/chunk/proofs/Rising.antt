@@ -10,13 +10,13 @@ use lib.ListN.{length, drop, getD}
 use borrow.Author.Tests.{ltb-true}
 use Rattle.values.specs.Values.{«TAG_NIL», «TAG_FALSE», «TAG_TRUE», «TAG_INTEGER», «TAG_FLOAT», «TAG_SHORT_STRING», «TAG_LONG_STRING»}
 use Rattle.common.specs.Limits.{mostWords, mostConstants, mostNames, levelsBelow, sizeMax, intMax}
-use Rattle.chunk.specs.Reading.{Result, done, refused, Reader, bind, andThen, only, repeat}
-use Rattle.chunk.specs.Lundump.{Function, Constant, Text, absent, text, loadBlock, loadByte, unsignedFrom, loadUnsigned, loadSize, loadInt}
-use Rattle.chunk.specs.Lundump.{loadNumber, loadInteger, stringOf, loadStringN, present, loadString, loadVector, loadItems, loadCode}
-use Rattle.chunk.specs.Lundump.{constantByTag, loadConstant, loadConstants, loadUpvalues, loadAbsLine, loadLocVar, loadLines, loadName, namesFrom, loadNames}
-use Rattle.chunk.specs.Lundump.{loadHead, functionWith, several, noneOf, loadProtos, loadFunction, checkHeader, undump}
-use Rattle.chunk.specs.Stands.{StandBetween, ReadBetween}
-use Rattle.chunk.proofs.Thens.{then1, then2, then3, then4, then5, then6, then7}
+use Rattle.lundump.specs.Reading.{Result, done, refused, Reader, bind, andThen, only, repeat}
+use Rattle.lundump.specs.Lundump.{Function, Constant, Text, absent, text, loadBlock, loadByte, unsignedFrom, loadUnsigned, loadSize, loadInt}
+use Rattle.lundump.specs.Lundump.{loadNumber, loadInteger, stringOf, loadStringN, present, loadString, loadVector, loadItems, loadCode}
+use Rattle.lundump.specs.Lundump.{constantByTag, loadConstant, loadConstants, loadUpvalues, loadAbsLine, loadLocVar, loadLines, loadName, namesFrom, loadNames}
+use Rattle.lundump.specs.Lundump.{loadHead, functionWith, several, noneOf, loadProtos, loadFunction, checkHeader, undump}
+use Rattle.lundump.specs.Stands.{StandBetween, ReadBetween}
+use Rattle.lundump.proofs.Thens.{then1, then2, then3, then4, then5, then6, then7}
 
 -- ---- what is read ends where it starts, or later
 abbrev Up : {A : Type 0} → ℕ → Result A → Type 0

@@ -1,7 +1,7 @@
 -- The definitions compute on bytes written by hand. Assumes nothing.
 use mathlib.Core.Path.{refl}
-use Rattle.chunk.specs.Reading.{repeat, littleEnd}
-use Rattle.chunk.specs.Lundump.{loadBlock, loadByte, unsignedFrom, loadUnsigned, loadNumber, loadInteger, stringOf, loadStringN, loadString, loadVector, loadItems, wordsFrom, loadCode, constantByTag, loadConstant, loadUpvalues, loadAbsLine, loadLocVar, loadLines, namesFrom, loadNames, loadHead, functionWith, several, noneOf, loadProtos, checkBytes, checkHeader, undump}
+use Rattle.lundump.specs.Reading.{repeat, littleEnd}
+use Rattle.lundump.specs.Lundump.{loadBlock, loadByte, unsignedFrom, loadUnsigned, loadNumber, loadInteger, stringOf, loadStringN, loadString, loadVector, loadItems, wordsFrom, loadCode, constantByTag, loadConstant, loadUpvalues, loadAbsLine, loadLocVar, loadLines, namesFrom, loadNames, loadHead, functionWith, several, noneOf, loadProtos, checkBytes, checkHeader, undump}
 use Rattle.common.specs.Lists.{put}
 use Rattle.index.specs.Listing.{functionsOf}
 use Rattle.index.specs.Refusing.{goesOn, endsEarly, signed, whyRefused}

@@ -12,12 +12,12 @@ use lib.Seq.{drop-cons}
 use borrow.Author.Tests.{ltb-true, ltb-false, leb-true, le-leb}
 use Rattle.common.proofs.Order.{split}
 use Rattle.common.specs.Limits.{mostBytes, levelsBelow}
-use Rattle.chunk.specs.declared.reading.Refusal.{Refusal}
-use Rattle.chunk.specs.declared.reading.Refusal.the-variants.{Short}
-use Rattle.chunk.specs.Reading.{Result, done, refused, bind, only}
-use Rattle.chunk.specs.Lundump.{Function, loadByte, loadFunction, checkHeader, undump}
-use Rattle.chunk.specs.Chunk.{pick, chosen, valuesOf, countsOf, Rooms, fits, roomFor, filled, after}
-use Rattle.chunk.specs.Stands.{Stands, OneRead, StandBetween, ReadBetween}
+use Rattle.lundump.specs.declared.reading.Refusal.{Refusal}
+use Rattle.lundump.specs.declared.reading.Refusal.the-variants.{Short}
+use Rattle.lundump.specs.Reading.{Result, done, refused, bind, only}
+use Rattle.lundump.specs.Lundump.{Function, loadByte, loadFunction, checkHeader, undump}
+use Rattle.lundump.specs.Chunk.{pick, chosen, valuesOf, countsOf, Rooms, fits, roomFor, filled, after}
+use Rattle.lundump.specs.Stands.{Stands, OneRead, StandBetween, ReadBetween}
 use Rattle.chunk.proofs.Laws as chunk
 use Rattle.lines.specs.declared.choosing.Choice.the-variants.{Number, Place}
 use Rattle.lines.specs.Choices.{functionAt, chosenBy, filledBy}
@@ -245,7 +245,7 @@ refusing bytes e k h = go (leb (length bytes) mostBytes) (undump bytes 0) h
     go false X d = let y = d in again y
       where
         again : only {A = List Function} false X ≡ refused e → only {A = Function} false (bind X (pick k)) ≡ refused e
-        again q = let w : Rattle.chunk.specs.declared.reading.Refusal.the-variants.Malformed ≡ e = cc in ap refused w
+        again q = let w : Rattle.lundump.specs.declared.reading.Refusal.the-variants.Malformed ≡ e = cc in ap refused w
 
 by-number : (k : ℕ) (bytes : List ℕ) (rooms : Rooms) → filledBy (Number k) bytes rooms ≡ filled k bytes rooms
 unfolding filledBy filled

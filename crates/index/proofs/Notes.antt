@@ -8,15 +8,15 @@ use native.Mathlib.Numerals.{add-one}
 use lib.ListN.{length, set, length-append, length-set}
 use Rattle.common.specs.Lists.{put}
 use Rattle.common.proofs.Put.{put-laws}
-use Rattle.chunk.specs.declared.reading.Refusal.{Refusal}
-use Rattle.chunk.specs.declared.reading.Refusal.the-variants.{TooDeep}
-use Rattle.chunk.specs.declared.reading.Cursor.{Cursor}
-use Rattle.chunk.specs.declared.reading.Cursor.the-variants.{At, Refused}
-use Rattle.chunk.specs.Reading.{Result, done, refused, Reader, bind}
-use Rattle.chunk.specs.Lundump.{Function, Constant, Text, loadInt, loadHead, loadCode, loadConstants, loadUpvalues, loadLines, loadNames, functionWith, several, noneOf, loadProtos, loadFunction}
-use Rattle.chunk.specs.Chunk.{valuesOf}
-use Rattle.chunk.specs.Cursors.{step, cursorOf, valued, positionOf, cursorValue, same, none}
-use Rattle.chunk.specs.Stands.{StandBetween, ReadBetween}
+use Rattle.lundump.specs.declared.reading.Refusal.{Refusal}
+use Rattle.lundump.specs.declared.reading.Refusal.the-variants.{TooDeep}
+use Rattle.lundump.specs.declared.reading.Cursor.{Cursor}
+use Rattle.lundump.specs.declared.reading.Cursor.the-variants.{At, Refused}
+use Rattle.lundump.specs.Reading.{Result, done, refused, Reader, bind}
+use Rattle.lundump.specs.Lundump.{Function, Constant, Text, loadInt, loadHead, loadCode, loadConstants, loadUpvalues, loadLines, loadNames, functionWith, several, noneOf, loadProtos, loadFunction}
+use Rattle.lundump.specs.Chunk.{valuesOf}
+use Rattle.lundump.specs.Cursors.{step, cursorOf, valued, positionOf, cursorValue, same, none}
+use Rattle.lundump.specs.Stands.{StandBetween, ReadBetween}
 use Rattle.chunk.proofs.Laws.{laws}
 use Rattle.index.specs.Listing.{placesOf, parentsFrom}
 use Rattle.index.specs.Noting.{Noted, Wrote, WroteBy, WroteAt}

@@ -7,12 +7,12 @@ use native.Mathlib.Omega.{arith}
 use lib.Dec.{leb}
 use lib.ListN.{length}
 use borrow.Author.Tests.{leb-true}
-use Rattle.chunk.specs.declared.reading.Refusal.{Refusal}
-use Rattle.chunk.specs.declared.reading.Cursor.{Cursor}
-use Rattle.chunk.specs.declared.reading.Cursor.the-variants.{At, Refused}
-use Rattle.chunk.specs.Reading.{Result, done, refused, Reader, bind, andThen, only}
-use Rattle.chunk.specs.Lundump.{loadBlock}
-use Rattle.chunk.specs.Cursors.{step, cursorOf, same, none}
+use Rattle.lundump.specs.declared.reading.Refusal.{Refusal}
+use Rattle.lundump.specs.declared.reading.Cursor.{Cursor}
+use Rattle.lundump.specs.declared.reading.Cursor.the-variants.{At, Refused}
+use Rattle.lundump.specs.Reading.{Result, done, refused, Reader, bind, andThen, only}
+use Rattle.lundump.specs.Lundump.{loadBlock}
+use Rattle.lundump.specs.Cursors.{step, cursorOf, same, none}
 
 module _ {A : Type 0} (f : A → ℕ) (r : Reader A) (bytes : List ℕ) where
   -- a reader at a cursor that is known

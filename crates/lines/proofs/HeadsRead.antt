@@ -4,22 +4,21 @@ use mathlib.Core.Bool.{Bool, true, false}
 use mathlib.Core.List.{List}
 use Prim.Native.Nat.{ℕ, _≤_}
 use native.Mathlib.Omega.{arith}
-use Rattle.chunk.specs.declared.reading.Refusal.{Refusal}
-use Rattle.chunk.specs.declared.reading.Cursor.{Cursor}
-use Rattle.chunk.specs.declared.reading.Cursor.the-variants.{At, Refused}
-use Rattle.chunk.specs.declared.strings.Placed.{Placed}
-use Rattle.chunk.specs.declared.strings.Placed.the-variants as placed
-use Rattle.chunk.specs.declared.functions.Layout.{Layout}
-use Rattle.chunk.specs.declared.locating.Located.{Located}
-use Rattle.chunk.specs.declared.locating.Located.the-variants.{Here, Not}
+use Rattle.lundump.specs.declared.reading.Refusal.{Refusal}
+use Rattle.lundump.specs.declared.reading.Cursor.{Cursor}
+use Rattle.lundump.specs.declared.reading.Cursor.the-variants.{At, Refused}
+use Rattle.lundump.specs.declared.strings.Placed.{Placed}
+use Rattle.lundump.specs.declared.strings.Placed.the-variants as placed
+use Rattle.lundump.specs.declared.functions.Layout.{Layout}
+use Rattle.lundump.specs.declared.locating.Located.{Located}
+use Rattle.lundump.specs.declared.locating.Located.the-variants.{Here, Not}
 use Rattle.lines.specs.declared.heads.FlatHead.{FlatHead}
-use Rattle.chunk.specs.Reading.{Result, done, refused, bind, andThen}
-use Rattle.chunk.specs.Lundump.{Text, Function, loadByte, loadInt, loadStringN, loadHead}
-use Rattle.chunk.specs.Cursors.{step, cursorOf, cursorValue, refusalOf, same, placedOf}
-use Rattle.chunk.specs.Chunk.{nameNumber}
-use Rattle.chunk.specs.Filling.{BytesBounded}
-use Rattle.chunk.specs.Search.{layoutOf, locatedOf}
-use Rattle.chunk.specs.Stands.{Stands, OneRead}
+use Rattle.lundump.specs.Reading.{Result, done, refused, bind, andThen}
+use Rattle.lundump.specs.Lundump.{Text, Function, loadByte, loadInt, loadStringN, loadHead}
+use Rattle.lundump.specs.Cursors.{step, cursorOf, cursorValue, refusalOf, same, BytesBounded, placedOf}
+use Rattle.lundump.specs.Chunk.{nameNumber}
+use Rattle.lundump.specs.Search.{layoutOf, locatedOf}
+use Rattle.lundump.specs.Stands.{Stands, OneRead}
 use Rattle.lines.specs.declared.choosing.Choice.{Choice}
 use Rattle.lines.specs.Choices.{chosenBy}
 use Rattle.lines.specs.Heads.{Head, readHead, headOf, headRefused, headTold, HeadLaws}

@@ -7,9 +7,9 @@ use native.Mathlib.Omega.{arith}
 use lib.Dec.{leb}
 use lib.ListN.{length}
 use Rattle.common.specs.Limits.{intMax}
-use Rattle.chunk.specs.Reading.{Result, done, refused, bind, only, repeat}
-use Rattle.chunk.specs.Lundump.{Vector, Function, loadInt, loadBlock, loadVector, loadItems, loadAbsLine, loadLocVar, loadLines}
-use Rattle.chunk.specs.Stands.{Stands, OneRead}
+use Rattle.lundump.specs.Reading.{Result, done, refused, bind, only, repeat}
+use Rattle.lundump.specs.Lundump.{Vector, Function, loadInt, loadBlock, loadVector, loadItems, loadAbsLine, loadLocVar, loadLines}
+use Rattle.lundump.specs.Stands.{Stands, OneRead}
 use Rattle.lines.specs.declared.choosing.Choice.{Choice}
 use Rattle.lines.specs.Choices.{chosenBy}
 use Rattle.lines.specs.Ldebug.{AbsLine, linesOf}

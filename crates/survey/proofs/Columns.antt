@@ -13,12 +13,12 @@ use Rattle.sheet.specs.declared.writing.Cell.{Cell}
 use Rattle.sheet.specs.declared.writing.Cell.the-variants.{Number, Dash}
 use Rattle.sheet.specs.Rows.{cellOf, pairOf}
 use Rattle.sheet.proofs.Laws.{laws as sheet-laws}
-use Rattle.chunk.specs.declared.counts.Counts.{Counts}
-use Rattle.chunk.specs.declared.reading.Refusal.{Refusal}
-use Rattle.chunk.specs.declared.reading.Refusal.the-variants.{Header, Malformed, TooDeep, UnknownTag, Short}
-use Rattle.chunk.specs.Reading.{Result, done, refused}
-use Rattle.chunk.specs.Lundump.{Function}
-use Rattle.chunk.specs.Chunk.{chosen, countsOf, wordsOf, wordsRoom, filled, after}
+use Rattle.lundump.specs.declared.counts.Counts.{Counts}
+use Rattle.lundump.specs.declared.reading.Refusal.{Refusal}
+use Rattle.lundump.specs.declared.reading.Refusal.the-variants.{Header, Malformed, TooDeep, UnknownTag, Short}
+use Rattle.lundump.specs.Reading.{Result, done, refused}
+use Rattle.lundump.specs.Lundump.{Function}
+use Rattle.lundump.specs.Chunk.{chosen, countsOf, wordsOf, wordsRoom, filled, after}
 use Rattle.chunk.specs.Laws.{CountsWithin}
 use Rattle.chunk.proofs.Laws.{laws}
 use Rattle.survey.specs.Lines.{lineHead, tailOf, onlyOf, functionText, runIn, functionLine}

@@ -1,10 +1,10 @@
 use borrow.Author.Needs.{needs}
 use mathlib.Core.Path.{_≡_}
 use lib.ListN.{length}
-use Rattle.chunk.specs.declared.functions.Layout.{Layout}
-use Rattle.chunk.specs.declared.locating.Located.the-variants.{Here}
-use Rattle.chunk.specs.Chunk.{Rooms, roomsOf, filled, wordsOf, tagsOf, payloadsOf, namesOf}
-use Rattle.chunk.specs.Search.{locatedOf}
+use Rattle.lundump.specs.declared.functions.Layout.{Layout}
+use Rattle.lundump.specs.declared.locating.Located.the-variants.{Here}
+use Rattle.lundump.specs.Chunk.{Rooms, roomsOf, filled, wordsOf, tagsOf, payloadsOf, namesOf}
+use Rattle.lundump.specs.Search.{locatedOf}
 use Rattle.chunk.proofs.Passes.{filled-is, Filled, is-filled, answer-refused, nothing-altered, code-again, tags-again, payloads-again, names-again, words-filled, tags-filled, payloads-filled, names-filled, answer-filled}
 use Rattle.chunk.proofs.c.lawendeb_chunk_fill.Statement.{statement}
 use Rattle.chunk.proofs.c.lawendeb_chunk_fill.Tie as tie

@@ -1,5 +1,5 @@
 use mathlib.Core.Path.{_∙_}
-use Rattle.chunk.specs.Lundump.{loadProtos}
+use Rattle.lundump.specs.Lundump.{loadProtos}
 use Rattle.index.proofs.Notes.{function-counted, function-wrote, count-few, Midway, midway-none, midway-more, midway-refused, midway-done, no-count, none-within, too-deep, several-within}
 use native.Mathlib.Omega.{arith}
 use borrow.Author.Needs.{needs}
@@ -12,15 +12,15 @@ use Rattle.index.proofs.listing.+list_function+list_protos.Lts-list_fun
 use Rattle.index.proofs.listing.list_protos.Reads as list-protos
 use Rattle.index.proofs.listing.list_protos.Kinds as list-protos-kinds
 use Rattle.index.proofs.listing.+list_function+list_protos.Lts-list_protos as list-protos-lts
-use Rattle.chunk.proofs.inner.code.Reads as code-reads
-use Rattle.chunk.proofs.inner.constants.Reads as constants-reads
-use Rattle.chunk.proofs.inner.head.Reads as head-reads
-use Rattle.chunk.proofs.inner.lines.Reads as lines-reads
-use Rattle.chunk.proofs.inner.names.Reads as names-reads
-use Rattle.chunk.proofs.inner.upvalues.Reads as upvalues-reads
-use Rattle.chunk.proofs.inner.int.Reads as int-reads
-use Rattle.chunk.proofs.inner.position.Reads as position-reads
-use Rattle.chunk.proofs.inner.value.Reads as value-reads
+use Rattle.lundump.proofs.inner.code.Reads as code-reads
+use Rattle.lundump.proofs.inner.constants.Reads as constants-reads
+use Rattle.lundump.proofs.inner.head.Reads as head-reads
+use Rattle.lundump.proofs.inner.lines.Reads as lines-reads
+use Rattle.lundump.proofs.inner.names.Reads as names-reads
+use Rattle.lundump.proofs.inner.upvalues.Reads as upvalues-reads
+use Rattle.lundump.proofs.inner.int.Reads as int-reads
+use Rattle.lundump.proofs.inner.position.Reads as position-reads
+use Rattle.lundump.proofs.inner.value.Reads as value-reads
 use Rattle.index.proofs.listing.note.Reads as note-reads
 use Rattle.index.proofs.listing.past.Reads as past-reads
 use Rattle.index.proofs.listing.with_count.Reads as with-count-reads

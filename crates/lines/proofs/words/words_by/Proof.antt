@@ -1,12 +1,12 @@
 use borrow.Author.Needs.{needs}
 use mathlib.Core.Path.{_≡_}
 use lib.ListN.{length}
-use Rattle.chunk.specs.declared.functions.Layout.{Layout}
-use Rattle.chunk.specs.declared.locating.Located.the-variants.{Here}
+use Rattle.lundump.specs.declared.functions.Layout.{Layout}
+use Rattle.lundump.specs.declared.locating.Located.the-variants.{Here}
 use Rattle.common.specs.Limits.{mostConstants, mostNames}
-use Rattle.chunk.specs.Chunk.{Rooms, wordsRoom, wordsOf}
+use Rattle.lundump.specs.Chunk.{Rooms, wordsRoom, wordsOf}
 use Rattle.lines.specs.Choices.{filledBy}
-use Rattle.chunk.specs.Search.{locatedOf}
+use Rattle.lundump.specs.Search.{locatedOf}
 use Rattle.lines.proofs.Passes.{filled-is, Filled, is-filled, answer-refused, nothing-altered, code-again, words-filled, answer-filled}
 use Rattle.lines.proofs.words.words_by.Statement.{statement}
 use Rattle.lines.proofs.words.words_by.Tie as tie

@@ -6,8 +6,8 @@ use borrow.Author.Needs.{needs}
 use lib.ListN.{length, take}
 use Rattle.common.specs.Limits.{mostWords}
 use Rattle.common.specs.Lists.{put}
-use Rattle.chunk.specs.declared.counts.Counts.{Counts}
-use Rattle.chunk.specs.Chunk.{countsOf, filled, after, wordsOf, wordsRoom}
+use Rattle.lundump.specs.declared.counts.Counts.{Counts}
+use Rattle.lundump.specs.Chunk.{countsOf, filled, after, wordsOf, wordsRoom}
 use Rattle.chunk.specs.Laws.{CountsWithin}
 use Rattle.survey.proofs.Columns.{within, line-refused, words-part, line-accepted}
 use Rattle.survey.proofs.lines.put_line.Statement.{statement}
