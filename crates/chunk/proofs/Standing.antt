@@ -9,7 +9,10 @@ use lib.Dec.{leb}
 use lib.ListN.{length}
 use Rattle.common.specs.Limits.{mostConstants, mostNames, levelsBelow}
 use Rattle.chunk.specs.Reading.{Result, done, refused, Reader, bind, only}
-use Rattle.chunk.specs.Lundump.{loadByte, Function, Constant, Text, loadInt, loadHead, loadCode, loadConstant, loadConstants, loadUpvalues, loadLines, loadNames, functionWith, several, noneOf, loadProtos, loadFunction, checkHeader, undump}
+use Rattle.chunk.specs.Lundump.{loadByte, Function, Constant, Text, loadInt, loadHead, loadCode}
+use Rattle.chunk.specs.Lundump.{loadConstant, loadConstants, loadUpvalues, loadLines, loadNames}
+use Rattle.chunk.specs.Lundump.{functionWith, several, noneOf, loadProtos, loadFunction, checkHeader}
+use Rattle.chunk.specs.Lundump.{undump}
 use Rattle.chunk.specs.Chunk.{pick, chosen}
 use Rattle.chunk.specs.Stands.{AllStand, AllRead, OneRead}
 use Rattle.chunk.proofs.Bounds.{names-length, few-words, few-upvalues, few-items}
