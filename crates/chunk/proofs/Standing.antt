@@ -9,7 +9,10 @@ use lib.Dec.{leb}
 use lib.ListN.{length}
 use Rattle.common.specs.Limits.{mostConstants, mostNames, levelsBelow}
 use Rattle.lundump.specs.Reading.{Result, done, refused, Reader, bind, only}
-use Rattle.lundump.specs.Lundump.{loadByte, Function, Constant, Text, loadInt, loadHead, loadCode, loadConstant, loadConstants, loadUpvalues, loadLines, loadNames, functionWith, several, noneOf, loadProtos, loadFunction, checkHeader, undump}
+use Rattle.lundump.specs.Lundump.{loadByte, Function, Constant, Text, loadInt, loadHead, loadCode}
+use Rattle.lundump.specs.Lundump.{loadConstant, loadConstants, loadUpvalues, loadLines, loadNames}
+use Rattle.lundump.specs.Lundump.{functionWith, several, noneOf, loadProtos, loadFunction, checkHeader}
+use Rattle.lundump.specs.Lundump.{undump}
 use Rattle.lundump.specs.Chunk.{pick, chosen}
 use Rattle.lundump.specs.Stands.{AllStand, AllRead, OneRead}
 use Rattle.lundump.proofs.Bounds.{names-length, few-words, few-upvalues, few-items}

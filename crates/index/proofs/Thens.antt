@@ -7,7 +7,18 @@ use Rattle.lundump.specs.Lundump.{Function, Constant, Text, loadCode, loadConst
 
 abbrev pub own : ℕ → ℕ → List ℕ → ℕ → List Constant → ℕ → ℕ → ℕ → List Text → ℕ → Function
 own at₀ at₁ code at₂ ks n at₅ at₆ names at₇ =
-    record { firstAt = at₀; codeAt = at₁; words = code; constantsAt = at₂; constants = ks; upvalues = n; linesAt = at₅; namesAt = at₆; names = names; endAt = at₇ }
+    record {
+      firstAt = at₀;
+      codeAt = at₁;
+      words = code;
+      constantsAt = at₂;
+      constants = ks;
+      upvalues = n;
+      linesAt = at₅;
+      namesAt = at₆;
+      names = names;
+      endAt = at₇;
+    }
 
 module _ (bytes : List ℕ) (P : Reader (List Function)) (at₀ : ℕ) where
   abbrev pub then7 : ℕ → List ℕ → ℕ → List Constant → ℕ → List Function → ℕ → ℕ → List Text → ℕ → Result (List Function)

@@ -48,7 +48,8 @@ unit-is (done tt at₁) d at n h k = let p : at₁ ≡ at = cc in ap (done tt) p
 unit-is (refused x) d at n h k = absurd (let z : _≡_ {A = ℕ} 0 1 = cc in omega arith)
 
 -- a block that was read lies inside the bytes
-in-bytes : (size at : ℕ) (bytes : List ℕ) (b : Bool) → leb (at + size) (length bytes) ≡ b → (next : ℕ) → _≡_ {A = Result (Unit {0})} (only b (done tt (at + size))) (done tt next) → at + size ≤ length bytes
+in-bytes : (size at : ℕ) (bytes : List ℕ) (b : Bool) → leb (at + size) (length bytes) ≡ b → (next : ℕ)
+    → _≡_ {A = Result (Unit {0})} (only b (done tt (at + size))) (done tt next) → at + size ≤ length bytes
 in-bytes size at bytes true h next e = leb-true _ _ h
 in-bytes size at bytes false h next e = absurd (let z : _≡_ {A = ℕ} 0 1 = cc in omega arith)
 

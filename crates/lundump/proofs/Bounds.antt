@@ -14,7 +14,8 @@ use Rattle.lundump.specs.declared.reading.Cursor.the-variants.{At, Refus
 use Rattle.common.specs.Limits.{mostWords, mostNames}
 use Rattle.lundump.specs.Reading.{Result, done, refused, Reader, bind, only, repeat}
 use Rattle.lundump.specs.Cursors.{step, cursorOf, valued, same, none, countOf}
-use Rattle.lundump.specs.Lundump.{Text, absent, Vector, loadBlock, loadInt, loadVector, loadItems, loadCode, loadUpvalues, loadNames, namesFrom, loadName, wordsFrom}
+use Rattle.lundump.specs.Lundump.{Text, absent, Vector, loadBlock, loadInt, loadVector, loadItems}
+use Rattle.lundump.specs.Lundump.{loadCode, loadUpvalues, loadNames, namesFrom, loadName, wordsFrom}
 use Rattle.lundump.proofs.Steps.{seen}
 use Rattle.lundump.proofs.Binds.{reached, replaced}
 use Rattle.lundump.proofs.Repeats.{all-of, repeat-length}
@@ -29,7 +30,9 @@ module _ (bytes : List ℕ) (c d : Cursor) (at n : ℕ) (h : d ≡ step same loa
   unfolding loadVector
   vector-done most each e x l p q =
       reached countOf _ _ _ _ _ _ _ _ h k
-      (rw (le-leb n most l) (q ∙ ap (valued n) (p ∙ seen none (loadBlock (each * n)) bytes at n) ∙ replaced none countOf (λ _. record { start = at; count = n }) (loadBlock (each * n) bytes at) n (λ _. refl)))
+      (rw (le-leb n most l)
+      (q ∙ ap (valued n) (p ∙ seen none (loadBlock (each * n)) bytes at n) ∙ replaced none countOf
+      (λ _. record { start = at; count = n }) (loadBlock (each * n) bytes at) n (λ _. refl)))
 
   pub items-over : {A : Type 0} (most : ℕ) (r : ℕ → Reader A) → most < n → Refused Malformed ≡ step length (loadItems most r) bytes c
   unfolding loadItems
@@ -38,13 +41,17 @@ module _ (bytes : List ℕ) (c d : Cursor) (at n : ℕ) (h : d ≡ step same loa
   pub items-done : {A : Type 0} (most : ℕ) (r : ℕ → Reader A) (e x : Cursor) → n ≤ most → e ≡ step none (repeat r 0 n) bytes (At at n) → x ≡ valued n e
       → x ≡ step length (loadItems most r) bytes c
   unfolding loadItems
-  items-done most r e x l p q = reached length _ _ _ _ _ _ _ _ h k (rw (le-leb n most l) (q ∙ ap (valued n) (p ∙ seen none (repeat r 0 n) bytes at n) ∙ all-of r bytes n 0 at))
+  items-done most r e x l p q =
+      reached length _ _ _ _ _ _ _ _ h k (rw (le-leb n most l)
+      (q ∙ ap (valued n) (p ∙ seen none (repeat r 0 n) bytes at n) ∙ all-of r bytes n 0 at))
 
   pub no-names : (upvalues : ℕ) (x : Cursor) → n ≡ 0 → x ≡ valued 0 (At at n) → x ≡ step none (loadNames upvalues) bytes c
   unfolding loadNames namesFrom
   no-names upvalues x z p = reached none _ _ _ _ _ _ _ _ h k (rw z p)
 
-  pub some-names : (upvalues : ℕ) (x : Cursor) → (n ≡ 0 → ⊥) → x ≡ step none (repeat loadName 0 upvalues) bytes (At at n) → x ≡ step none (loadNames upvalues) bytes c
+  pub some-names : (upvalues : ℕ) (x : Cursor) → (n ≡ 0 → ⊥)
+      → x ≡ step none (repeat loadName 0 upvalues) bytes (At at n)
+      → x ≡ step none (loadNames upvalues) bytes c
   unfolding loadNames namesFrom
   some-names upvalues x z p = reached none _ _ _ _ _ _ _ _ h k (p ∙ seen none (repeat loadName 0 upvalues) bytes at n ∙ go n z)
     where
@@ -92,7 +99,10 @@ module _ (bytes : List ℕ) where
       by-limit n start true e h = let c = by-block n start (loadBlock (each * n) bytes start) h in omega (arith, leb-true n most e)
       by-limit n start false e h = absurd (let z : _≡_ {A = ℕ} 0 1 = cc in omega arith)
 
-      by-count : (X : Result ℕ) → bind X (λ n at₁. only (leb n most) (bind (loadBlock (each * n) bytes at₁) (λ _ at₂. done (record { start = at₁; count = n }) at₂))) ≡ done v next
+      by-count : (X : Result ℕ)
+          → bind X (λ n at₁. only (leb n most)
+          (bind (loadBlock (each * n) bytes at₁) (λ _ at₂. done (record { start = at₁; count = n }) at₂)))
+          ≡ done v next
           → v .count ≤ most
       by-count (done n start) h = by-limit n start (leb n most) refl h
       by-count (refused x) h = absurd (let z : _≡_ {A = ℕ} 0 1 = cc in omega arith)
@@ -101,7 +111,9 @@ module _ (bytes : List ℕ) where
   unfolding loadCode
   few-words at ws next h = by-vector (loadVector mostWords 4 bytes at) refl h
     where
-      by-vector : (X : Result Vector) → loadVector mostWords 4 bytes at ≡ X → bind X (λ v at₁. done (wordsFrom (v .count) bytes (v .start)) at₁) ≡ done ws next → length ws ≤ mostWords
+      by-vector : (X : Result Vector) → loadVector mostWords 4 bytes at ≡ X
+          → bind X (λ v at₁. done (wordsFrom (v .count) bytes (v .start)) at₁) ≡ done ws next
+          → length ws ≤ mostWords
       by-vector (done v at₁) e h =
           let w : wordsFrom (v .count) bytes (v .start) ≡ ws = cc in
           let c : v .count ≡ length ws = words-count (v .count) bytes (v .start) ∙ ap length w in

@@ -31,7 +31,8 @@ module _ {A : Type 0} (r : ℕ → Reader A) (bytes : List ℕ) where
   one-more (At at v) d i n h = rw h (turn (r i bytes at) i n)
   one-more (Refused e) d i n h = rw h
 
-  pub next-one : (c d : Cursor) (i n : ℕ) → i < n → d ≡ step none (r i) bytes c → step none (repeat r i (n - i)) bytes c ≡ step none (repeat r (i + 1) (n - (i + 1))) bytes d
+  pub next-one : (c d : Cursor) (i n : ℕ) → i < n → d ≡ step none (r i) bytes c
+      → step none (repeat r i (n - i)) bytes c ≡ step none (repeat r (i + 1) (n - (i + 1))) bytes d
   next-one c d i n l h = rw (one-left n i l) (one-more c d i (n - (i + 1)) h)
 
   -- no more items

@@ -15,7 +15,8 @@ use Rattle.lundump.specs.declared.strings.StringRead.the-variants as rea
 use Rattle.lundump.specs.declared.constants.Packed.{Packed}
 use Rattle.lundump.specs.declared.constants.Packed.the-variants as packed
 use Rattle.lundump.specs.Reading.{Result, done, refused, bind, littleEnd}
-use Rattle.lundump.specs.Lundump.{Constant, plain, string, loadBlock, loadByte, loadNumber, loadInteger, loadStringN, loadString, constantByTag, loadConstant}
+use Rattle.lundump.specs.Lundump.{Constant, plain, string, loadBlock, loadByte, loadNumber, loadInteger}
+use Rattle.lundump.specs.Lundump.{loadStringN, loadString, constantByTag, loadConstant}
 use Rattle.lundump.specs.Chunk.{tagOf, payloadOf}
 use Rattle.lundump.specs.Cursors.{step, cursorOf, none, refusalOf, stringRead, packedOf}
 use Rattle.lundump.proofs.Steps.{seen}
@@ -113,7 +114,16 @@ module _ (bytes : List ℕ) (i at : ℕ) where
         → loadConstant i bytes at ≡ refused (UnknownTag i)
     unfolding constantByTag
     is-unknown t e a b c d f g k =
-        rw (behind-tag t e, ne-eqb t «TAG_NIL» a, ne-eqb t «TAG_FALSE» b, ne-eqb t «TAG_TRUE» c, ne-eqb t «TAG_FLOAT» d, ne-eqb t «TAG_INTEGER» f, ne-eqb t «TAG_SHORT_STRING» g, ne-eqb t «TAG_LONG_STRING» k)
+        rw (
+          behind-tag t e,
+          ne-eqb t «TAG_NIL» a,
+          ne-eqb t «TAG_FALSE» b,
+          ne-eqb t «TAG_TRUE» c,
+          ne-eqb t «TAG_FLOAT» d,
+          ne-eqb t «TAG_INTEGER» f,
+          ne-eqb t «TAG_SHORT_STRING» g,
+          ne-eqb t «TAG_LONG_STRING» k,
+        )
 
 -- what a tag and a payload that were read stand for
 pub record Valued (bytes : List ℕ) (i at t p next : ℕ) : Type 0 where

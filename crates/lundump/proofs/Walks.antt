@@ -17,7 +17,9 @@ use Rattle.lundump.specs.declared.functions.Walk.{Walk}
 use Rattle.lundump.specs.declared.functions.Walk.the-variants.{Past, Stopped}
 use Rattle.lundump.specs.Reading.{Result, done, refused, Reader, bind}
 use Rattle.lundump.specs.Cursors.{step, cursorOf, same, positionOf, cursorValue, refusalOf, none}
-use Rattle.lundump.specs.Lundump.{Function, Constant, Text, loadInt, loadHead, loadCode, loadConstants, loadUpvalues, loadLines, loadNames, functionWith, several, noneOf, loadProtos, loadFunction}
+use Rattle.lundump.specs.Lundump.{Function, Constant, Text, loadInt, loadHead, loadCode, loadConstants}
+use Rattle.lundump.specs.Lundump.{loadUpvalues, loadLines, loadNames, functionWith, several, noneOf}
+use Rattle.lundump.specs.Lundump.{loadProtos, loadFunction}
 use Rattle.lundump.specs.Search.{layoutOf, search, walkOf, walk, cursorAt, searchOf, passed, settled, finished}
 use Rattle.lundump.proofs.Thens.{own, then1, then2, then3, then4, then5, then6, then7}
 
@@ -51,7 +53,18 @@ over-own (Left (suc n)) f inner = refl
 module _ (bytes : List ℕ) (P : Reader (List Function)) (s : Search) where
   abbrev end : ℕ → Cursor → Cursor → Cursor → Cursor → Walk → Cursor → Cursor → Walk
   end p h k q u w l n =
-      finished s (record { «first_at» = p; «code_at» = positionOf h; words = cursorValue k; «constants_at» = positionOf k; constants = cursorValue q; «lines_at» = positionOf (cursorAt w); «names_at» = positionOf l; names = cursorValue u }) w n
+      finished s
+      (record {
+        «first_at» = p;
+        «code_at» = positionOf h;
+        words = cursorValue k;
+        «constants_at» = positionOf k;
+        constants = cursorValue q;
+        «lines_at» = positionOf (cursorAt w);
+        «names_at» = positionOf l;
+        names = cursorValue u;
+      })
+      w n
 
   abbrev from6 : ℕ → Cursor → Cursor → Cursor → Cursor → Walk → Cursor → Walk
   from6 p h k q u w l = end p h k q u w l (step none (loadNames (cursorValue u)) bytes l)
@@ -85,7 +98,8 @@ module _ (bytes : List ℕ) (P : Reader (List Function)) (s : Search) where
   at6 at₀ a at₁ code at₂ ks at₃ n at₄ inner at₅ (refused e) = refl
 
   at5 : (at₀ a at₁ : ℕ) (code : List ℕ) (at₂ : ℕ) (ks : List Constant) (at₃ n at₄ : ℕ) (X : Result (List Function))
-      → from5 at₀ (At at₁ a) (At at₂ (length code)) (At at₃ (length ks)) (At at₄ n) (walkOf (passed s) X) ≡ walkOf s (bind X (then5 bytes P at₀ at₁ code at₂ ks n))
+      → from5 at₀ (At at₁ a) (At at₂ (length code)) (At at₃ (length ks)) (At at₄ n) (walkOf (passed s) X)
+      ≡ walkOf s (bind X (then5 bytes P at₀ at₁ code at₂ ks n))
   unfolding step
   at5 at₀ a at₁ code at₂ ks at₃ n at₄ (done inner at₅) = at6 at₀ a at₁ code at₂ ks at₃ n at₄ inner at₅ (loadLines bytes at₅)
   at5 at₀ a at₁ code at₂ ks at₃ n at₄ (refused e) = refl
@@ -129,8 +143,20 @@ module _ (bytes : List ℕ) (P : Reader (List Function)) (s : Search) where
       → l ≡ step length loadLines bytes m
       → v ≡ cursorValue u
       → n ≡ step none (loadNames v) bytes l
-      → a₀ ≡ positionOf c → a₁ ≡ positionOf h → a₂ ≡ cursorValue k → a₃ ≡ positionOf k → a₄ ≡ cursorValue q → a₇ ≡ positionOf m → a₅ ≡ positionOf l → a₆ ≡ cursorValue u
-      → x ≡ finished s (record { «first_at» = a₀; «code_at» = a₁; words = a₂; «constants_at» = a₃; constants = a₄; «lines_at» = a₇; «names_at» = a₅; names = a₆ }) w n
+      → a₀ ≡ positionOf c → a₁ ≡ positionOf h → a₂ ≡ cursorValue k → a₃ ≡ positionOf k → a₄ ≡ cursorValue q
+      → a₇ ≡ positionOf m → a₅ ≡ positionOf l → a₆ ≡ cursorValue u
+      → x ≡ finished s
+      (record {
+        «first_at» = a₀;
+        «code_at» = a₁;
+        words = a₂;
+        «constants_at» = a₃;
+        constants = a₄;
+        «lines_at» = a₇;
+        «names_at» = a₅;
+        names = a₆;
+      })
+      w n
       → x ≡ walk (functionWith P) bytes c s
   joined c h k q u w m l n a₀ a₁ a₂ a₃ a₄ a₇ a₅ a₆ v t x eh ek eq eu et ew em el ev en e₀ e₁ e₂ e₃ e₄ e₇ e₅ e₆ ex =
       ex ∙ (rw (e₀, e₁, e₂, e₃, e₄, e₇, e₅, e₆, en, ev, el, em, ew, et, eu, eq, ek, eh) (whole c))
@@ -172,7 +198,8 @@ module _ (r : Reader (List Function)) (bytes : List ℕ) where
 
 -- ---- the count of the functions within
 module _ (bytes : List ℕ) (s : Search) where
-  halted : (X : Result ℕ) (k : ℕ → ℕ → Result (List Function)) (e : Refusal) → cursorOf same X ≡ Refused e → Stopped (refusalOf (cursorOf same X)) ≡ walkOf s (bind X k)
+  halted : (X : Result ℕ) (k : ℕ → ℕ → Result (List Function)) (e : Refusal) → cursorOf same X ≡ Refused e
+      → Stopped (refusalOf (cursorOf same X)) ≡ walkOf s (bind X k)
   halted (done a at) k e h = absurd (let z : _≡_ {A = ℕ} 0 1 = cc in omega arith)
   halted (refused x) k e h = refl
 
@@ -183,10 +210,13 @@ module _ (bytes : List ℕ) (s : Search) where
       rw (p, q)
   counted-to (refused x) k at n h = absurd (let z : _≡_ {A = ℕ} 0 1 = cc in omega arith)
 
-  pub no-count : (level : ℕ) (c d : Cursor) (x e : Refusal) → d ≡ step same loadInt bytes c → d ≡ Refused e → x ≡ refusalOf d → Stopped x ≡ walk (loadProtos level) bytes c s
+  pub no-count : (level : ℕ) (c d : Cursor) (x e : Refusal) → d ≡ step same loadInt bytes c → d ≡ Refused e
+      → x ≡ refusalOf d → Stopped x ≡ walk (loadProtos level) bytes c s
   unfolding step walk loadProtos
   no-count zero (At at v) d x e h k l = ap Stopped (l ∙ ap refusalOf h) ∙ halted (loadInt bytes at) (λ n at₁. noneOf n bytes at₁) e (sym h ∙ k)
-  no-count (suc level) (At at v) d x e h k l = ap Stopped (l ∙ ap refusalOf h) ∙ halted (loadInt bytes at) (λ n at₁. several (functionWith (loadProtos level)) n bytes at₁) e (sym h ∙ k)
+  no-count (suc level) (At at v) d x e h k l =
+      ap Stopped (l ∙ ap refusalOf h) ∙ halted (loadInt bytes at)
+      (λ n at₁. several (functionWith (loadProtos level)) n bytes at₁) e (sym h ∙ k)
   no-count zero (Refused f) d x e h k l = ap Stopped (l ∙ ap refusalOf h)
   no-count (suc level) (Refused f) d x e h k l = ap Stopped (l ∙ ap refusalOf h)
 

@@ -54,7 +54,9 @@ module _ (k : ℕ) (bytes : List ℕ) where
   unfolding chosen
   too-long h = rw (lt-leb (length bytes) 4294967295 h)
 
-  from-byte : (X : Result ℕ) → locatedBy (walk (loadFunction 31) bytes (cursorOf same X) (Left k)) ≡ locatedOf (bind (bind X (λ _ at. loadFunction 31 bytes at)) (pick k))
+  from-byte : (X : Result ℕ)
+      → locatedBy (walk (loadFunction 31) bytes (cursorOf same X) (Left k))
+      ≡ locatedOf (bind (bind X (λ _ at. loadFunction 31 bytes at)) (pick k))
   unfolding walk
   from-byte (done b at) = walked k (loadFunction 31 bytes at)
   from-byte (refused e) = refl
@@ -65,7 +67,8 @@ module _ (k : ℕ) (bytes : List ℕ) where
   from-header (done u at) = from-byte (loadByte bytes at)
   from-header (refused e) = refl
 
-  pub chosen-there : (h c : Cursor) (w : Walk) (x : Located) → length bytes ≤ 4294967295 → h ≡ cursorOf none (checkHeader bytes 0) → c ≡ step same loadByte bytes h
+  pub chosen-there : (h c : Cursor) (w : Walk) (x : Located) → length bytes ≤ 4294967295
+      → h ≡ cursorOf none (checkHeader bytes 0) → c ≡ step same loadByte bytes h
       → w ≡ walk (loadFunction 31) bytes c (Left k) → x ≡ locatedBy w → x ≡ locatedOf (chosen k bytes)
   unfolding chosen undump
   chosen-there h c w x l eh ec ew ex = ex ∙ (rw (le-leb (length bytes) 4294967295 l, ew, ec, eh) (from-header (checkHeader bytes 0)))

@@ -17,11 +17,57 @@ use Rattle.records.specs.Lift.{extendedIndex, wrap, loads, arithmetic, control,
 use Rattle.pcases.specs.Cases.{Hold, pCases, cases53}
 
 pub cases-hold : Hold pCases
-unfolding unless one ordered two opcodeAt isBetween companionPresent successorsOf servesOf classOf companionOf fallbackOf leads markOf within heaviest lengthOf most lowestFrom longest first lowestZero refusesWeights lowestInvalid runOf choose constantOf plus eventOf constant arguments results extendedIndex wrap loads arithmetic control calls recordBody before companionPc confidenceOf liftOf
-cases-hold =
-    ((refl, refl, refl), (refl, (refl, (refl, (refl, ((refl, refl), ((refl, refl), ((refl, refl), ((refl, refl), (refl, (refl, (refl, (refl, (refl, (refl, (refl, (refl, (refl, (refl, (refl, (refl, (refl, (refl, (refl, tt))))))))))))))))))))))))
+unfolding unless one ordered two opcodeAt isBetween companionPresent successorsOf servesOf classOf companionOf
+    fallbackOf leads markOf within heaviest lengthOf most lowestFrom longest first lowestZero
+    refusesWeights lowestInvalid runOf choose constantOf plus eventOf constant arguments results
+    extendedIndex wrap loads arithmetic control calls recordBody before companionPc confidenceOf liftOf
+cases-hold = (
+  (refl, refl, refl),
+  (
+    refl,
+    (
+      refl,
+      (
+        refl,
+        (
+          refl,
+          (
+            (refl, refl),
+            (
+              (refl, refl),
+              (
+                (refl, refl),
+                (
+                  (refl, refl),
+                  (
+                    refl,
+                    (
+                      refl,
+                      (
+                        refl,
+                        (
+                          refl,
+                          (
+                            refl,
+                            (refl, (refl, (refl, (refl, (refl, (refl, (refl, (refl, (refl, (refl, tt)))))))))),
+                          ),
+                        ),
+                      ),
+                    ),
+                  ),
+                ),
+              ),
+            ),
+          ),
+        ),
+      ),
+    ),
+  ),
+)
 
 pub cases53-hold : Hold cases53
-unfolding unless one ordered two opcodeAt53 companionPresent53 successorsOf53 servesOf classOf53 companionOf53 leads markOf within heaviest lengthOf most lowestFrom longest first lowestZero refusesWeights weightsPlace lowestInvalid runOf
+unfolding unless one ordered two opcodeAt53 companionPresent53 successorsOf53 servesOf classOf53 companionOf53
+    leads markOf within heaviest lengthOf most lowestFrom longest first lowestZero refusesWeights
+    weightsPlace lowestInvalid runOf
 cases53-hold =
     (refl, (refl, (refl, (refl, (refl, (refl, (refl, (refl, (refl, (refl, (refl, (refl, (refl, (refl, (refl, (refl, (refl, (refl, tt))))))))))))))))))

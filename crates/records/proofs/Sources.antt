@@ -349,7 +349,8 @@ module _ (tags payloads names : List ℕ) (float : Float) where
     in-body e = either _ _ _ (in-loads e) (either _ _ _ in-tables (either _ _ _ in-arithmetic (either _ _ _ in-control in-calls)))
 
 module _ (words tags payloads names : List ℕ) (pc : ℕ) where
-  abbrev all : From tags payloads names (immediateFloat words pc) (recordBody words tags payloads names pc (getD words pc 0) (fieldsOf (getD words pc 0)) (opcodeOf (getD words pc 0)))
+  abbrev all : From tags payloads names (immediateFloat words pc) (recordBody words tags payloads names pc
+      (getD words pc 0) (fieldsOf (getD words pc 0)) (opcodeOf (getD words pc 0)))
   all = in-body tags payloads names (immediateFloat words pc) words pc (getD words pc 0) (fieldsOf (getD words pc 0)) (opcodeOf (getD words pc 0)) refl
 
   pub sources : Sources words tags payloads names pc

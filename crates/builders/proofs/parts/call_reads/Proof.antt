@@ -17,7 +17,29 @@ returns-2 c = rw (ne-eqb _ _ (c .before .before .if1 .left), le-leb _ _ (c .befo
 
 returns-3 : tie.Need-returns-3
 unfolding arguments choose
-returns-3 c = rw (ne-eqb _ _ (c .before .before .before .before .before .if1 .left), lt-leb _ _ (c .before .before .before .before .if2 .left), c .reads22 .ensures, c .before .register-less .ensures, c .before .before .register-plus3 .ensures, c .before .before .before .register-plus2 .ensures)
+returns-3 c =
+    let at-if2 = c .before .before .before .before in
+    let at-if1 = at-if2 .before in
+    rw (
+      ne-eqb _ _ (at-if1 .if1 .left),
+      lt-leb _ _ (at-if2 .if2 .left),
+      c .reads22 .ensures,
+      c .before .register-less .ensures,
+      c .before .before .register-plus3 .ensures,
+      c .before .before .before .register-plus2 .ensures,
+    )
 
 pub call-reads-spec : {M : Type 1} → statement M
-call-reads-spec = tie.close (tie.spec (λ c κs. search needs) (λ c κs. search needs) (λ c κs. search needs) (λ c κs. search needs) (λ c κs. search needs) (λ c κs. search needs) (λ c κs. search needs) returns returns-2 returns-3)
+call-reads-spec =
+    tie.close
+    (tie.spec
+    (λ c κs. search needs)
+    (λ c κs. search needs)
+    (λ c κs. search needs)
+    (λ c κs. search needs)
+    (λ c κs. search needs)
+    (λ c κs. search needs)
+    (λ c κs. search needs)
+    returns
+    returns-2
+    returns-3)

@@ -17,7 +17,25 @@ returns-2 c = rw (ne-eqb _ _ (c .before .before .if1 .left), le-leb _ _ (c .befo
 
 returns-3 : tie.Need-returns-3
 unfolding results choose
-returns-3 c = rw (ne-eqb _ _ (c .before .before .before .before .if1 .left), lt-leb _ _ (c .before .before .before .if2 .left), c .writes12 .ensures, c .before .register-less .ensures, c .before .before .register-plus .ensures)
+returns-3 c =
+    let at-if1 = c .before .before .before .before in
+    rw (
+      ne-eqb _ _ (at-if1 .if1 .left),
+      lt-leb _ _ (c .before .before .before .if2 .left),
+      c .writes12 .ensures,
+      c .before .register-less .ensures,
+      c .before .before .register-plus .ensures,
+    )
 
 pub result-writes-spec : {M : Type 1} → statement M
-result-writes-spec = tie.close (tie.spec (λ c κs. search needs) (λ c κs. search needs) (λ c κs. search needs) (λ c κs. search needs) (λ c κs. search needs) returns returns-2 returns-3)
+result-writes-spec =
+    tie.close
+    (tie.spec
+    (λ c κs. search needs)
+    (λ c κs. search needs)
+    (λ c κs. search needs)
+    (λ c κs. search needs)
+    (λ c κs. search needs)
+    returns
+    returns-2
+    returns-3)

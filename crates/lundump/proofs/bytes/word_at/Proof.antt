@@ -6,7 +6,10 @@ use Rattle.lundump.proofs.bytes.word_at.Tie as tie
 
 returns : tie.Need-returns
 unfolding littleEnd
-returns c = rw (c .low4 .ensures .0, c .before .before .low3 .ensures .0, c .before .before .before .before .low2 .ensures .0, c .before .before .before .before .before .before .low .ensures .0, add-zero)
+returns c =
+    let at-low2 = c .before .before .before .before in
+    let at-low = at-low2 .before .before in
+    rw (c .low4 .ensures .0, c .before .before .low3 .ensures .0, at-low2 .low2 .ensures .0, at-low .low .ensures .0, add-zero)
 
 pub word-at-spec : {M : Type 1} → statement M
 word-at-spec =

@@ -10,7 +10,9 @@ number-at-requires : tie.Need-number-at-requires
 number-at-requires c κs = eight-inside _ _ _ _ (c .before .before .before .block .ensures) _ _ (c .before .past .given .1)
 
 returns-2 : tie.Need-returns-2
-returns-2 c = eight-read _ _ _ _ (c .before .before .before .before .block .ensures) _ _ _ _ (c .before .before .past .given .1) (c .number-at .ensures)
+returns-2 c =
+    let at-block = c .before .before .before .before in
+    eight-read _ _ _ _ (at-block .block .ensures) _ _ _ _ (c .before .before .past .given .1) (c .number-at .ensures)
 
 pub eight-bytes-spec : {M : Type 1} → statement M
 eight-bytes-spec =

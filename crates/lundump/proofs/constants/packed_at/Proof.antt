@@ -6,10 +6,14 @@ use Rattle.lundump.proofs.constants.packed_at.Statement.{statement}
 use Rattle.lundump.proofs.constants.packed_at.Tie as tie
 
 required-string-requires : tie.Need-required-string-requires
-required-string-requires c κs = c .before .before .before .before .pre
+required-string-requires c κs =
+    let entry = c .before .before .before .before in
+    entry .pre
 
 required-string-requires-2 : tie.Need-required-string-requires-2
-required-string-requires-2 c κs = c .before .before .before .before .pre
+required-string-requires-2 c κs =
+    let entry = c .before .before .before .before in
+    entry .pre
 
 returns : tie.Need-returns
 returns c = sym (ap packedOf (no-tag _ _ _ (c .if1 .taken)))
@@ -36,7 +40,11 @@ returns-8 : tie.Need-returns-8
 returns-8 c = c .required-string2 .ensures ∙ sym (ap packedOf (is-long _ _ _ (c .before .before .before .if1 .left) (c .before .match .keys7)))
 
 returns-9 : tie.Need-returns-9
-returns-9 c = sym (ap packedOf (is-unknown _ _ _ (c .before .before .if1 .left) _ refl (c .match .rest .0 .0 .0 .0 .0 .0 .1) (c .match .rest .0 .0 .0 .0 .0 .1) (c .match .rest .0 .0 .0 .0 .1) (c .match .rest .0 .0 .0 .1) (c .match .rest .0 .0 .1) (c .match .rest .0 .1) (c .match .rest .1)))
+returns-9 c =
+    sym (ap packedOf
+    (is-unknown _ _ _ (c .before .before .if1 .left) _ refl (c .match .rest .0 .0 .0 .0 .0 .0 .1)
+    (c .match .rest .0 .0 .0 .0 .0 .1) (c .match .rest .0 .0 .0 .0 .1) (c .match .rest .0 .0 .0 .1)
+    (c .match .rest .0 .0 .1) (c .match .rest .0 .1) (c .match .rest .1)))
 
 pub packed-at-spec : {M : Type 1} → statement M
 packed-at-spec =

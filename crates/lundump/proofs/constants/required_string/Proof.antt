@@ -8,16 +8,24 @@ use Rattle.lundump.proofs.constants.required_string.Statement.{statemen
 use Rattle.lundump.proofs.constants.required_string.Tie as tie
 
 mul-t11 : tie.Need-mul-t11
-mul-t11 c = omega (arith, c .before .before .before .before .before .before .pre, text-inside _ _ _ _ _ (text-here _ _ _ (c .before .before .before .before .string-at .ensures) _ _ _ (c .before .before .s .given .1)))
+mul-t11 c =
+    let at-string-at = c .before .before .before .before in
+    let entry = at-string-at .before .before in
+    omega (arith, entry .pre, text-inside _ _ _ _ _ (text-here _ _ _ (at-string-at .string-at .ensures) _ _ _ (c .before .before .s .given .1)))
 
 add-t12 : tie.Need-add-t12
-add-t12 c = omega (arith, c .before .before .before .before .before .before .pre, text-inside _ _ _ _ _ (text-here _ _ _ (c .before .before .before .before .string-at .ensures) _ _ _ (c .before .before .s .given .1)))
+add-t12 c =
+    let at-string-at = c .before .before .before .before in
+    let entry = at-string-at .before .before in
+    omega (arith, entry .pre, text-inside _ _ _ _ _ (text-here _ _ _ (at-string-at .string-at .ensures) _ _ _ (c .before .before .s .given .1)))
 
 returns : tie.Need-returns
 returns c = sym (ap packedOf (absent-refused _ _ _ (c .before .before .string-at .ensures) _ (c .enum-told .given .1)))
 
 returns-2 : tie.Need-returns-2
-returns-2 c = rw (c .string-tag .ensures) (sym (ap packedOf (string-read _ _ _ (c .before .before .before .before .string-at .ensures) _ _ _ (c .before .before .s .given .1))))
+returns-2 c =
+    let at-string-at = c .before .before .before .before in
+    rw (c .string-tag .ensures) (sym (ap packedOf (string-read _ _ _ (at-string-at .string-at .ensures) _ _ _ (c .before .before .s .given .1))))
 
 returns-3 : tie.Need-returns-3
 returns-3 c = sym (ap packedOf (string-refused _ _ _ (c .before .before .before .string-at .ensures) _ (c .before .s2 .given .1)))

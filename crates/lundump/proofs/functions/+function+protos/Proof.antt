@@ -86,25 +86,32 @@ function-returns : (t : ℕ) → function-lts.Need-returns (
 )
     (function-at t) function.Post
 function-returns t c =
+    let at-value3 = c .before .before .before .before in
+    let at-position3 = at-value3 .before in
+    let at-value2 = at-position3 .before in
+    let at-position2 = at-value2 .before in
+    let at-position = at-position2 .before in
+    let at-names = at-position .before in
+    let at-value = at-names .before in
+    let at-lines = at-value .before in
+    let at-cursor = at-lines .before in
+    let at-protos = at-cursor .before in
+    let at-pass = at-protos .before in
+    let at-upvalues = at-pass .before in
+    let at-constants = at-upvalues .before in
+    let at-code = at-constants .before in
+    let at-head = at-code .before in
     joined _ _ _ _ _ _ _ _ _ _ _ _ _ _ _ _ _ _ _ _ _ _ _
-    (c .before .before .before .before .before .before .before .before .before .before .before .before .before
-    .before .before .before .before .before .head .ensures) (c .before .before .before .before .before .before
-    .before .before .before .before .before .before .before .before .before .before .before .code .ensures)
-    (c .before .before .before .before .before .before .before .before .before .before .before
-    .before .before .before .before .before .constants .ensures) (c .before .before .before .before .before
-    .before .before .before .before .before .before .before .before .before .before .upvalues .ensures)
-    (c .before .before .before .before .before .before .before .before .before
-    .before .before .before .before .before .pass .ensures) (c .before .before .before .before .before .before
-    .before .before .before .before .before .before .before .protos .ensures) (c .before .before .before
-    .before .before .before .before .before .before .before .before .before .cursor .ensures) (c .before
-    .before .before .before .before .before .before .before .before .before .before .lines .ensures)
-    (c .before .before .before .before .before .before .before .before .before .before .value .ensures)
-    (c .before .before .before .before .before .before .before .before .before .names .ensures)
-    (c .before .before .before .before .before .before .before .before .position .ensures)
-    (c .before .before .before .before .before .before .before .position2 .ensures)
-    (c .before .before .before .before .before .before .value2 .ensures)
-    (c .before .before .before .before .before .position3 .ensures)
-    (c .before .before .before .before .value3 .ensures) (c .before .before .before .position4 .ensures)
+    (at-head .head .ensures) (at-code .code .ensures)
+    (at-constants .constants .ensures) (at-upvalues .upvalues .ensures)
+    (at-pass .pass .ensures) (at-protos .protos .ensures) (at-cursor .cursor .ensures) (at-lines .lines .ensures)
+    (at-value .value .ensures)
+    (at-names .names .ensures)
+    (at-position .position .ensures)
+    (at-position2 .position2 .ensures)
+    (at-value2 .value2 .ensures)
+    (at-position3 .position3 .ensures)
+    (at-value3 .value3 .ensures) (c .before .before .before .position4 .ensures)
     (c .before .before .position5 .ensures) (c .before .value4 .ensures) (c .finish .ensures)
 
 function-protos-requires : (t : ℕ) → function-lts.Need-protos-requires (
@@ -134,7 +141,10 @@ function-protos-requires : (t : ℕ) → function-lts.Need-protos-requires (
   finish-reads.Learnt,
 )
     (function-at t) function.Post
-function-protos-requires t c κs = (omega (arith, c .before .before .before .before .before .before .pre .0), tt)
+function-protos-requires t c κs =
+    let at-constants = c .before .before in
+    let entry = at-constants .before .before .before .before in
+    (omega (arith, entry .pre .0), tt)
 
 protos-returns : (t : ℕ) → protos-lts.Need-returns (
   int-reads.Asked,
@@ -164,7 +174,9 @@ protos-returns-2 : (t : ℕ) → protos-lts.Need-returns-2 (
   function.Post,
 )
     (protos-at t) protos.Post protos-Inv-loop protos-μ-loop
-protos-returns-2 t c = flat _ _ _ _ _ _ (c .before .before .before .before .before .int .ensures) (c .before .before .before .count .given .1) _ (c .before .if1 .taken) (c .if2 .taken)
+protos-returns-2 t c =
+    let at-int = c .before .before .before .before .before in
+    flat _ _ _ _ _ _ (at-int .int .ensures) (c .before .before .before .count .given .1) _ (c .before .if1 .taken) (c .if2 .taken)
 
 protos-returns-3 : (t : ℕ) → protos-lts.Need-returns-3 (
   int-reads.Asked,
@@ -179,7 +191,9 @@ protos-returns-3 : (t : ℕ) → protos-lts.Need-returns-3 (
   function.Post,
 )
     (protos-at t) protos.Post protos-Inv-loop protos-μ-loop
-protos-returns-3 t c = too-deep _ _ _ _ _ _ (c .before .before .before .before .before .int .ensures) (c .before .before .before .count .given .1) _ (c .before .if1 .taken) (c .if2 .left)
+protos-returns-3 t c =
+    let at-int = c .before .before .before .before .before in
+    too-deep _ _ _ _ _ _ (at-int .int .ensures) (c .before .before .before .count .given .1) _ (c .before .if1 .taken) (c .if2 .left)
 
 protos-loop-holds : (t : ℕ) → protos-lts.Need-loop-holds (
   int-reads.Asked,
@@ -209,7 +223,13 @@ protos-returns-4 : (t : ℕ) → protos-lts.Need-returns-4 (
   function.Post,
 )
     (protos-at t) protos.Post protos-Inv-loop protos-μ-loop
-protos-returns-4 t c = stopped-stays _ _ _ _ _ (c .enum-told3 .given .1) ∙ sym (c .before .before .before .loop .inv .1) ∙ (deeper _ _ _ _ _ _ (c .before .before .before .before .before .before .before .before .int .ensures) (c .before .before .before .before .before .before .count .given .1) _ _ (level-less _ (c .before .before .before .before .if1 .left)))
+protos-returns-4 t c =
+    let at-if1 = c .before .before .before .before in
+    let at-count = at-if1 .before .before in
+    let at-int = at-count .before .before in
+    stopped-stays _ _ _ _ _ (c .enum-told3 .given .1) ∙ sym (c .before .before .before .loop .inv .1)
+    ∙ (deeper _ _ _ _ _ _ (at-int .int .ensures) (at-count .count .given .1) _ _
+    (level-less _ (at-if1 .if1 .left)))
 
 protos-sub-function : (t : ℕ) → protos-lts.Need-sub-function (
   int-reads.Asked,
@@ -239,7 +259,12 @@ protos-function-requires : (t : ℕ) → protos-lts.Need-function-requires (
   function.Post,
 )
     (protos-at t) protos.Post protos-Inv-loop protos-μ-loop
-protos-function-requires t c κs = (omega (arith, c .before .before .before .before .before .before .before .before .before .before .before .before .pre .0, c .before .before .before .before .before .before .if1 .left), tt)
+protos-function-requires t c κs =
+    let turn = c .before .before .before .before .before in
+    let at-if1 = turn .before in
+    let at-count = at-if1 .before .before in
+    let entry = at-count .before .before .before .before in
+    (omega (arith, entry .pre .0, at-if1 .if1 .left), tt)
 
 protos-loop-again : (t : ℕ) → protos-lts.Need-loop-again (
   int-reads.Asked,
@@ -254,15 +279,15 @@ protos-loop-again : (t : ℕ) → protos-lts.Need-loop-again (
   function.Post,
 )
     (protos-at t) protos.Post protos-Inv-loop protos-μ-loop
-protos-loop-again t c = (
-  omega arith,
-  c .before .before .before .before .before .before .loop .inv .1
-      ∙ (rw (one-left (c .before .before .before .before .before .before .before .before .before
-      .count .given .0 .1 .0) (c .before .before .before .before .before .before .loop .i)
-      (c .before .before .before .before .before .loop-test .taken))
-      (one-function _ _ _ _ _ _ _ (c .before .before .cursor .ensures) (c .before .standing .ensures)
-      (c .function .ensures))),
-)
+protos-loop-again t c =
+    let at-loop-test = c .before .before .before .before .before in
+    let turn = at-loop-test .before in
+    let at-count = turn .before .before .before in (
+      omega arith,
+      turn .loop .inv .1 ∙ (rw (one-left (at-count .count .given .0 .1 .0) (turn .loop .i) (at-loop-test .loop-test .taken))
+          (one-function _ _ _ _ _ _ _ (c .before .before .cursor .ensures) (c .before .standing .ensures)
+          (c .function .ensures))),
+    )
 
 protos-returns-5 : (t : ℕ) → protos-lts.Need-returns-5 (
   int-reads.Asked,
@@ -278,8 +303,11 @@ protos-returns-5 : (t : ℕ) → protos-lts.Need-returns-5 (
 )
     (protos-at t) protos.Post protos-Inv-loop protos-μ-loop
 protos-returns-5 t c =
-    let e : c .before .before .before .before .count .given .0 .1 .0 - c .before .loop .i ≡ 0 = omega arith in
-    sym ((rw e at (c .before .loop .inv .1)) ∙ no-function _ _ _) ∙ (deeper _ _ _ _ _ _ (c .before .before .before .before .before .before .int .ensures) (c .before .before .before .before .count .given .1) _ _ (level-less _ (c .before .before .if1 .left)))
+    let at-count = c .before .before .before .before in
+    let at-int = at-count .before .before in
+    let e : at-count .count .given .0 .1 .0 - c .before .loop .i ≡ 0 = omega arith in
+    sym ((rw e at (c .before .loop .inv .1)) ∙ no-function _ _ _) ∙ (deeper _ _ _ _ _ _ (at-int .int .ensures)
+    (at-count .count .given .1) _ _ (level-less _ (c .before .before .if1 .left)))
 
 pub +function+protos-spec : {M : Type 1} → statement M
 +function+protos-spec = close μ-function μ-protos (λ t. function-lts.spec (
@@ -312,7 +340,9 @@ pub +function+protos-spec : {M : Type 1} → statement M
     (λ c κs. search needs) (λ c κs. search needs) (λ c κs. search needs) (λ c κs. search needs) (λ c κs. search needs)
     (function-protos-requires t)
     (λ c κs. search needs) (λ c κs. search needs) (λ c κs. search needs) (λ c κs. search needs)
-    (λ c κs. search needs) (λ c κs. search needs) (λ c κs. search needs) (λ c κs. search needs) (λ c κs. search needs) (λ c κs. search needs) (λ c κs. search needs) (λ c κs. search needs) (λ c κs. search needs)
+    (λ c κs. search needs) (λ c κs. search needs) (λ c κs. search needs) (λ c κs. search needs)
+    (λ c κs. search needs) (λ c κs. search needs) (λ c κs. search needs) (λ c κs. search needs)
+    (λ c κs. search needs)
     (function-returns t))
     λ t. protos-lts.spec (
       int-reads.Asked,

@@ -12,10 +12,16 @@ unfolding loadItems
 returns c = stopped same length _ _ _ _ _ _ (c .before .before .int .ensures) (c .enum-told .given .1)
 
 returns-2 : tie.Need-returns-2
-returns-2 c = items-over _ _ _ _ _ (c .before .before .before .before .int .ensures) (c .before .before .count .given .1) _ _ (c .if1 .taken)
+returns-2 c =
+    let at-int = c .before .before .before .before in
+    items-over _ _ _ _ _ (at-int .int .ensures) (c .before .before .count .given .1) _ _ (c .if1 .taken)
 
 returns-3 : tie.Need-returns-3
-returns-3 c = items-done _ _ _ _ _ (c .before .before .before .before .before .before .int .ensures) (c .before .before .before .before .count .given .1) _ _ _ _ (c .before .before .if1 .left) (c .before .items .ensures) (c .with-value .ensures)
+returns-3 c =
+    let at-count = c .before .before .before .before in
+    let at-int = at-count .before .before in
+    items-done _ _ _ _ _ (at-int .int .ensures) (at-count .count .given .1) _ _ _ _
+    (c .before .before .if1 .left) (c .before .items .ensures) (c .with-value .ensures)
 
 pub counted-spec : {M : Type 1} → statement M
 counted-spec =

@@ -21,13 +21,19 @@ returns : tie.Need-returns Inv-loop μ-loop
 returns c = rw (c .before .before .loop .inv .1, ended _ _ _ (c .before .loop-test .taken) (c .if1 .taken))
 
 returns-2 : tie.Need-returns-2 Inv-loop μ-loop
-returns-2 c = rw (c .before .before .before .before .before .loop .inv .1, differs _ _ _ (c .before .before .before .before .loop-test .taken) (c .before .before .before .if1 .left) (c .if2 .taken))
+returns-2 c =
+    let at-loop-test = c .before .before .before .before in
+    let turn = at-loop-test .before in
+    rw (turn .loop .inv .1, differs _ _ _ (at-loop-test .loop-test .taken) (c .before .before .before .if1 .left) (c .if2 .taken))
 
 loop-less : tie.Need-loop-less Inv-loop μ-loop
 loop-less c = omega arith
 
 loop-again : tie.Need-loop-again Inv-loop μ-loop
-loop-again c = (omega arith, c .before .before .before .before .before .loop .inv .1 ∙ agrees _ _ _ (c .before .before .before .before .loop-test .taken) (c .before .before .before .if1 .left) (c .if2 .left))
+loop-again c =
+    let at-loop-test = c .before .before .before .before in
+    let turn = at-loop-test .before in
+    (omega arith, turn .loop .inv .1 ∙ agrees _ _ _ (at-loop-test .loop-test .taken) (c .before .before .before .if1 .left) (c .if2 .left))
 
 returns-3 : tie.Need-returns-3 Inv-loop μ-loop
 returns-3 c = rw (c .before .loop .inv .1, all-same _ _ _ (c .loop-test .left))

@@ -3,7 +3,9 @@ use Rattle.lundump.proofs.locating.located_counts.Statement.{statement}
 use Rattle.lundump.proofs.locating.located_counts.Tie as tie
 
 returns : tie.Need-returns
-returns c = rw (c .before .before .before .before .w .given .1, c .before .s .given .1)
+returns c =
+    let at-w = c .before .before .before .before in
+    rw (at-w .w .given .1, c .before .s .given .1)
 
 returns-2 : tie.Need-returns-2
 returns-2 c = rw (c .before .before .before .w .given .1, c .enum-told .given .1)

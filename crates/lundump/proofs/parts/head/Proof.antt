@@ -8,8 +8,10 @@ use Rattle.lundump.proofs.parts.head.Tie as tie
 returns : tie.Need-returns
 unfolding loadHead
 returns c =
-    follows none same _ _ _ _ _ _ (c .before .before .before .before .before .string .ensures)
-    (follows same same _ _ _ _ _ _ (c .before .before .before .before .int .ensures)
+    let at-int = c .before .before .before .before in
+    let at-string = at-int .before in
+    follows none same _ _ _ _ _ _ (at-string .string .ensures)
+    (follows same same _ _ _ _ _ _ (at-int .int .ensures)
     (follows same same _ _ _ _ _ _ (c .before .before .before .int2 .ensures)
     (follows same same _ _ _ _ _ _ (c .before .before .byte .ensures)
     (follows same same _ _ _ _ _ _ (c .before .byte2 .ensures) (c .byte3 .ensures)))))

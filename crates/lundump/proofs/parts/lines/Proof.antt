@@ -8,7 +8,9 @@ use Rattle.lundump.proofs.parts.lines.Tie as tie
 
 returns : tie.Need-returns
 unfolding loadLines
-returns c = follows countOf length _ _ _ _ _ _ (c .before .before .vector .ensures) (follows length length _ _ _ _ _ _ (c .before .counted .ensures) (c .counted2 .ensures))
+returns c =
+    follows countOf length _ _ _ _ _ _ (c .before .before .vector .ensures)
+    (follows length length _ _ _ _ _ _ (c .before .counted .ensures) (c .counted2 .ensures))
 
 pub lines-spec : {M : Type 1} → statement M
 lines-spec = tie.close (tie.spec (λ c κs. search needs) (λ c κs. search needs) (λ c κs. search needs) returns)

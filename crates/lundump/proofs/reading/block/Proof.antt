@@ -16,25 +16,28 @@ returns c = stays none (loadBlock _) _ _ _ (c .enum-told .given .1)
 returns-2 : tie.Need-returns-2
 unfolding loadBlock
 returns-2 c =
+    let entry = c .before .before .before .before .before in
     let at = c .before .before .before .c .given .0 .0 in
-    let n = c .before .before .before .before .before .args .size in
-    let l = length (now (c .before .before .before .before .before .args .chunk)) in
+    let n = entry .args .size in
+    let l = length (now (entry .args .chunk)) in
     moves none (loadBlock _) _ _ at _ _ (c .before .before .before .c .given .1) (rw (le-leb (at + n) l (omega arith)))
 
 returns-3 : tie.Need-returns-3
 unfolding loadBlock
 returns-3 c =
+    let entry = c .before .before .before .before .before in
     let at = c .before .before .before .c .given .0 .0 in
-    let n = c .before .before .before .before .before .args .size in
-    let l = length (now (c .before .before .before .before .before .args .chunk)) in
+    let n = entry .args .size in
+    let l = length (now (entry .args .chunk)) in
     moves none (loadBlock _) _ _ at _ _ (c .before .before .before .c .given .1) (rw (lt-leb (at + n) l (omega arith)))
 
 returns-4 : tie.Need-returns-4
 unfolding loadBlock
 returns-4 c =
+    let entry = c .before .before .before .before in
     let at = c .before .before .c .given .0 .0 in
-    let n = c .before .before .before .before .args .size in
-    let l = length (now (c .before .before .before .before .args .chunk)) in
+    let n = entry .args .size in
+    let l = length (now (entry .args .chunk)) in
     moves none (loadBlock _) _ _ at _ _ (c .before .before .c .given .1) (rw (lt-leb (at + n) l (omega arith)))
 
 pub block-spec : {M : Type 1} → statement M

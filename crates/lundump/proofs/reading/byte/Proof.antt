@@ -11,7 +11,9 @@ returns c = stays same loadByte _ _ _ (c .enum-told .given .1)
 
 returns-2 : tie.Need-returns-2
 unfolding loadByte
-returns-2 c = moves same loadByte _ _ _ _ _ (c .before .before .before .before .c .given .1) (rw (lt-ltb _ _ (c .before .before .if1 .taken), c .wide .ensures))
+returns-2 c =
+    let at-c = c .before .before .before .before in
+    moves same loadByte _ _ _ _ _ (at-c .c .given .1) (rw (lt-ltb _ _ (c .before .before .if1 .taken), c .wide .ensures))
 
 returns-3 : tie.Need-returns-3
 unfolding loadByte

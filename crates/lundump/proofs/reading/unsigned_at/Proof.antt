@@ -19,24 +19,36 @@ unfolding loadUnsigned
 loop-holds c = refl
 
 returns : tie.Need-returns Inv-loop μ-loop
-returns c = rw (c .before .before .before .before .loop .inv, over _ _ _ _ (c .before .before .before .loop-test .taken) (c .if1 .taken))
+returns c =
+    let turn = c .before .before .before .before in
+    rw (turn .loop .inv, over _ _ _ _ (c .before .before .before .loop-test .taken) (c .if1 .taken))
 
 mul-x : tie.Need-mul-x Inv-loop μ-loop
-mul-x c = omega (arith, room (c .before .before .before .before .before .before .args .limit) (c .before .before .before .before .loop .x) 0 (c .if1 .left))
+mul-x c =
+    let turn = c .before .before .before .before in
+    let entry = turn .before .before in
+    omega (arith, room (entry .args .limit) (turn .loop .x) 0 (c .if1 .left))
 
 add-x : tie.Need-add-x Inv-loop μ-loop
-add-x c = omega (arith, room (c .before .before .before .before .before .before .args .limit) (c .before .before .before .before .loop .x) (c .before .wide .result) (c .if1 .left))
+add-x c =
+    let turn = c .before .before .before .before in
+    let entry = turn .before .before in
+    omega (arith, room (entry .args .limit) (turn .loop .x) (c .before .wide .result) (c .if1 .left))
 
 returns-2 : tie.Need-returns-2 Inv-loop μ-loop
 returns-2 c =
-    rw (c .before .before .before .before .before .loop .inv, last _ _ _ _ (c .before .before .before .before .loop-test .taken) _ (c .before .before .wide .ensures) (c .before .if1 .left) (c .if2 .taken))
+    let at-loop-test = c .before .before .before .before in
+    let turn = at-loop-test .before in
+    rw (turn .loop .inv, last _ _ _ _ (at-loop-test .loop-test .taken) _ (c .before .before .wide .ensures) (c .before .if1 .left) (c .if2 .taken))
 
 loop-less : tie.Need-loop-less Inv-loop μ-loop
 loop-less c = omega arith
 
 loop-again : tie.Need-loop-again Inv-loop μ-loop
 loop-again c =
-    c .before .before .before .before .before .loop .inv ∙ more _ _ _ _ (c .before .before .before .before .loop-test .taken) _ (c .before .before .wide .ensures) (c .before .if1 .left) (c .if2 .left)
+    let at-loop-test = c .before .before .before .before in
+    let turn = at-loop-test .before in
+    turn .loop .inv ∙ more _ _ _ _ (at-loop-test .loop-test .taken) _ (c .before .before .wide .ensures) (c .before .if1 .left) (c .if2 .left)
 
 returns-3 : tie.Need-returns-3 Inv-loop μ-loop
 returns-3 c = rw (c .before .loop .inv, past-end _ _ _ _ (c .loop-test .left))

@@ -7,10 +7,14 @@ use Rattle.lundump.proofs.strings.name_at.Statement.{statement}
 use Rattle.lundump.proofs.strings.name_at.Tie as tie
 
 mul-t10 : tie.Need-mul-t10
-mul-t10 c = omega (arith, c .before .before .before .before .before .pre, text-inside _ _ _ _ _ (text-here _ _ _ (c .before .before .before .string-at .ensures) _ _ _ (c .before .s2 .given .1)))
+mul-t10 c =
+    let entry = c .before .before .before .before .before in
+    omega (arith, entry .pre, text-inside _ _ _ _ _ (text-here _ _ _ (c .before .before .before .string-at .ensures) _ _ _ (c .before .s2 .given .1)))
 
 add-t11 : tie.Need-add-t11
-add-t11 c = omega (arith, c .before .before .before .before .before .pre, text-inside _ _ _ _ _ (text-here _ _ _ (c .before .before .before .string-at .ensures) _ _ _ (c .before .s2 .given .1)))
+add-t11 c =
+    let entry = c .before .before .before .before .before in
+    omega (arith, entry .pre, text-inside _ _ _ _ _ (text-here _ _ _ (c .before .before .before .string-at .ensures) _ _ _ (c .before .s2 .given .1)))
 
 returns : tie.Need-returns
 returns c = sym (ap placedOf (absent-here _ _ _ (c .before .before .before .string-at .ensures) _ (c .before .s .given .1)))

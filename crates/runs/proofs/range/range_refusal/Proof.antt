@@ -30,7 +30,8 @@ returns-2 : tie.Need-returns-2
 returns-2 c =
     let t = c .before in
     let p = t .before .before in
-    range-high _ _ (sym (p .before .refuses-weights .ensures) ∙ p .if1 .left) (c .weights-place2 .ensures) (sym (t .before .refuses-weights2 .ensures) ∙ t .if2 .taken)
+    range-high _ _ (sym (p .before .refuses-weights .ensures) ∙ p .if1 .left) (c .weights-place2 .ensures)
+    (sym (t .before .refuses-weights2 .ensures) ∙ t .if2 .taken)
 
 pub range-refusal-spec : {M : Type 1} → statement M
 range-refusal-spec =
@@ -44,5 +45,9 @@ range-refusal-spec =
     returns-2
     (λ c κs. counts c)
     (λ c κs. counts (c .before .before))
-    (λ c. let a = c .before .before in let k = a .before in range-above _ _ (low-weighs k) (high-weighs k) (c .lowest-above .ensures) (sym (a .has-above .ensures) ∙ c .before .if3 .taken))
+    (λ c.
+    let a = c .before .before in
+    let k = a .before in
+    range-above _ _ (low-weighs k) (high-weighs k) (c .lowest-above .ensures)
+    (sym (a .has-above .ensures) ∙ c .before .if3 .taken))
     (λ c. let a = c .before in let k = a .before in range-passed _ _ (low-weighs k) (high-weighs k) (sym (a .has-above .ensures) ∙ c .if3 .left)))
