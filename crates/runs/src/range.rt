@@ -1,6 +1,5 @@
 // The longest run by a lowest and by a highest weight for every opcode (request C-18).
 ghost use mathlib.Core.Path.{_≡_};
-ghost use lib.Dec.{ltb};
 ghost use lib.ListN.{length};
 ghost use Rattle.runs.specs.Weights.{weightCount};
 ghost use Rattle.runs.specs.Script.{scriptOf};
@@ -8,6 +7,7 @@ ghost use Rattle.sweep.specs.SearchInvariants.{Lent};
 ghost use Rattle.runs.specs.Range.{
   lowestAbove,
   rangeRefusal,
+  refusesRange,
   runsOf,
   marksAfterBoth,
   lengthsAfterBoth,
@@ -41,21 +41,38 @@ pub enum RunRange {
     },
 }
 
-// Whether a low weight is above its high one. It looks at all of them, so that the compiler takes many at a
-// time.
-fn has_above(low: &[u8], high: &[u8]) -> bool
+// Whether 18 or 19 refuses two tables of 128 weights: a low weight is 0 or above its high one. Where none is,
+// no high weight is 0 either, so that one look at both is enough. It looks at all of them, so that the
+// compiler takes many at a time.
+fn has_refused(low: &[u8], high: &[u8]) -> bool
     requires { ⌜ (length (now low) ≡ weightCount) × (length (now high) ≡ weightCount) ⌝ }
-    ensures { λ r. ⌜ r ≡ ltb (lowestAbove (now (low .entry)) (now (high .entry))) weightCount ⌝ }
+    ensures { λ r. ⌜ r ≡ refusesRange (now (low .entry)) (now (high .entry)) ⌝ }
 {
-    let mut above = false;
+    let mut refused = false;
     let mut i = 0;
     while i < WEIGHTS {
+        if low[i] == 0 {
+            refused = true;
+        }
         if low[i] > high[i] {
-            above = true;
+            refused = true;
         }
         i += 1;
     }
-    above
+    refused
+}
+
+// Whether 18 or 19 refuses the tables.
+fn refuses_range(low: &[u8], high: &[u8]) -> bool
+    ensures { λ r. ⌜ r ≡ refusesRange (now (low .entry)) (now (high .entry)) ⌝ }
+{
+    if low.len() != WEIGHTS {
+        return true;
+    }
+    if high.len() != WEIGHTS {
+        return true;
+    }
+    has_refused(low, high)
 }
 
 // The lowest opcode whose low weight is above its high one, or the count.
@@ -73,23 +90,24 @@ fn lowest_above(low: &[u8], high: &[u8]) -> usize
     i
 }
 
-// Numbers 18, of the low table and of the high one, and 19.
+// Numbers 18, of the low table and of the high one, and 19. Which of them it is, is asked of refused tables
+// alone.
 fn range_refusal(low: &[u8], high: &[u8]) -> Answer
     ensures { λ r. ⌜ r ≡ rangeRefusal (now (low .entry)) (now (high .entry)) ⌝ }
 {
-    if refuses_weights(low) {
-        return Answer {
-            number: WEIGHTS_REFUSED,
-            place: weights_place(low),
-        };
-    }
-    if refuses_weights(high) {
-        return Answer {
-            number: WEIGHTS_REFUSED,
-            place: weights_place(high),
-        };
-    }
-    if has_above(low, high) {
+    if refuses_range(low, high) {
+        if refuses_weights(low) {
+            return Answer {
+                number: WEIGHTS_REFUSED,
+                place: weights_place(low),
+            };
+        }
+        if refuses_weights(high) {
+            return Answer {
+                number: WEIGHTS_REFUSED,
+                place: weights_place(high),
+            };
+        }
         return Answer {
             number: LOW_ABOVE_HIGH,
             place: lowest_above(low, high),

@@ -163,13 +163,13 @@ fn raise(marks: &[u8], lengths: &mut [u32], p: usize, weight: u32, above: u32) -
 {
     let byte = marks[p];
     if byte < KEPT_TARGET {
+        if KEPT_NEXT <= byte {
+            return above + weight;
+        }
         if byte == 0 {
             return 0;
         }
-        if byte < KEPT_NEXT {
-            return weight;
-        }
-        return above + weight;
+        return weight;
     }
     let target = (byte % KEPT_NEXT) as u32 * SHARE + lengths[p] % SHARE;
     lengths[p] = 0;

@@ -4,34 +4,44 @@ use borrow.Author.Needs.{needs}
 use lib.ListN.{length}
 use Rattle.runs.specs.Weights.{weightCount, refusesWeights}
 use Rattle.runs.proofs.Weights.{weight-laws}
-use Rattle.runs.proofs.BothTables.{range-low, range-high, range-above, range-passed}
+use Rattle.runs.proofs.BothTables.{ranges-of, refusing-left, range-low, range-high, range-above, range-passed}
 use Rattle.runs.proofs.range.range_refusal.Statement.{statement}
 use Rattle.runs.proofs.range.range_refusal.Tie as tie
 
--- both tables weigh
+-- refused, and not for the low table
 module _ (c : tie.Else2) where
-  abbrev passed : tie.Else1
-  passed = c .before .before
+  abbrev refused : tie.Then1
+  refused = c .before .before
 
   abbrev start : tie.Start
-  start = passed .before .before .before .before
+  start = refused .before .before .before .before
 
   low-weighs : refusesWeights (start .args .low .now) ≡ false
-  low-weighs = sym (passed .before .refuses-weights .ensures) ∙ passed .if1 .left
+  low-weighs = sym (c .before .refuses-weights .ensures) ∙ c .if2 .left
 
-  high-weighs : refusesWeights (start .args .high .now) ≡ false
-  high-weighs = sym (c .before .refuses-weights2 .ensures) ∙ c .if2 .left
+-- nor for the high one
+module _ (c : tie.Else3) where
+  abbrev passed : tie.Else2
+  passed = c .before .before
 
--- so that each has its count
-counts : (c : tie.Else2) → (length (start c .args .low .now) ≡ weightCount) × (length (start c .args .high .now) ≡ weightCount)
-counts c = (weight-laws (start c .args .low .now) (low-weighs c) .count, weight-laws (start c .args .high .now) (high-weighs c) .count)
+  high-weighs : refusesWeights (start passed .args .high .now) ≡ false
+  high-weighs = sym (c .before .refuses-weights2 .ensures) ∙ c .if3 .left
 
-returns-2 : tie.Need-returns-2
-returns-2 c =
-    let t = c .before in
-    let p = t .before .before in
-    range-high _ _ (sym (p .before .refuses-weights .ensures) ∙ p .if1 .left) (c .weights-place2 .ensures)
-    (sym (t .before .refuses-weights2 .ensures) ∙ t .if2 .taken)
+  counts : (length (start passed .args .low .now) ≡ weightCount) × (length (start passed .args .high .now) ≡ weightCount)
+  counts = (weight-laws (start passed .args .low .now) (low-weighs passed) .count, weight-laws (start passed .args .high .now) high-weighs .count)
+
+returns-3 : tie.Need-returns-3
+returns-3 c =
+    let k = c .before in
+    let r = refused (passed k) in
+    range-above _ _ (low-weighs (passed k)) (high-weighs k) (c .lowest-above .ensures)
+    (refusing-left _ _ (low-weighs (passed k)) (high-weighs k) (sym (r .before .refuses-range .ensures) ∙ r .if1 .taken))
+
+returns-4 : tie.Need-returns-4
+returns-4 c =
+    let s = c .before .before .before .before in
+    let g = ranges-of (s .args .low .now) (s .args .high .now) (sym (c .before .refuses-range .ensures) ∙ c .if1 .left) in
+    range-passed _ _ (g .low-weighs) (g .high-weighs) (g .ordered)
 
 pub range-refusal-spec : {M : Type 1} → statement M
 range-refusal-spec =
@@ -39,15 +49,11 @@ range-refusal-spec =
     (tie.spec
     (λ c κs. search needs)
     (λ c κs. search needs)
-    (λ c. range-low _ _ (c .weights-place .ensures) (sym (c .before .before .refuses-weights .ensures) ∙ c .before .if1 .taken))
+    (λ c κs. search needs)
+    (λ c. let t = c .before in range-low _ _ (c .weights-place .ensures) (sym (t .before .refuses-weights .ensures) ∙ t .if2 .taken))
     (λ c κs. search needs)
     (λ c κs. search needs)
-    returns-2
+    (λ c. let t = c .before in range-high _ _ (low-weighs (t .before .before)) (c .weights-place2 .ensures) (sym (t .before .refuses-weights2 .ensures) ∙ t .if3 .taken))
     (λ c κs. counts c)
-    (λ c κs. counts (c .before .before))
-    (λ c.
-    let a = c .before .before in
-    let k = a .before in
-    range-above _ _ (low-weighs k) (high-weighs k) (c .lowest-above .ensures)
-    (sym (a .has-above .ensures) ∙ c .before .if3 .taken))
-    (λ c. let a = c .before in let k = a .before in range-passed _ _ (low-weighs k) (high-weighs k) (sym (a .has-above .ensures) ∙ c .if3 .left)))
+    returns-3
+    returns-4)

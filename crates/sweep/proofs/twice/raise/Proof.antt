@@ -52,19 +52,19 @@ module _ (c : tie.After-beyond) where
 returns : tie.Need-returns
 returns c =
     let s = c .before .before .before .before .before in
-    (rises-none (m s) (l s) (p s) (s .args .above) (s .args .weight) (s .pre .0) (c .if2 .taken), same (l s) (p s))
+    (rises-next (m s) (l s) (p s) (s .args .above) (s .args .weight) (s .pre .0) (λ z. omega (arith, z, c .if2 .taken)) (c .if2 .taken) (c .before .if1 .taken), same (l s) (p s))
 
 returns-2 : tie.Need-returns-2
 returns-2 c =
     let at-if1 = c .before .before in
     let s = at-if1 .before .before .before .before in
-    (rises-stop (m s) (l s) (p s) (s .args .above) (s .args .weight) (s .pre .0) (c .before .if2 .left) (c .if3 .taken), same (l s) (p s))
+    (rises-none (m s) (l s) (p s) (s .args .above) (s .args .weight) (s .pre .0) (c .if3 .taken), same (l s) (p s))
 
 returns-3 : tie.Need-returns-3
 returns-3 c =
     let at-if1 = c .before .before in
     let s = at-if1 .before .before .before .before in
-    (rises-next (m s) (l s) (p s) (s .args .above) (s .args .weight) (s .pre .0) (c .before .if2 .left) (c .if3 .left) (at-if1 .if1 .taken), same (l s) (p s))
+    (rises-stop (m s) (l s) (p s) (s .args .above) (s .args .weight) (s .pre .0) (c .if3 .left) (c .before .if2 .left), same (l s) (p s))
 
 returns-4 : tie.Need-returns-4
 returns-4 c =
@@ -96,12 +96,9 @@ raise-spec =
     tie.close
     (tie.spec
     (λ c. c .before .before .before .pre .0 .in-m)
+    (λ c. let s = c .before .before .before .before .before in omega (arith, s .pre .1, under s))
     returns
     returns-2
-    (λ c.
-    let at-if1 = c .before .before in
-    let s = at-if1 .before .before .before .before in
-    omega (arith, s .pre .1, under s))
     returns-3
     (λ c. search needs)
     (λ c. search needs)
