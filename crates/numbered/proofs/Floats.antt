@@ -23,7 +23,9 @@ eq-self : (x : Float) → isNan x ≡ false → eq x x ≡ true
 unfolding eq isNan
 eq-self nan h = let z : _≡_ {A = ℕ} 0 1 = cc in absurd (omega arith)
 eq-self (inf s) h = beq-self s
-eq-self (fin s m e) h = level-self (Bool·beq s s) (eqb (m * up e * down e) (m * up e * down e)) (eqb (m * up e * down e) 0) (eq-eqb (m * up e * down e) _ refl) (beq-self s)
+eq-self (fin s m e) h =
+    level-self (Bool·beq s s) (eqb (m * up e * down e) (m * up e * down e)) (eqb (m * up e * down e) 0)
+    (eq-eqb (m * up e * down e) _ refl) (beq-self s)
 
 -- the bits of a number
 pub bits-of : (x : Float) → isNan x ≡ false → floatBits x ≡ toBits binary64 x
@@ -58,7 +60,8 @@ inf-number s = refl
 units-number : (f : Format) (s : Bool) (q k : ℕ) → isNan (units f s q k) ≡ false
 unfolding units
 units-number f s q k =
-    cond-number (ltb (q * 2 ^ k) (2 ^ (low f + suc (emax f)))) (odd (suc (prec f)) s q k (low f)) (inf s) (odd-number (suc (prec f)) s q k (low f)) (inf-number s)
+    cond-number (ltb (q * 2 ^ k) (2 ^ (low f + suc (emax f)))) (odd (suc (prec f)) s q k (low f)) (inf s)
+    (odd-number (suc (prec f)) s q k (low f)) (inf-number s)
 
 round-number : (f : Format) (s : Bool) (a b : ℕ) → isNan (round f s a b) ≡ false
 unfolding round

@@ -40,7 +40,9 @@ pick false x y p q a b = b
 
 module _ (payload : ℕ) (h : payload < 2 ^ 64) where
   span : spanNumber (spanOf payload .start) (spanOf payload .len) ≡ payload
-  span = ap (λ (high : ℕ). payload % 2 ^ 32 + high) (mul-comm (2 ^ 32) (payload / 2 ^ 32)) ∙ add-comm (payload % 2 ^ 32) (payload / 2 ^ 32 * 2 ^ 32) ∙ div-add-mod' payload (2 ^ 32)
+  span =
+      ap (λ (high : ℕ). payload % 2 ^ 32 + high) (mul-comm (2 ^ 32) (payload / 2 ^ 32))
+      ∙ add-comm (payload % 2 ^ 32) (payload / 2 ^ 32 * 2 ^ 32) ∙ div-add-mod' payload (2 ^ 32)
 
   signed-at : (t : Bool) → ofZ w64 (choose t (pos payload) (negsuc (2 ^ 64 - 1 - payload))) ≡ payload
   unfolding choose
@@ -89,7 +91,12 @@ name-at-kept names index h = pick-name _ _ _ (name-kept (getD names index 0) (h 
 module _ (words tags payloads names : List ℕ) (pc : ℕ) (hp : Slice64 payloads) (hn : Slice64 names) where
   operand-kept : (k : ℕ) (o : TypedOperand) → operandIn (liftOf words tags payloads names pc .operands .slots) k ≡ o
       → OperandKept words tags payloads names pc (flatOperand o)
-  operand-kept k (operand.Register index) e = record { constant = λ h. absurd (omega arith); upvalue = λ h. absurd (omega arith); float = λ h. absurd (omega arith) }
+  operand-kept k (operand.Register index) e =
+      record {
+        constant = λ h. absurd (omega arith);
+        upvalue = λ h. absurd (omega arith);
+        float = λ h. absurd (omega arith);
+      }
   operand-kept k (operand.Constant index value) e =
       record {
         constant = λ h. ap flatValue (sources words tags payloads names pc .constants k index value e) ∙ constant-kept tags payloads index hp;
@@ -102,18 +109,48 @@ module _ (words tags payloads names : List ℕ) (pc : ℕ) (hp : Slice64 payload
         upvalue = λ h. ap flatName (sources words tags payloads names pc .operand-names k index name e) ∙ name-at-kept names index hn;
         float = λ h. absurd (omega arith);
       }
-  operand-kept k (operand.Prototype index) e = record { constant = λ h. absurd (omega arith); upvalue = λ h. absurd (omega arith); float = λ h. absurd (omega arith) }
-  operand-kept k (operand.ImmediateInt value) e = record { constant = λ h. absurd (omega arith); upvalue = λ h. absurd (omega arith); float = λ h. absurd (omega arith) }
+  operand-kept k (operand.Prototype index) e =
+      record {
+        constant = λ h. absurd (omega arith);
+        upvalue = λ h. absurd (omega arith);
+        float = λ h. absurd (omega arith);
+      }
+  operand-kept k (operand.ImmediateInt value) e =
+      record {
+        constant = λ h. absurd (omega arith);
+        upvalue = λ h. absurd (omega arith);
+        float = λ h. absurd (omega arith);
+      }
   operand-kept k (operand.ImmediateFloat value) e =
       record {
         constant = λ h. absurd (omega arith);
         upvalue = λ h. absurd (omega arith);
         float = λ h. ap floatBits (sources words tags payloads names pc .floats k value e) ∙ bits-of (immediateFloat words pc) (integer-number _);
       }
-  operand-kept k (operand.Jump offset dest) e = record { constant = λ h. absurd (omega arith); upvalue = λ h. absurd (omega arith); float = λ h. absurd (omega arith) }
-  operand-kept k (operand.Count value variable) e = record { constant = λ h. absurd (omega arith); upvalue = λ h. absurd (omega arith); float = λ h. absurd (omega arith) }
-  operand-kept k (operand.Flag value) e = record { constant = λ h. absurd (omega arith); upvalue = λ h. absurd (omega arith); float = λ h. absurd (omega arith) }
-  operand-kept k (operand.ExtraArg value) e = record { constant = λ h. absurd (omega arith); upvalue = λ h. absurd (omega arith); float = λ h. absurd (omega arith) }
+  operand-kept k (operand.Jump offset dest) e =
+      record {
+        constant = λ h. absurd (omega arith);
+        upvalue = λ h. absurd (omega arith);
+        float = λ h. absurd (omega arith);
+      }
+  operand-kept k (operand.Count value variable) e =
+      record {
+        constant = λ h. absurd (omega arith);
+        upvalue = λ h. absurd (omega arith);
+        float = λ h. absurd (omega arith);
+      }
+  operand-kept k (operand.Flag value) e =
+      record {
+        constant = λ h. absurd (omega arith);
+        upvalue = λ h. absurd (omega arith);
+        float = λ h. absurd (omega arith);
+      }
+  operand-kept k (operand.ExtraArg value) e =
+      record {
+        constant = λ h. absurd (omega arith);
+        upvalue = λ h. absurd (omega arith);
+        float = λ h. absurd (omega arith);
+      }
 
 module _ (names : List ℕ) (hn : Slice64 names) where
   -- a target, by where its name comes from

@@ -26,7 +26,8 @@ use Rattle.survey.proofs.Columns.{length-head, length-tail, length-only
 length-done : (k : ℕ) (f : Function) (at : ℕ) → length (functionText k (done f at)) ≡ 24 + length (tailOf (runIn (f .words)))
 unfolding functionText
 length-done k f at =
-    length-append (lineHead k (countsOf (done f at))) (tailOf (runIn (f .words))) ∙ ap (λ (n : ℕ). n + length (tailOf (runIn (f .words)))) (length-head k (countsOf (done f at)))
+    length-append (lineHead k (countsOf (done f at))) (tailOf (runIn (f .words)))
+    ∙ ap (λ (n : ℕ). n + length (tailOf (runIn (f .words)))) (length-head k (countsOf (done f at)))
 
 length-refusal : (k : ℕ) (e : Refusal) → length (functionText k (refused e)) ≤ lineLength
 unfolding functionText

@@ -156,7 +156,11 @@ module _ (k : ℕ) (bytes : List ℕ) (table words : List ℕ) (c : Counts)
       ap (λ (x : Counts). lineHead k x ++ tailOf run) (g .counts)
       ∙ ap (λ (x : Run). lineHead k (countsOf (done (g .function) (g .at))) ++ tailOf x) (er ∙ ap runIn t)
       ∙ ap (functionText k) (sym (g .is)) in
-      let s : length (lineHead k c ++ tailOf run) ≡ 24 + length (tailOf run) = length-both (lineHead k c) (tailOf run) 24 (length (tailOf run)) (24 + length (tailOf run)) (length-head k c) refl refl in
+      let s : length (lineHead k c ++ tailOf run) ≡ 24 + length (tailOf run) =
+      length-both (lineHead k c) (tailOf run) 24 (length (tailOf run)) (24 + length (tailOf run))
+      (length-head k c) refl refl in
       let v = length-tail run in
-      let p : o′ ≡ put page 0 (lineHead k c ++ tailOf run) = put-laws .and-then page o o′ 0 24 (lineHead k c) (tailOf run) eo (length-head k c) (omega arith) eo′ in
+      let p : o′ ≡ put page 0 (lineHead k c ++ tailOf run) =
+      put-laws .and-then page o o′ 0 24 (lineHead k c) (tailOf run) eo (length-head k c) (omega arith)
+      eo′ in
       (ek ∙ sym s ∙ ap length m, p ∙ ap (put page 0) m)

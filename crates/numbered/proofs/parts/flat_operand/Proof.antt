@@ -26,12 +26,13 @@ returns-6 c = rw (c .new-slot6 .ensures, c .before .float-bits .ensures, c .befo
 
 returns-7 : tie.Need-returns-7
 returns-7 c =
+    let at-o7 = c .before .before .before .before in
     rw (
       c .new-slot7 .ensures,
       c .before .twos-complement2 .ensures,
       toZ-ofZ {w = w64} (sfits-of {w = w64} (c .before .before .widened .ok)),
       c .before .before .widened .ensures,
-      c .before .before .before .before .o7 .given .1,
+      at-o7 .o7 .given .1,
       toZ-ofZ {w = w32} (sfits-of {w = w32} (c .before .before .before .known-told7 .given .0 .1)),
     )
 
