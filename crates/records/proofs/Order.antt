@@ -528,7 +528,8 @@ module _ (n : ℕ) (tags payloads names : List ℕ) (bytes room : ℕ) where
         place-5 = λ h l.
             let few-names = le-ltb mostNames (length names) l in
             let e = sym (b .place-5 h few-names) in
-            let t : ltb (firstNamePast names bytes) (length names) ≡ true = ⊎-elim (λ d. absurd (true≢false (sym d ∙ few-names))) (λ d. d) (b .five .0 h .5) in (
+            let t : ltb (firstNamePast names bytes) (length names) ≡ true =
+            ⊎-elim (λ d. absurd (true≢false (sym d ∙ few-names))) (λ d. d) (b .five .0 h .5) in (
               subst (NamePastAt n tags payloads names bytes room) e (there (namePastAt names bytes)
                   (λ i. (getD names i 0 ≡ 2 ^ 64 - 1 → ⊥) × EndsPast bytes (getD names i 0)) named
                   (length names) t),
