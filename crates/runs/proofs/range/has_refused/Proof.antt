@@ -1,7 +1,7 @@
 use mathlib.Core.Path.{subst, sym}
 use mathlib.Core.Bool.{Bool}
 use mathlib.Core.Logic.{⊎-elim}
-use Prim.Native.Nat.{_+_, _-_, _<_}
+use Prim.Native.Nat.{_+_, _-_}
 use native.Mathlib.Omega.{arith}
 use Rattle.runs.specs.Weights.{weightCount}
 use Rattle.runs.proofs.BothTables.{Refusing, refusing-none, refusing-zero, refusing-positive, refusing-above, refusing-ordered, refusing-done}
@@ -22,19 +22,18 @@ loop-again : tie.Need-loop-again Inv-loop μ-loop
 loop-again c =
     let j = c .before .before .before in
     let t = j .before .before in
-    let l = t .before in
     let s = start t .args in
+    let i = t .before .loop .i in
     let h = t .loop-test .taken in
+    let z =
     ⊎-elim
-    (λ v. ⊎-elim
-    (λ w. subst (λ (b : Bool). Refusing (s .low .now) (s .high .now) (l .loop .i + 1) (l .loop .i + 1) b) (sym (w .1)) (refusing-above _ _ (refusing-zero _ _ (l .loop .inv) h (v .0 .taken)) h (w .0 .taken)))
-    (λ w. subst (λ (b : Bool). Refusing (s .low .now) (s .high .now) (l .loop .i + 1) (l .loop .i + 1) b) (sym (w .1)) (subst (λ (b : Bool). Refusing (s .low .now) (s .high .now) (l .loop .i + 1) (l .loop .i + 1) b) (sym (v .1)) (refusing-ordered _ _ (refusing-zero _ _ (l .loop .inv) h (v .0 .taken)) h (w .0 .left))))
-    (c .if2 .came))
-    (λ v. ⊎-elim
-    (λ w. subst (λ (b : Bool). Refusing (s .low .now) (s .high .now) (l .loop .i + 1) (l .loop .i + 1) b) (sym (w .1)) (refusing-above _ _ (refusing-positive _ _ (l .loop .inv) h (v .0 .left)) h (w .0 .taken)))
-    (λ w. subst (λ (b : Bool). Refusing (s .low .now) (s .high .now) (l .loop .i + 1) (l .loop .i + 1) b) (sym (w .1)) (subst (λ (b : Bool). Refusing (s .low .now) (s .high .now) (l .loop .i + 1) (l .loop .i + 1) b) (sym (v .1)) (refusing-ordered _ _ (refusing-positive _ _ (l .loop .inv) h (v .0 .left)) h (w .0 .left))))
-    (c .if2 .came))
-    (j .if1 .came)
+    (λ w. subst (λ (b : Bool). Refusing (s .low .now) (s .high .now) (i + 1) i b) (sym (w .1)) (refusing-zero _ _ (t .before .loop .inv) h (w .0 .taken)))
+    (λ w. subst (λ (b : Bool). Refusing (s .low .now) (s .high .now) (i + 1) i b) (sym (w .1)) (refusing-positive _ _ (t .before .loop .inv) h (w .0 .left)))
+    (j .if1 .came) in
+    ⊎-elim
+    (λ w. subst (λ (b : Bool). Refusing (s .low .now) (s .high .now) (i + 1) (i + 1) b) (sym (w .1)) (refusing-above _ _ z h (w .0 .taken)))
+    (λ w. subst (λ (b : Bool). Refusing (s .low .now) (s .high .now) (i + 1) (i + 1) b) (sym (w .1)) (refusing-ordered _ _ z h (w .0 .left)))
+    (c .if2 .came)
 
 pub has-refused-spec : {M : Type 1} → statement M
 has-refused-spec =

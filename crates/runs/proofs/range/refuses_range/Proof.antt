@@ -1,4 +1,3 @@
-use borrow.Author.Needs.{needs}
 use Rattle.runs.proofs.BothTables.{refusing-low, refusing-high}
 use Rattle.runs.proofs.range.refuses_range.Statement.{statement}
 use Rattle.runs.proofs.range.refuses_range.Tie as tie
