@@ -1,7 +1,9 @@
 // The pass that settles the steps of every word before the search begins (request C-12). It alone reads words
 // for their steps: what comes after goes by the entries that it leaves.
 ghost use mathlib.Core.Path.{_≡_};
+ghost use mathlib.Core.Bool.{false, cond};
 ghost use Prim.Native.Nat.{_≤_, _<_};
+ghost use lib.Dec.{eqb};
 ghost use lib.ListN.{length};
 ghost use Rattle.common.specs.Limits.{mostWords};
 ghost use Rattle.fields.specs.Table.{opcodeTable};
@@ -16,6 +18,17 @@ use fields::columns::*;
 use sweep::inner::entry_of;
 use sweep::inner::one_of;
 
+// Whether a word wants no companion and goes on to the next. Both columns are asked in one test, so that the
+// compiler puts no table of jumps before the most frequent words.
+fn goes_on(companion: u8, class: u8) -> bool
+    ensures { λ r. ⌜ r ≡ cond (eqb companion 0) (eqb class 0) false ⌝ }
+{
+    if companion == ALONE {
+        return class == FOLLOWING;
+    }
+    false
+}
+
 // The entry of word p, by a lent copy of the opcode table. The most frequent words come first, and each has
 // its own call, so that the compiler puts the call's answer into the loop.
 pub(crate) fn entry_in(table: &[u8; 512], words: &[u32], p: usize) -> u32
@@ -25,10 +38,10 @@ pub(crate) fn entry_in(table: &[u8; 512], words: &[u32], p: usize) -> u32
     let word = words[p];
     let companion = fields::lookup::companion_in(table, word);
     let class = fields::lookup::step_class_in(table, word);
+    if goes_on(companion, class) {
+        return entry_of(one_of(words.len(), p + 1), p);
+    }
     if companion == ALONE {
-        if class == FOLLOWING {
-            return entry_of(one_of(words.len(), p + 1), p);
-        }
         if class == JUMPING {
             return entry_of(jump(words.len(), word, p + 1), p);
         }

@@ -1,9 +1,12 @@
 -- `steps::settling::entry_in` meets its contract: each column by the table's rule. Assumes nothing.
 use Prim.Native.Nat.{ℕ, _<_}
 use mathlib.Core.Path.{_≡_, refl, ap, sym, subst, _∙_}
+use mathlib.Core.Bool.{Bool, true, false, cond, false≢true}
 use mathlib.Core.List.{List}
 use native.Mathlib.Omega.{arith}
+use lib.Dec.{eqb}
 use lib.ListN.{length, getD}
+use borrow.Author.Tests.{eqb-true}
 use borrow.Author.Needs.{needs}
 use Rattle.common.specs.Limits.{mostWords}
 use Rattle.sweep.specs.declared.edges.Successors.{Successors}
@@ -46,6 +49,14 @@ module _ (c : tie.After-step-class-in) where
     says : {v : ℕ} → Says v (start .args .p) s → Says v (start .args .p) (successorsOf words (start .args .p))
     says {v} y = subst (λ (x : Successors). Says v (start .args .p) x) e y
 
+-- both columns are 0
+both : (a b : ℕ) → cond (eqb a 0) (eqb b 0) false ≡ true → (a ≡ 0) × (b ≡ 0)
+both a b e = go (eqb a 0) refl e
+  where
+    go : (t : Bool) → eqb a 0 ≡ t → cond t (eqb b 0) false ≡ true → (a ≡ 0) × (b ≡ 0)
+    go true d e = (eqb-true a 0 d, eqb-true b 0 e)
+    go false d e = absurd (false≢true e)
+
 -- the steps in each row
 module _ (c : tie.After-one-of) where
   abbrev read1 : tie.After-step-class-in
@@ -53,19 +64,21 @@ module _ (c : tie.After-one-of) where
 
   is1 : c .one-of .result ≡ successorsOf (words read1) (start read1 .args .p)
   unfolding unless companionFrom classFrom
-  is1 = c .one-of .ensures ∙ by-numbers read1 0 0 (c .before .before .if1 .taken) (c .before .if2 .taken)
+  is1 =
+      let z = both _ _ (sym (c .before .before .goes-on .ensures) ∙ c .before .if1 .taken) in
+      c .one-of .ensures ∙ by-numbers read1 0 0 (z .0) (z .1)
 
 module _ (c : tie.After-jump) where
   abbrev read2 : tie.After-step-class-in
-  read2 = c .before .before .before .before
+  read2 = c .before .before .before .before .before
 
   is2 : c .jump .result ≡ successorsOf (words read2) (start read2 .args .p)
   unfolding unless companionFrom classFrom
-  is2 = c .jump .ensures ∙ by-numbers read2 0 5 (c .before .before .before .if1 .taken) (c .before .if3 .taken)
+  is2 = c .jump .ensures ∙ by-numbers read2 0 5 (c .before .before .if2 .taken) (c .before .if3 .taken)
 
 module _ (c : tie.After-test) where
   abbrev read3 : tie.After-step-class-in
-  read3 = c .before .before .before .before
+  read3 = c .before .before .before .before .before .before
 
   is3 : c .test .result ≡ successorsOf (words read3) (start read3 .args .p)
   unfolding companionFrom classFrom
@@ -73,7 +86,7 @@ module _ (c : tie.After-test) where
 
 module _ (c : tie.After-arithmetic) where
   abbrev read4 : tie.After-step-class-in
-  read4 = c .before .before .before .before .before
+  read4 = c .before .before .before .before .before .before .before
 
   is4 : c .arithmetic .result ≡ successorsOf (words read4) (start read4 .args .p)
   unfolding companionFrom classFrom
@@ -81,7 +94,7 @@ module _ (c : tie.After-arithmetic) where
 
 module _ (c : tie.After-metamethod) where
   abbrev read5 : tie.After-step-class-in
-  read5 = c .before .before .before .before .before
+  read5 = c .before .before .before .before .before .before .before
 
   is5 : c .metamethod .result ≡ successorsOf (words read5) (start read5 .args .p)
   unfolding companionFrom classFrom
@@ -89,7 +102,7 @@ module _ (c : tie.After-metamethod) where
 
 module _ (c : tie.After-successors-by) where
   abbrev read6 : tie.After-step-class-in
-  read6 = c .before .before .before .before
+  read6 = c .before .before .before .before .before .before
 
   is6 : c .successors-by .result ≡ successorsOf (words read6) (start read6 .args .p)
   is6 = c .successors-by .ensures ∙ by-numbers read6 _ _ refl refl
@@ -100,6 +113,7 @@ entry-in-spec =
     (tie.spec
     (λ c. search needs)
     (λ c. c .before .before .pre .2)
+    (λ c κs. search needs)
     (λ c κs. search needs)
     (λ c κs. search needs)
     (λ c. search needs)
