@@ -47,13 +47,25 @@ max-small x y h l = omega arith
 
 pub and-bit : (a b i : ℕ) → hasBit (bitAnd a b) i ≡ hasBit a i && hasBit b i
 unfolding hasBit
-and-bit a b zero = ap (λ (x : ℕ). eqb x 1) (low (bitAnd a b) (bitAnd (a / 2) (b / 2)) (min (a % 2) (b % 2)) (min-small (a % 2) (b % 2) (digit a)) (and-step a b)) ∙ both (a % 2) (b % 2) (digit a) (digit b)
-and-bit a b (suc i) = ap (λ (x : ℕ). hasBit x i) (half (bitAnd a b) (bitAnd (a / 2) (b / 2)) (min (a % 2) (b % 2)) (min-small (a % 2) (b % 2) (digit a)) (and-step a b)) ∙ and-bit (a / 2) (b / 2) i
+and-bit a b zero =
+    ap (λ (x : ℕ). eqb x 1) (low (bitAnd a b) (bitAnd (a / 2) (b / 2)) (min (a % 2) (b % 2))
+    (min-small (a % 2) (b % 2) (digit a)) (and-step a b))
+    ∙ both (a % 2) (b % 2) (digit a) (digit b)
+and-bit a b (suc i) =
+    ap (λ (x : ℕ). hasBit x i) (half (bitAnd a b) (bitAnd (a / 2) (b / 2)) (min (a % 2) (b % 2))
+    (min-small (a % 2) (b % 2) (digit a)) (and-step a b))
+    ∙ and-bit (a / 2) (b / 2) i
 
 pub or-bit : (a b i : ℕ) → hasBit (bitOr a b) i ≡ hasBit a i || hasBit b i
 unfolding hasBit
-or-bit a b zero = ap (λ (x : ℕ). eqb x 1) (low (bitOr a b) (bitOr (a / 2) (b / 2)) (max (a % 2) (b % 2)) (max-small (a % 2) (b % 2) (digit a) (digit b)) (or-step a b)) ∙ one (a % 2) (b % 2) (digit a) (digit b)
-or-bit a b (suc i) = ap (λ (x : ℕ). hasBit x i) (half (bitOr a b) (bitOr (a / 2) (b / 2)) (max (a % 2) (b % 2)) (max-small (a % 2) (b % 2) (digit a) (digit b)) (or-step a b)) ∙ or-bit (a / 2) (b / 2) i
+or-bit a b zero =
+    ap (λ (x : ℕ). eqb x 1) (low (bitOr a b) (bitOr (a / 2) (b / 2)) (max (a % 2) (b % 2))
+    (max-small (a % 2) (b % 2) (digit a) (digit b)) (or-step a b))
+    ∙ one (a % 2) (b % 2) (digit a) (digit b)
+or-bit a b (suc i) =
+    ap (λ (x : ℕ). hasBit x i) (half (bitOr a b) (bitOr (a / 2) (b / 2)) (max (a % 2) (b % 2))
+    (max-small (a % 2) (b % 2) (digit a) (digit b)) (or-step a b))
+    ∙ or-bit (a / 2) (b / 2) i
 
 pub zero-bit : (i : ℕ) → hasBit 0 i ≡ false
 unfolding hasBit

@@ -55,13 +55,18 @@ module _ (ws : List ℕ) where
 
   module _ {r : ℕ} {unset waiting pages : List ℕ} {limit : ℕ} {seen : Seen} (s : BlockSearched ws r unset waiting pages limit seen) where
     mark-is : (p : ℕ) → p < length ws → marked unset p ≡ markOf g p
-    mark-is p h = ⊎-elim (λ e. ap (λ (b : Bool). cond b 0 1) (eq-eqb (getD unset p 0) 0 e) ∙ sym (nowhere e)) (λ n. ap (λ (b : Bool). cond b 0 1) (ne-eqb (getD unset p 0) 0 n) ∙ sym (somewhere n)) (same-or-not (getD unset p 0) 0)
+    mark-is p h =
+        ⊎-elim (λ e. ap (λ (b : Bool). cond b 0 1) (eq-eqb (getD unset p 0) 0 e) ∙ sym (nowhere e))
+        (λ n. ap (λ (b : Bool). cond b 0 1) (ne-eqb (getD unset p 0) 0 n) ∙ sym (somewhere n))
+        (same-or-not (getD unset p 0) 0)
       where
         nowhere : getD unset p 0 ≡ 0 → markOf g p ≡ 0
         nowhere e =
             ⊎-elim
             (λ z. z)
-            (λ z. absurd (false≢true (sym (zero-bit 63) ∙ ap (λ (x : ℕ). hasBit x 63) (sym e) ∙ complete ws r s 63 (omega arith) p (reached-cut r p (graph.laws .marking g (law ws) .reachable p h z)))))
+            (λ z. absurd
+            (false≢true (sym (zero-bit 63) ∙ ap (λ (x : ℕ). hasBit x 63) (sym e) ∙ complete ws r s 63
+            (omega arith) p (reached-cut r p (graph.laws .marking g (law ws) .reachable p h z)))))
             (bit (graph.laws .marking g (law ws) .bit p))
 
         somewhere : (getD unset p 0 ≡ 0 → ⊥) → markOf g p ≡ 1
@@ -86,7 +91,9 @@ module _ (ws : List ℕ) where
     -- no bad word was seen
     pub none-bad : seen .bad ≡ false → lowestInvalid (lua54 ws) ≡ length ws
     unfolding lowestInvalid
-    none-bad e = sym (lowest-laws .nowhere (reachesInvalid (lua54 ws)) (length ws) (λ p h. go p h (eqb (markOf g p) 1) refl (isInvalid (successorsOf ws p)) refl))
+    none-bad e =
+        sym (lowest-laws .nowhere (reachesInvalid (lua54 ws)) (length ws)
+        (λ p h. go p h (eqb (markOf g p) 1) refl (isInvalid (successorsOf ws p)) refl))
       where
         go : (p : ℕ) → p < length ws → (a : Bool) → eqb (markOf g p) 1 ≡ a → (b : Bool) → isInvalid (successorsOf ws p) ≡ b → a && b ≡ false
         go p h true d true f = absurd (false≢true (sym e ∙ seen-of p (graph.laws .marking g (law ws) .reachable p h (eqb-true _ 1 d)) .bad-seen f))
@@ -123,7 +130,9 @@ module _ (ws : List ℕ) where
       of-hits p h x =
           let i = x .bit in
           let m = graph.laws .marking (graphAt ws r i) (cut-law ws r i) .one p (s .under .sound p h i (omega (arith, x .few)) (x .unset)) in
-          let e : eqb (markOf (cut g (λ y z. usageOf ws .sets y z (r + i))) p) 1 ≡ true = ap (λ (y : Graph). eqb (markOf y p) 1) (sym (graph-is i (x .few))) ∙ eq-eqb _ 1 m in
+          let e : eqb (markOf (cut g (λ y z. usageOf ws .sets y z (r + i))) p) 1
+          ≡ true = ap (λ (y : Graph). eqb (markOf y p) 1) (sym (graph-is i (x .few)))
+          ∙ eq-eqb _ 1 m in
           simp (le-leb k (r + i) (omega arith), x .read, e)
 
       module _ (limit-is : limit ≡ lowest (unsetBelow ws k r) (length ws)) where
@@ -137,7 +146,10 @@ module _ (ws : List ℕ) where
             each x l =
                 ⊎-elim
                 (λ d. go (test p x) refl d)
-                (λ d. none-at (test p) r x (lowest-laws .first (unsetBelow ws k r) 0 (length ws) .not-before p (omega arith) (omega (arith, limit-is, s .under .least-few))) d)
+                (λ d. none-at (test p) r x
+                (lowest-laws .first (unsetBelow ws k r) 0 (length ws) .not-before p (omega arith)
+                (omega (arith, limit-is, s .under .least-few)))
+                d)
                 (split r x)
               where
                 go : (b : Bool) → test p x ≡ b → r ≤ x → b ≡ false
@@ -152,7 +164,8 @@ module _ (ws : List ℕ) where
             (λ d.
             let e : (seen .least) ≡ limit = omega (arith, s .under .least-few) in
             subst (λ (x : ℕ). unsetBelow ws k (r + 63) x ≡ true) (sym e)
-            (more limit (subst (λ (x : ℕ). unsetBelow ws k r x ≡ true) (sym limit-is) (lowest-laws .first (unsetBelow ws k r) 0 (length ws) .holds (omega (arith, limit-is, e))))))
+            (more limit (subst (λ (x : ℕ). unsetBelow ws k r x ≡ true) (sym limit-is) (lowest-laws .first
+            (unsetBelow ws k r) 0 (length ws) .holds (omega (arith, limit-is, e))))))
             (λ d. let x = s .under .least-hits d in some-at (test (seen .least)) (r + 63) (r + x .bit) (omega (arith, x .few)) (of-hits (seen .least) h x))
             (split limit (seen .least))
           where
@@ -228,7 +241,8 @@ module _ (ws : List ℕ) where
           (λ l.
           sym (some-stays (tested p) (r + 63) (seen .next) l
           (λ x i b. unread p h x (λ q. next-none (r + 63) x (rangesIn (touchesOf ws p .reads)) i (omega (arith, seen-of s p q .next-read))))))
-          (λ l. some-stays (tested p) (seen .next) (r + 63) (omega arith) (λ x i b. unread p h x (λ q. past-all (ends s) p q x (omega (arith, s .under .next-from)))))
+          (λ l. some-stays (tested p) (seen .next) (r + 63) (omega arith)
+          (λ x i b. unread p h x (λ q. past-all (ends s) p q x (omega (arith, s .under .next-from)))))
           (split (r + 63) (seen .next))
 
       pub least-on : k ≤ r → limit ≡ lowest (unsetBelow ws k r) (length ws) → seen .least ≡ lowest (unsetBelow ws k (seen .next)) (length ws)
@@ -258,7 +272,8 @@ module _ (ws : List ℕ) where
 
   -- after the first block
   pub rest-of :
-      (k : ℕ) {unset waiting pages : List ℕ} {seen : Seen} → k ≤ 255 → BlockSearched ws k unset waiting pages (length ws) seen → Rest ws k (seen .least) (seen .next)
+      (k : ℕ) {unset waiting pages : List ℕ} {seen : Seen} → k ≤ 255
+      → BlockSearched ws k unset waiting pages (length ws) seen → Rest ws k (seen .least) (seen .next)
   rest-of k h s = record { from = omega (arith, s .under .next-from); least-is = least-on k s (omega arith) (none-is k); ends = ends s }
 
   -- the lowest reachable bad word by the marks
@@ -271,4 +286,6 @@ module _ (ws : List ℕ) where
       lowest-laws .same (badBy marks) (λ p. eqb (markOf (graphOf (lua54 ws)) p) 1 && isInvalid (successorsOf ws p)) 0 (length ws)
       (λ p l.
       let z : 0 + p ≡ p = omega arith in
-      ap (λ (x : ℕ). eqb x 1 && isInvalid (successorsOf ws p)) (ap (λ (x : List ℕ). getD x p 0) e ∙ over-laws .getD-tabulate (markOf (graphOf (lua54 ws))) 0 (length ws) p (omega arith) ∙ ap (markOf (graphOf (lua54 ws))) z))
+      ap (λ (x : ℕ). eqb x 1 && isInvalid (successorsOf ws p)) (ap (λ (x : List ℕ). getD x p 0) e
+      ∙ over-laws .getD-tabulate (markOf (graphOf (lua54 ws))) 0 (length ws) p (omega arith)
+      ∙ ap (markOf (graphOf (lua54 ws))) z))

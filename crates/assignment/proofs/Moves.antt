@@ -25,7 +25,8 @@ module _ (t : ℕ → Bool) where
   without-in q [] i = absurd i
   without-in q (x ∷ xs) i = go (λ j. without-in q xs j) (t x) refl i
     where
-      go : (In q (without t xs) → In q xs × (t q ≡ false)) → (b : Bool) → t x ≡ b → In q (cond b (without t xs) (x ∷ without t xs)) → In q (x ∷ xs) × (t q ≡ false)
+      go : (In q (without t xs) → In q xs × (t q ≡ false)) → (b : Bool) → t x ≡ b
+          → In q (cond b (without t xs) (x ∷ without t xs)) → In q (x ∷ xs) × (t q ≡ false)
       go rec true e j = let r = rec j in (inr (r .0), r .1)
       go rec false e (inl d) = (inl d, ap t d ∙ e)
       go rec false e (inr j) = let r = rec j in (inr (r .0), r .1)
@@ -65,7 +66,9 @@ sum-small (suc k) m b = let h = sum-small k m (λ p d. b p (omega arith)) in ome
 
 module _ (ws : List ℕ) (r : ℕ) where
   -- a word's state stays, others grow
-  pub hits-on : (unset unset′ : List ℕ) (p : ℕ) → ((i : ℕ) → hasBit (getD unset p 0) i ≡ true → hasBit (getD unset′ p 0) i ≡ true) → Hits ws r unset p → Hits ws r unset′ p
+  pub hits-on : (unset unset′ : List ℕ) (p : ℕ)
+      → ((i : ℕ) → hasBit (getD unset p 0) i ≡ true → hasBit (getD unset′ p 0) i ≡ true)
+      → Hits ws r unset p → Hits ws r unset′ p
   hits-on unset unset′ p grows h = record { bit = h .bit; few = h .few; read = h .read; unset = grows (h .bit) (h .unset) }
 
   pub done-on :

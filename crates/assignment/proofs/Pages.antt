@@ -113,7 +113,8 @@ kept-set l m p v e = e ∙ length-set l p v
 
 -- the tables keep their lengths
 pub room-stays :
-    {ws unset waiting pages unset′ waiting′ pages′ : List ℕ} → SearchRoom ws unset waiting pages → length unset′ ≡ length unset → length waiting′ ≡ length waiting
+    {ws unset waiting pages unset′ waiting′ pages′ : List ℕ} → SearchRoom ws unset waiting pages
+    → length unset′ ≡ length unset → length waiting′ ≡ length waiting
     → length pages′ ≡ length pages → SearchRoom ws unset′ waiting′ pages′
 room-stays o u w g =
     record {

@@ -40,7 +40,14 @@ module _ (r : ℕ) where
   below-none end l = record { small = omega arith; bits = λ i h. zero-bit i ∙ sym (le-ltb (r + i) end (omega arith)) }
 
   pub below-all : (end : ℕ) → 63 ≤ end - r → HoldsBits r (λ s. ltb s end) «ALL»
-  below-all end l = record { small = omega arith; bits = λ i h. ap (λ (x : ℕ). hasBit x i) (sym full-all) ∙ full-bit 63 i h ∙ sym (lt-ltb (r + i) end (omega arith)) }
+  below-all end l =
+      record {
+        small = omega arith;
+        bits =
+            λ i h.
+            ap (λ (x : ℕ). hasBit x i) (sym full-all) ∙ full-bit 63 i h
+            ∙ sym (lt-ltb (r + i) end (omega arith));
+      }
 
   pub below-some : (end : ℕ) → r < end → end - r < 63 → HoldsBits r (λ s. ltb s end) (full (end - r))
   below-some end l b =
@@ -55,7 +62,9 @@ module _ (r : ℕ) where
 
   -- a range
   ltb-leb : (s last : ℕ) → ltb s (last + 1) ≡ leb s last
-  ltb-leb s last = ⊎-elim (λ h. lt-ltb s (last + 1) (omega arith) ∙ sym (le-leb s last h)) (λ h. le-ltb s (last + 1) (omega arith) ∙ sym (lt-leb s last h)) (split s last)
+  ltb-leb s last =
+      ⊎-elim (λ h. lt-ltb s (last + 1) (omega arith) ∙ sym (le-leb s last h))
+      (λ h. le-ltb s (last + 1) (omega arith) ∙ sym (lt-leb s last h)) (split s last)
 
   not-ltb : (s first : ℕ) → not (ltb s first) ≡ leb first s
   not-ltb s first = ⊎-elim (λ h. ap not (le-ltb s first h) ∙ sym (le-leb first s h)) (λ h. ap not (lt-ltb s first h) ∙ sym (lt-leb first s h)) (split first s)
@@ -66,7 +75,8 @@ module _ (r : ℕ) where
   and-comm false true = refl
   and-comm false false = refl
 
-  pub holds-range : (x : Range) {a b : ℕ} → HoldsBits r (λ s. ltb s (x .last + 1)) a → HoldsBits r (λ s. ltb s (x .first)) b → HoldsBits r (λ s. inRange s x) (bitAnd a («ALL» - b))
+  pub holds-range : (x : Range) {a b : ℕ} → HoldsBits r (λ s. ltb s (x .last + 1)) a
+      → HoldsBits r (λ s. ltb s (x .first)) b → HoldsBits r (λ s. inRange s x) (bitAnd a («ALL» - b))
   holds-range x {a} {b} upper lower =
       record {
         small = omega (arith, and-le-l a («ALL» - b), upper .small);
@@ -74,7 +84,9 @@ module _ (r : ℕ) where
             and-bit a («ALL» - b) i
             ∙ ap₂ (λ (c d : Bool). c && d)
             (upper .bits i h ∙ ltb-leb (r + i) (x .last))
-            (ap (λ (y : ℕ). hasBit (y - b) i) (sym full-all) ∙ not-bit 63 b i h (omega (arith, lower .small, full-all)) ∙ ap not (lower .bits i h) ∙ not-ltb (r + i) (x .first))
+            (ap (λ (y : ℕ). hasBit (y - b) i) (sym full-all)
+            ∙ not-bit 63 b i h (omega (arith, lower .small, full-all)) ∙ ap not (lower .bits i h)
+            ∙ not-ltb (r + i) (x .first))
             ∙ and-comm (leb (r + i) (x .last)) (leb (x .first) (r + i));
       }
 
@@ -96,9 +108,15 @@ module _ (r : ℕ) where
 
   -- what a word sets, by its lists
   pub holds-edge :
-      (t : Touches) (q : ℕ) {x y : ℕ} → q ≡ t .edge → Among (rangesIn (t .writes)) x → Among (rangesIn (t .«edge_writes»)) y → HoldsBits r (setsBy t q) (bitOr x y)
+      (t : Touches) (q : ℕ) {x y : ℕ} → q ≡ t .edge → Among (rangesIn (t .writes)) x
+      → Among (rangesIn (t .«edge_writes»)) y → HoldsBits r (setsBy t q) (bitOr x y)
   holds-edge t q e a b =
-      holds-same (λ s. ap (λ (c : Bool). inRanges s (rangesIn (t .writes)) || (c && inRanges s (rangesIn (t .«edge_writes»)))) (sym (eq-eqb q (t .edge) e))) (holds-or a b)
+      holds-same
+      (λ s. ap
+      (λ (c : Bool).
+      inRanges s (rangesIn (t .writes)) || (c && inRanges s (rangesIn (t .«edge_writes»))))
+      (sym (eq-eqb q (t .edge) e)))
+      (holds-or a b)
 
   pub holds-always : (t : Touches) (q : ℕ) {x : ℕ} → (q ≡ t .edge → ⊥) → Among (rangesIn (t .writes)) x → HoldsBits r (setsBy t q) x
   holds-always t q n a =

@@ -27,7 +27,10 @@ use Rattle.touches.specs.declared.answer.Touches.{Touches}
 use Rattle.touches.specs.Touches.{touchesOf}
 use Rattle.assignment.specs.Uses.{setsBy}
 use Rattle.assignment.specs.declared.search.Seen.{Seen}
-use Rattle.assignment.specs.Blocks.{mostRegisters, «EVERY», bitCount, hasBit, HoldsBits, WordWaits, Paged, Next, SearchRoom, leaves, Steps, Spreads, BlockNotes, Started, losesBit, graphAt, Hits, Done, Under, Searching, BlockVisits, left, BlockSearched}
+use Rattle.assignment.specs.Blocks.{mostRegisters, «EVERY», bitCount, hasBit, HoldsBits, WordWaits}
+use Rattle.assignment.specs.Blocks.{Paged, Next, SearchRoom, leaves, Steps, Spreads, BlockNotes}
+use Rattle.assignment.specs.Blocks.{Started, losesBit, graphAt, Hits, Done, Under, Searching}
+use Rattle.assignment.specs.Blocks.{BlockVisits, left, BlockSearched}
 use Rattle.assignment.proofs.Bits.{and-bit, zero-bit, full-all, full-every, not-bit, full-bit, small-bit}
 use Rattle.assignment.proofs.Moves.{without-in, in-without, sum-set, hits-on, Joined, join-under}
 
@@ -64,7 +67,8 @@ module _ (ws : List ℕ) (r : ℕ) where
   kept false c e f = absurd (false≢true e)
 
   -- word p is in hand, and its steps are taken
-  module _ (few : length ws ≤ mostWords) (p at : ℕ) (at-small : at ≤ «EVERY») (at-sound : (i : ℕ) → i < bitCount → hasBit at i ≡ true → Reachable (graphAt ws r i) p) where
+  module _ (few : length ws ≤ mostWords) (p at : ℕ) (at-small : at ≤ «EVERY»)
+      (at-sound : (i : ℕ) → i < bitCount → hasBit at i ≡ true → Reachable (graphAt ws r i) p) where
     pub record Stepped (unset waiting unset′ waiting′ : List ℕ) (s : List ℕ) : Type 0 where
       pub comes : (q : ℕ) → In q s → (i : ℕ) → i < bitCount → hasBit at i ≡ true → losesBit ws r i p q ≡ false → hasBit (getD unset′ q 0) i ≡ true
       pub grows : (x i : ℕ) → hasBit (getD unset x 0) i ≡ true → hasBit (getD unset′ x 0) i ≡ true
@@ -74,7 +78,9 @@ module _ (ws : List ℕ) (r : ℕ) where
 
     module _ {limit : ℕ} {seen : Seen} where
       one-step :
-          (q : ℕ) → In q (graphOf (lua54 ws) .successors p) → {unset waiting pages unset′ waiting′ pages′ : List ℕ} → Under ws r p unset waiting pages limit seen
+          (q : ℕ) → In q (graphOf (lua54 ws) .successors p)
+          → {unset waiting pages unset′ waiting′ pages′ : List ℕ}
+          → Under ws r p unset waiting pages limit seen
           → Steps r (touchesOf ws p) at q unset waiting pages unset′ waiting′ pages′
           → Under ws r p unset′ waiting′ pages′ limit seen × Stepped unset waiting unset′ waiting′ (q ∷ [])
       one-step q j {unset} {waiting} {pages} {unset′} {waiting′} {pages′} s st =
@@ -95,14 +101,17 @@ module _ (ws : List ℕ) (r : ℕ) where
               graph.laws .reaching (graphAt ws r i) (cut-law i) .next p q (at-sound i h (c .0))
               (in-without (losesBit ws r i p) q (graphOf (lua54 ws) .successors p) j (not-true (losesBit ws r i p q) (c .1)))
 
-          arrives : Joined ws r unset waiting unset′ waiting′ q (leaves at (st .sets)) → (x : ℕ) → In x (q ∷ []) → (i : ℕ) → i < bitCount → hasBit at i ≡ true → losesBit ws r i p x ≡ false → hasBit (getD unset′ x 0) i ≡ true
+          arrives : Joined ws r unset waiting unset′ waiting′ q (leaves at (st .sets)) → (x : ℕ)
+              → In x (q ∷ []) → (i : ℕ) → i < bitCount → hasBit at i ≡ true → losesBit ws r i p x ≡ false
+              → hasBit (getD unset′ x 0) i ≡ true
           arrives m x (inl e) i h b f =
               subst (λ (y : ℕ). hasBit (getD unset′ y 0) i ≡ true) (sym e)
               (m .has i (leaves-bit p q (st .holds) at i h ∙ kept (hasBit at i) (losesBit ws r i p q) b (ap (losesBit ws r i p) (sym e) ∙ f)))
           arrives m x (inr k) i h b f = absurd k
 
       stayed :
-          {unset waiting pages unset′ waiting′ pages′ : List ℕ} → Under ws r p unset waiting pages limit seen → (unset′ ≡ unset) × (waiting′ ≡ waiting) × (pages′ ≡ pages)
+          {unset waiting pages unset′ waiting′ pages′ : List ℕ} → Under ws r p unset waiting pages limit seen
+          → (unset′ ≡ unset) × (waiting′ ≡ waiting) × (pages′ ≡ pages)
           → Under ws r p unset′ waiting′ pages′ limit seen × Stepped unset waiting unset′ waiting′ []
       stayed {unset} {waiting} {pages} {unset′} {waiting′} {pages′} s e = (
         subst (λ (x : List ℕ). Under ws r p x waiting′ pages′ limit seen) (sym (e .0))
@@ -113,7 +122,10 @@ module _ (ws : List ℕ) (r : ℕ) where
           grows = λ x i b. ap (λ (l : List ℕ). hasBit (getD l x 0) i) (e .0) ∙ b;
           raised = λ x. inr (ap (λ (l : List ℕ). getD l x 0) (e .0));
           keeps = λ x w. ap (λ (l : List ℕ). getD l x 0) (e .1) ∙ w;
-          less = subst (λ (x : List ℕ). left ws r x waiting′ ≤ left ws r unset waiting) (sym (e .0)) (subst (λ (x : List ℕ). left ws r unset x ≤ left ws r unset waiting) (sym (e .1)) (omega arith));
+          less =
+              subst (λ (x : List ℕ). left ws r x waiting′ ≤ left ws r unset waiting) (sym (e .0))
+              (subst (λ (x : List ℕ). left ws r unset x ≤ left ws r unset waiting) (sym (e .1))
+              (omega arith));
         },
       )
 
@@ -146,7 +158,9 @@ module _ (ws : List ℕ) (r : ℕ) where
           )
 
   -- a word that waits is visited
-  module _ (few : length ws ≤ mostWords) {unset waiting pages : List ℕ} {limit : ℕ} {seen : Seen} {p : ℕ} (s : Searching ws r unset waiting pages limit seen) (inside : p < length ws) (waits : WordWaits waiting p) where
+  module _ (few : length ws ≤ mostWords) {unset waiting pages : List ℕ} {limit : ℕ} {seen : Seen} {p : ℕ}
+      (s : Searching ws r unset waiting pages limit seen) (inside : p < length ws)
+      (waits : WordWaits waiting p) where
     in-waiting : p < length waiting
     in-waiting = omega (arith, s .waiting-long)
 
@@ -274,7 +288,9 @@ module _ (ws : List ℕ) (r : ℕ) where
 
   -- what a visit does, by what the word touches and where it goes
   pub visits-by :
-      (p : ℕ) {t : Touches} {s : Successors} {unset waiting pages unset′ waiting′ pages′ : List ℕ} {seen seen′ : Seen} → t ≡ touchesOf ws p → s ≡ successorsOf ws p
+      (p : ℕ) {t : Touches} {s : Successors} {unset waiting pages unset′ waiting′ pages′ : List ℕ}
+      {seen seen′ : Seen}
+      → t ≡ touchesOf ws p → s ≡ successorsOf ws p
       → Spreads r t (getD unset p 0) s unset (set waiting p 0) pages unset′ waiting′ pages′ → BlockNotes r t s (getD unset p 0) p seen seen′
       → BlockVisits ws r p unset waiting pages seen unset′ waiting′ pages′ seen′
   visits-by p {t} {s} {unset} {waiting} {pages} {unset′} {waiting′} {pages′} {seen} {seen′} e f a b =
@@ -314,8 +330,10 @@ module _ (ws : List ℕ) (r : ℕ) where
       record { some = some; few = few; unset-long = o .under .unset-long; waiting-long = o .under .waiting-long; pages-same = o .under .pages-same }
 
   -- a turn
-  module _ (few : length ws ≤ mostWords) {unset₀ waiting₀ pages₀ unset waiting pages : List ℕ} {limit : ℕ} {seen : Seen} {p : ℕ} (o : Going unset₀ waiting₀ pages₀ limit unset waiting pages seen p)
-      (inside : p < length ws) {unset′ waiting′ pages′ : List ℕ} {seen′ : Seen} (v : BlockVisits ws r p unset waiting pages seen unset′ waiting′ pages′ seen′) where
+  module _ (few : length ws ≤ mostWords) {unset₀ waiting₀ pages₀ unset waiting pages : List ℕ} {limit : ℕ}
+      {seen : Seen} {p : ℕ} (o : Going unset₀ waiting₀ pages₀ limit unset waiting pages seen p)
+      (inside : p < length ws) {unset′ waiting′ pages′ : List ℕ} {seen′ : Seen}
+      (v : BlockVisits ws r p unset waiting pages seen unset′ waiting′ pages′ seen′) where
     pub going-visited : Searching ws r unset′ waiting′ pages′ limit seen′
     going-visited = visited few (o .under) inside (o .next .waits inside) v
 
@@ -323,7 +341,8 @@ module _ (ws : List ℕ) (r : ℕ) where
     going-less = visited-less few (o .under) inside (o .next .waits inside) v
 
     pub going-more :
-        {pages″ : List ℕ} {p′ : ℕ} → length unset′ ≡ length unset → length waiting′ ≡ length waiting → length pages′ ≡ length pages → length pages″ ≡ length pages′
+        {pages″ : List ℕ} {p′ : ℕ} → length unset′ ≡ length unset → length waiting′ ≡ length waiting
+        → length pages′ ≡ length pages → length pages″ ≡ length pages′
         → Next waiting′ (length ws) p′ → Paged (length ws) waiting′ pages″ → Going unset₀ waiting₀ pages₀ limit unset′ waiting′ pages″ seen′ p′
     going-more eu ew eg eh n paged =
         let u = going-visited in
@@ -351,7 +370,8 @@ module _ (ws : List ℕ) (r : ℕ) where
         }
 
   pub going-done :
-      {unset₀ waiting₀ pages₀ unset waiting pages : List ℕ} {limit : ℕ} {seen : Seen} {p : ℕ} → Going unset₀ waiting₀ pages₀ limit unset waiting pages seen p → length ws ≤ p
+      {unset₀ waiting₀ pages₀ unset waiting pages : List ℕ} {limit : ℕ} {seen : Seen} {p : ℕ}
+      → Going unset₀ waiting₀ pages₀ limit unset waiting pages seen p → length ws ≤ p
       → BlockSearched ws r unset waiting pages limit seen
   going-done o h = record { under = o .under; none = λ p l w. o .next .none h p l w }
 

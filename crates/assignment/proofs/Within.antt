@@ -19,7 +19,8 @@ unfolding inRanges
 in-within r [] e = absurd (false≢true e)
 in-within r (x ∷ xs) e = go (in-within r xs) (leb (x .first) r) refl (leb r (x .last)) refl e
   where
-    go : (inRanges r xs ≡ true → Within r xs) → (a : Bool) → leb (x .first) r ≡ a → (b : Bool) → leb r (x .last) ≡ b → (a && b) || inRanges r xs ≡ true → Within r (x ∷ xs)
+    go : (inRanges r xs ≡ true → Within r xs) → (a : Bool) → leb (x .first) r ≡ a → (b : Bool)
+        → leb r (x .last) ≡ b → (a && b) || inRanges r xs ≡ true → Within r (x ∷ xs)
     go rec true d true f h = inl (leb-true (x .first) r d, leb-true r (x .last) f)
     go rec true d false f h = inr (rec h)
     go rec false d b f h = inr (rec h)

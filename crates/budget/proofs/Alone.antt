@@ -22,7 +22,8 @@ use Rattle.meter.specs.Demand3.{Demand3}
 use Rattle.meter.proofs.Laws.{laws}
 use Rattle.budget.specs.declared.step.Meters.{Meters}
 use Rattle.budget.specs.Four.{meterOf, othersOf, isOutOfRange}
-use Rattle.budget.specs.Calls.{FourCall, Scripts, scriptsOf, JustBegun, made, fourAfter, aloneAnswers, answerNumbers, turnsBack, answered, ownCalls, ownAnswers}
+use Rattle.budget.specs.Calls.{FourCall, Scripts, scriptsOf, JustBegun, made, fourAfter, aloneAnswers}
+use Rattle.budget.specs.Calls.{answerNumbers, turnsBack, answered, ownCalls, ownAnswers}
 use Rattle.budget.specs.Alone as Claim
 use Rattle.budget.specs.Alone.{RunsAlone, FollowsOwnModel}
 use Rattle.budget.proofs.View.{taken, settled, viewed, seenAs, other-as, own-as}
@@ -38,7 +39,9 @@ unfolding feedOf
 fed-plain g m q = go (ltb mostWords (g .graph .size)) (refusesWeights (g .table)) (isForeign (g .graph .size) m) (isStray (g .graph) m q)
   where
     go : (t u v w : Bool)
-        → Plain m (refuseIf t (refusal «TOO_MANY_WORDS» 0 m) (refuseIf u (refusal «WEIGHTS_REFUSED» (weightsPlace (g .table)) m) (refuseIf v (refusal «FOREIGN_METER» 0 m) (refuseIf w (refusal «NO_STEP» 0 m) (taken (movedTo g m q))))))
+        → Plain m (refuseIf t (refusal «TOO_MANY_WORDS» 0 m)
+        (refuseIf u (refusal «WEIGHTS_REFUSED» (weightsPlace (g .table)) m) (refuseIf v
+        (refusal «FOREIGN_METER» 0 m) (refuseIf w (refusal «NO_STEP» 0 m) (taken (movedTo g m q))))))
     go true u v w = record { own = refl; left = λ e. refl }
     go false true v w = record { own = refl; left = λ e. refl }
     go false false true w = record { own = refl; left = λ e. refl }
@@ -88,7 +91,8 @@ module _ (g : Scripts) (i : ℕ) (i-script : i ≤ 3) where
   skipped m n e own answers after h = rw (← e) h
 
   -- a call kept
-  kept : (m : Meter) (v : Fed) (c : Call) → v ≡ called (g i) m c → (own : List Call) (answers : List FlatAnswer) (after : Meter) → Same (v .meter) own answers after
+  kept : (m : Meter) (v : Fed) (c : Call) → v ≡ called (g i) m c
+      → (own : List Call) (answers : List FlatAnswer) (after : Meter) → Same (v .meter) own answers after
       → Same m (c ∷ own) (answered c (v .answer) answers) after
   kept m v begin e own answers after h = skipped (beginOf m) (v .meter) (ap (λ (z : Fed). z .meter) e) own answers after h
   kept m v (feed q) e own answers after h = (
@@ -109,7 +113,8 @@ module _ (g : Scripts) (i : ℕ) (i-script : i ≤ 3) where
         subst (λ (v : Fed). Left (meterOf ms i) v (called (g i) (meterOf ms i) (c .call)) (turnsBack (v .answer .number))) (sym same)
         (left (g i) (meterOf ms i) (c .budget) (othersOf ms i) (c .call))
 
-    step : (own : List Call) (answers : List FlatAnswer) (after : Meter) (t u : Bool) → eqb (c .script) i ≡ t → turnsBack (next .answer .number) ≡ u → Same (next .meter) own answers after
+    step : (own : List Call) (answers : List FlatAnswer) (after : Meter) (t u : Bool) → eqb (c .script) i ≡ t
+        → turnsBack (next .answer .number) ≡ u → Same (next .meter) own answers after
         → Same (meterOf ms i) (cond (t && not u) (c .call ∷ own) own) (cond (t && not u) (answered (c .call) (next .answer) answers) answers) after
     step own answers after false u e d h = skipped (meterOf ms i) (next .meter) (other-as g ms i i-script c e) own answers after h
     step own answers after true true e d h = skipped (meterOf ms i) (next .meter) (rw d at (own-left e)) own answers after h
@@ -132,7 +137,9 @@ numbers-alone s m (begin ∷ cs) = numbers-alone s (beginOf m) cs
 numbers-alone s m (feed q ∷ cs) = ap (λ (l : List ℕ). feedOf s m q .answer .number ∷ l) (numbers-alone s (feedOf s m q .meter) cs)
 numbers-alone s m (reset ∷ cs) = numbers-alone s (resetOf m) cs
 
-module _ (versions : ℕ → Version) (words weights : ℕ → List ℕ) (ms : Meters) (calls : List FourCall) (i : ℕ) (i-script : i ≤ 3) (few : length (words i) ≤ mostWords) (weighs : Weighs (weights i)) (b : JustBegun (meterOf ms i)) where
+module _ (versions : ℕ → Version) (words weights : ℕ → List ℕ) (ms : Meters) (calls : List FourCall) (i : ℕ)
+    (i-script : i ≤ 3) (few : length (words i) ≤ mostWords) (weighs : Weighs (weights i))
+    (b : JustBegun (meterOf ms i)) where
   abbrev g : Scripts
   g = scriptsOf versions words weights
 
@@ -147,7 +154,9 @@ module _ (versions : ℕ → Version) (words weights : ℕ → List ℕ) (ms : M
       let same : meterOf (fourAfter g ms calls) i ≡ meterAfter (g i) (beginOf (meterOf ms i)) own =
       a .meter ∙ ap (λ (m : Meter). meterAfter (g i) m own) (sym (b .begun)) in
       record {
-        answers = ap answerNumbers (a .answers) ∙ numbers-alone (g i) (meterOf ms i) own ∙ ap (λ (m : Meter). meterAnswers (g i) m own) (sym (b .begun)) ∙ f .answers;
+        answers =
+            ap answerNumbers (a .answers) ∙ numbers-alone (g i) (meterOf ms i) own
+            ∙ ap (λ (m : Meter). meterAnswers (g i) m own) (sym (b .begun)) ∙ f .answers;
         begun = ap isBegun same ∙ f .begun;
         last = ap (λ (m : Meter). m .last) same ∙ f .last;
         count = ap (λ (m : Meter). m .count) same ∙ f .count;

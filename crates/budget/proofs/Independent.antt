@@ -46,12 +46,15 @@ module _ (g : Scripts) (i : ℕ) (i-script : i ≤ 3) where
   own m n a s others reset d e seen answers after h = passed (resetOf m) n e seen answers after h
 
   module _ (ms : Meters) (c : FourCall) where
-    step : (seen : List Seen) (answers : List FlatAnswer) (after : Meter) (t : Bool) → eqb (c .script) i ≡ t → BySeen (meterOf (made g ms c .meters) i) seen answers after
-        → BySeen (meterOf ms i) (cond t (shownTo (c .budget) (othersOf ms i) (c .call) ∷ seen) seen) (cond t (answered (c .call) (made g ms c .answer) answers) answers) after
+    step : (seen : List Seen) (answers : List FlatAnswer) (after : Meter) (t : Bool) → eqb (c .script) i ≡ t
+        → BySeen (meterOf (made g ms c .meters) i) seen answers after
+        → BySeen (meterOf ms i) (cond t (shownTo (c .budget) (othersOf ms i) (c .call) ∷ seen) seen)
+        (cond t (answered (c .call) (made g ms c .answer) answers) answers) after
     step seen answers after false e h = passed (meterOf ms i) (meterOf (made g ms c .meters) i) (other-as g ms i i-script c e) seen answers after h
     step seen answers after true e h =
         let both = own-as g ms i i-script c e in
-        own (meterOf ms i) (meterOf (made g ms c .meters) i) (made g ms c .answer) (c .budget) (othersOf ms i) (c .call) (both .0) (both .1) seen answers after h
+        own (meterOf ms i) (meterOf (made g ms c .meters) i) (made g ms c .answer) (c .budget) (othersOf ms i)
+        (c .call) (both .0) (both .1) seen answers after h
 
   by-seen : (ms : Meters) (calls : List FourCall) → BySeen (meterOf ms i) (seenBy g i ms calls) (allAnswers g i ms calls) (meterOf (fourAfter g ms calls) i)
   by-seen ms [] = (refl, refl)

@@ -29,7 +29,9 @@ use Rattle.meter.specs.Bound.{Bound}
 use Rattle.meter.proofs.Laws as meter
 use Rattle.budget.specs.declared.step.Meters.{Meters}
 use Rattle.budget.specs.Four.{refusedFour, meterOf, othersOf, isOutOfRange, beginFourOf, resetFourOf, feedFourOf}
-use Rattle.budget.specs.Calls.{FourCall, Scripts, scriptsOf, EachWith, JustBegun, EachBegun, madeBy, made, fourAfter, answerNumbers, turnsBack, answered, ownCalls, allAnswers}
+use Rattle.budget.specs.Calls.{FourCall, Scripts, scriptsOf, EachWith, JustBegun, EachBegun, madeBy}
+use Rattle.budget.specs.Calls.{made, fourAfter, answerNumbers, turnsBack, answered, ownCalls}
+use Rattle.budget.specs.Calls.{allAnswers}
 use Rattle.budget.specs.Never as Claim
 use Rattle.budget.specs.Never.{AcceptedWithin, EachWithin, isBegin, isFeed, NoFeeds, Begins, Opening, TurnsBack}
 use Rattle.budget.proofs.Meters.{others-most}
@@ -49,7 +51,8 @@ within-settled m s others f p l = rw (le-ltb s (f .meter .count + others) l) (go
     go true h = true≢false (sym (ap turnsBack h) ∙ p .own)
     go false h = true≢false (sym (ap turnsBack h) ∙ p .own)
 
-within-viewed : (g : Scale) (m : Meter) (s others q : ℕ) → feedOf g m q .meter .count + others ≤ s → viewed g m s others (feed q) .answer .number ≡ «OVER_BUDGET» → ⊥
+within-viewed : (g : Scale) (m : Meter) (s others q : ℕ) → feedOf g m q .meter .count + others ≤ s
+    → viewed g m s others (feed q) .answer .number ≡ «OVER_BUDGET» → ⊥
 within-viewed g m s others q l = go (isOutOfRange s)
   where
     go : (t : Bool) → refuseIf t (refusal «BUDGET_RANGE» 0 m) (settled m s others (feedOf g m q)) .answer .number ≡ «OVER_BUDGET» → ⊥
@@ -73,11 +76,16 @@ not-answered true (feed q) a later n l (inr i) = l i
 not-answered true reset a later n l h = l h
 
 -- a begin's or a reset's number is 0 or 20
-either-never : (t : Bool) (ms ns : Meters) → refuseIf t (refusedFour «NO_SCRIPT» ms) (record { meters = ns; answer = record { number = «ACCEPTED»; place = 0 } }) .answer .number ≡ «OVER_BUDGET» → ⊥
+either-never : (t : Bool) (ms ns : Meters)
+    → refuseIf t (refusedFour «NO_SCRIPT» ms)
+    (record { meters = ns; answer = record { number = «ACCEPTED»; place = 0 } }) .answer .number
+    ≡ «OVER_BUDGET»
+    → ⊥
 either-never true ms ns h = omega arith
 either-never false ms ns h = omega arith
 
-module _ (versions : ℕ → Version) (words weights : ℕ → List ℕ) (s : ℕ) (accepted : EachWithin versions words weights s) (ms : Meters) (begun : EachBegun ms) where
+module _ (versions : ℕ → Version) (words weights : ℕ → List ℕ) (s : ℕ)
+    (accepted : EachWithin versions words weights s) (ms : Meters) (begun : EachBegun ms) where
   abbrev g : Scripts
   g = scriptsOf versions words weights
 
@@ -85,7 +93,8 @@ module _ (versions : ℕ → Version) (words weights : ℕ → List ℕ) (s : �
   bounded i l calls =
       let a : AcceptedWithin (versions i) (words i) (weights i) s = accepted i l in
       let b : JustBegun (meterOf ms i) = begun i l in
-      let enough : Enough (length (words i)) (weights i) (a .marks) (a .lengths) = laws .enough (scriptOf (versions i) (words i)) (weights i) (a .marks) (a .lengths) (a .accepted) in
+      let enough : Enough (length (words i)) (weights i) (a .marks) (a .lengths) = laws .enough
+      (scriptOf (versions i) (words i)) (weights i) (a .marks) (a .lengths) (a .accepted) in
       let weighs : Weighs (weights i) = record { accepted = enough .weighed; bytes = a .bytes } in
       let longest : ℕ = longestOf (runOf (scriptOf (versions i) (words i)) (weights i) (a .marks) (a .lengths)) in
       let most : Bound (g i) (meterOf ms i) longest =
@@ -200,7 +209,8 @@ module _ (g : Scripts) (i : ℕ) (l : i ≤ 3) where
   script-begun (c ∷ cs) n (inl b) ms h = stays-begun cs (n .1) (made g ms c .meters) (begin-made ms c (b .0) (b .1) h)
   script-begun (c ∷ cs) n (inr b) ms h = script-begun cs (n .1) b (made g ms c .meters) (fits-kept ms c (n .0) h)
 
-four-begun : (g : Scripts) (ms : Meters) → ((i : ℕ) → i ≤ lastScript → meterOf ms i .services < 4294967296) → (opening : List FourCall) → Opening opening → EachBegun (fourAfter g ms opening)
+four-begun : (g : Scripts) (ms : Meters) → ((i : ℕ) → i ≤ lastScript → meterOf ms i .services < 4294967296)
+    → (opening : List FourCall) → Opening opening → EachBegun (fourAfter g ms opening)
 four-begun g ms fits opening o i l = script-begun g i l opening (o .no-feeds) (o .begins i l) ms (fits i l)
 
 -- the answer to a begin or a reset is not among those to feeds
@@ -212,17 +222,21 @@ module _ (g : Scripts) (i : ℕ) where
   silent true reset e a later = refl
   silent false reset e a later = refl
 
-  opening-silent : (opening calls : List FourCall) → NoFeeds opening → (ms : Meters) → allAnswers g i ms (opening ++ calls) ≡ allAnswers g i (fourAfter g ms opening) calls
+  opening-silent : (opening calls : List FourCall) → NoFeeds opening → (ms : Meters)
+      → allAnswers g i ms (opening ++ calls) ≡ allAnswers g i (fourAfter g ms opening) calls
   opening-silent [] calls n ms = refl
   opening-silent (c ∷ cs) calls n ms =
       silent (eqb (c .script) i) (c .call) (n .0) (made g ms c .answer) (allAnswers g i (made g ms c .meters) (cs ++ calls))
       ∙ opening-silent cs calls (n .1) (made g ms c .meters)
 
-opened : (versions : ℕ → Version) (words weights : ℕ → List ℕ) (s : ℕ) → EachWithin versions words weights s → (ms : Meters) → ((i : ℕ) → i ≤ lastScript → meterOf ms i .services < 4294967296)
-    → (opening : List FourCall) → Opening opening → (calls : List FourCall) → EachWith s calls → (i : ℕ) → TurnsBack versions words weights i ms (opening ++ calls) → ⊥
+opened : (versions : ℕ → Version) (words weights : ℕ → List ℕ) (s : ℕ) → EachWithin versions words weights s
+    → (ms : Meters) → ((i : ℕ) → i ≤ lastScript → meterOf ms i .services < 4294967296)
+    → (opening : List FourCall) → Opening opening → (calls : List FourCall) → EachWith s calls → (i : ℕ)
+    → TurnsBack versions words weights i ms (opening ++ calls) → ⊥
 opened versions words weights s accepted ms fits opening o calls e i =
     let g : Scripts = scriptsOf versions words weights in
-    rw (opening-silent g i opening calls (o .no-feeds) ms) (none versions words weights s accepted (fourAfter g ms opening) (four-begun g ms fits opening o) calls e i)
+    rw (opening-silent g i opening calls (o .no-feeds) ms) (none versions words weights s accepted
+    (fourAfter g ms opening) (four-begun g ms fits opening o) calls e i)
 
 pub never : Claim.Never
 never =

@@ -66,7 +66,9 @@ puts g ms i s q = go (ltb lastScript i) refl (isOutOfRange s)
     f = feedOf g (meterOf ms i) q
 
     settled : i ≤ 3 → (t u : Bool)
-        → Puts ms i (refuseIf t (record { meters = ms; answer = f .answer }) (refuseIf u (refusedFour «OVER_BUDGET» ms) (record { meters = withMeter ms i (f .meter); answer = f .answer })) .meters)
+        → Puts ms i (refuseIf t (record { meters = ms; answer = f .answer })
+        (refuseIf u (refusedFour «OVER_BUDGET» ms)
+        (record { meters = withMeter ms i (f .meter); answer = f .answer })) .meters)
     settled l true u = back ms i l
     settled l false true = back ms i l
     settled l false false = ap (withMeter ms i) (own-after ms (f .meter) i l)

@@ -16,7 +16,8 @@ use Rattle.meter.specs.Feed.{Scale, beginOf, resetOf, feedOf}
 use Rattle.meter.specs.Model.{Call, begin, feed, reset}
 use Rattle.budget.specs.declared.step.Meters.{Meters}
 use Rattle.budget.specs.declared.step.FedFour.{FedFour}
-use Rattle.budget.specs.Four.{meterOf, withMeter, sumOf, othersOf, isOutOfRange, refusedFour, changedFour, beginFourOf, resetFourOf, settleFour, feedFourOf}
+use Rattle.budget.specs.Four.{meterOf, withMeter, sumOf, othersOf, isOutOfRange, refusedFour}
+use Rattle.budget.specs.Four.{changedFour, beginFourOf, resetFourOf, settleFour, feedFourOf}
 use Rattle.budget.specs.Calls.{FourCall, Scripts, turnsBack, madeBy, made}
 use Rattle.budget.specs.Refusals as Claim
 use Rattle.budget.proofs.Meters.{sum-after}
@@ -39,8 +40,12 @@ module _ (g : Scale) (ms : Meters) (i s q : ℕ) where
   outcomes P none range refused over accepted =
       go (ltb lastScript i) refl (isOutOfRange s) (eqb (f .answer .number) «ACCEPTED») refl (ltb s (sumOf (withMeter ms i (f .meter)))) refl
     where
-      go : (t : Bool) → ltb lastScript i ≡ t → (u v : Bool) → eqb (f .answer .number) «ACCEPTED» ≡ v → (w : Bool) → ltb s (sumOf (withMeter ms i (f .meter))) ≡ w
-          → P (refuseIf t (refusedFour «NO_SCRIPT» ms) (refuseIf u (refusedFour «BUDGET_RANGE» ms) (refuseIf (not v) (record { meters = ms; answer = f .answer }) (refuseIf w (refusedFour «OVER_BUDGET» ms) (record { meters = withMeter ms i (f .meter); answer = f .answer })))))
+      go : (t : Bool) → ltb lastScript i ≡ t → (u v : Bool) → eqb (f .answer .number) «ACCEPTED» ≡ v
+          → (w : Bool) → ltb s (sumOf (withMeter ms i (f .meter))) ≡ w
+          → P (refuseIf t (refusedFour «NO_SCRIPT» ms)
+          (refuseIf u (refusedFour «BUDGET_RANGE» ms) (refuseIf (not v)
+          (record { meters = ms; answer = f .answer }) (refuseIf w (refusedFour «OVER_BUDGET» ms)
+          (record { meters = withMeter ms i (f .meter); answer = f .answer })))))
       go true e u v d w b = none
       go false e true v d w b = range
       go false e false false d w b = refused d
@@ -69,9 +74,17 @@ module _ (g : Scale) (ms : Meters) (i s q : ℕ) where
   unfolding feedFourOf
   out-of-range l e = rw (le-ltb lastScript i l, e)
 
-  over-sum : i ≤ lastScript → isOutOfRange s ≡ false → f .answer .number ≡ «ACCEPTED» → s < f .meter .count + othersOf ms i → feedFourOf g ms i s q .answer .number ≡ «OVER_BUDGET»
+  over-sum : i ≤ lastScript → isOutOfRange s ≡ false → f .answer .number ≡ «ACCEPTED»
+      → s < f .meter .count + othersOf ms i → feedFourOf g ms i s q .answer .number ≡ «OVER_BUDGET»
   unfolding feedFourOf settleFour
-  over-sum l r e b = rw (le-ltb lastScript i l, r, eq-eqb (f .answer .number) «ACCEPTED» e, lt-ltb s (sumOf (withMeter ms i (f .meter))) (subst (λ (k : ℕ). s < k) (sym (sum-after ms (f .meter) i l)) b))
+  over-sum l r e b =
+      rw (
+        le-ltb lastScript i l,
+        r,
+        eq-eqb (f .answer .number) «ACCEPTED» e,
+        lt-ltb s (sumOf (withMeter ms i (f .meter)))
+            (subst (λ (k : ℕ). s < k) (sym (sum-after ms (f .meter) i l)) b),
+      )
 
   within : feedFourOf g ms i s q .answer .number ≡ «ACCEPTED» → sumOf (feedFourOf g ms i s q .meters) ≤ s
   within =
@@ -91,7 +104,9 @@ module _ (g : Scale) (ms : Meters) (i s q : ℕ) where
       plain h = true≢false (sym b ∙ ap turnsBack (sym h) ∙ fed-plain g (meterOf ms i) q .own)
 
       go : (t u : Bool)
-          → refuseIf t (record { meters = ms; answer = f .answer }) (refuseIf u (refusedFour «OVER_BUDGET» ms) (record { meters = withMeter ms i (f .meter); answer = f .answer })) .answer .number ≡ n
+          → refuseIf t (record { meters = ms; answer = f .answer }) (refuseIf u (refusedFour «OVER_BUDGET» ms)
+          (record { meters = withMeter ms i (f .meter); answer = f .answer })) .answer .number
+          ≡ n
           → ⊥
       go true u h = plain h
       go false true h = d (sym h)
@@ -158,7 +173,8 @@ none : (g : Scripts) (ms : Meters) (c : FourCall) → lastScript < c .script →
 unfolding made
 none g ms c l = ap (λ (r : FedFour). r .answer .number) (no-script g ms (c .script) (c .budget) (c .call) (lt-ltb lastScript (c .script) l))
 
-only-changed : (ms : Meters) (i : ℕ) (m : Meter) (t : Bool) → ltb lastScript i ≡ t → refuseIf t (refusedFour «NO_SCRIPT» ms) (changedFour ms i m) .answer .number ≡ «NO_SCRIPT»
+only-changed : (ms : Meters) (i : ℕ) (m : Meter) (t : Bool) → ltb lastScript i ≡ t
+    → refuseIf t (refusedFour «NO_SCRIPT» ms) (changedFour ms i m) .answer .number ≡ «NO_SCRIPT»
     → lastScript < i
 only-changed ms i m true e h = ltb-true lastScript i e
 only-changed ms i m false e h = absurd (omega (arith, h))
@@ -174,4 +190,17 @@ unfolding made
 only-none g ms c = only-called g ms (c .script) (c .budget) (c .call)
 
 pub refusals : Claim.Refusals
-refusals = record { unchanged = unchanged; no-script = none; out-of-range = out-of-range; over-budget = over-budget; over-sum = over-sum; within = within; range = range; only-no-script = only-none; only-out-of-range = only-range; own-refusal = own-refusal; taken = taken }
+refusals =
+    record {
+      unchanged = unchanged;
+      no-script = none;
+      out-of-range = out-of-range;
+      over-budget = over-budget;
+      over-sum = over-sum;
+      within = within;
+      range = range;
+      only-no-script = only-none;
+      only-out-of-range = only-range;
+      own-refusal = own-refusal;
+      taken = taken;
+    }

@@ -51,7 +51,9 @@ module _ (ms : Meters) (k : ℕ) (k-script : k ≤ 3) (i : ℕ) (i-script : i �
   settled-as s f = rw (sum-after ms (f .meter) k k-script) (go (not (eqb (f .answer .number) «ACCEPTED»)) (ltb s (f .meter .count + othersOf ms k)))
     where
       go : (t u : Bool)
-          → As (refuseIf t (record { meters = ms; answer = f .answer }) (refuseIf u (refusedFour «OVER_BUDGET» ms) (record { meters = withMeter ms k (f .meter); answer = f .answer })))
+          → As (refuseIf t (record { meters = ms; answer = f .answer })
+          (refuseIf u (refusedFour «OVER_BUDGET» ms)
+          (record { meters = withMeter ms k (f .meter); answer = f .answer })))
           (refuseIf t (record { meter = meterOf ms k; answer = f .answer }) (refuseIf u (refusal «OVER_BUDGET» 0 (meterOf ms k)) f))
       go true u = refused-as (f .answer)
       go false true = refused-as (record { number = «OVER_BUDGET»; place = 0 })

@@ -34,7 +34,8 @@ module _ (f : GraphFunction) (fit : Fit f) where
   ahead-fresh : (q : ℕ) → Reachable (f .graph) q → Ahead f q (f .weight q)
   ahead-fresh q r = record { reached = r; heavy = omega arith; within = λ ps w. walk-most (f .graph) (fit .law) (f .weight) q ps r w }
 
-  ahead-on : (p k q : ℕ) → Ahead f p k → In q (f .graph .successors p) → (t : Bool) → f .graph .serves p q ≡ t → Ahead f q (cond t (f .weight q) (k + f .weight q))
+  ahead-on : (p k q : ℕ) → Ahead f p k → In q (f .graph .successors p) → (t : Bool) → f .graph .serves p q ≡ t
+      → Ahead f q (cond t (f .weight q) (k + f .weight q))
   ahead-on p k q h i true e = ahead-fresh q (graph.laws .reaching (f .graph) (fit .law) .next p q (h .reached) i)
   ahead-on p k q h i false e =
       record {
@@ -50,7 +51,8 @@ module _ (f : GraphFunction) where
   last-on (p ∷ ps) q h = meter.laws .last-more p ps q
 
   pub count-on : (ws : List ℕ) (q : ℕ) → Path (f .graph) ws
-      → weightSince (f .graph) (f .weight) (ws ++ (q ∷ [])) ≡ cond (f .graph .serves (lastOr0 ws) q) (f .weight q) (weightSince (f .graph) (f .weight) ws + f .weight q)
+      → weightSince (f .graph) (f .weight) (ws ++ (q ∷ [])) ≡ cond (f .graph .serves (lastOr0 ws) q)
+      (f .weight q) (weightSince (f .graph) (f .weight) ws + f .weight q)
   count-on [] q h = absurd h
   count-on (p ∷ ps) q h = meter.laws .weight-more (f .graph) (f .weight) p ps q
 
@@ -88,7 +90,9 @@ module _ (script : List GraphFunction) where
         record {
           known = k;
           path = (refl, fit f k .some);
-          ahead = subst (λ (x : ℕ). Ahead f 0 x) (omega arith) (ahead-fresh f (fit f k) 0 (graph.laws .reaching (f .graph) (fit f k .law) .start (fit f k .some)));
+          ahead =
+              subst (λ (x : ℕ). Ahead f 0 x) (omega arith) (ahead-fresh f (fit f k) 0
+              (graph.laws .reaching (f .graph) (fit f k .law) .start (fit f k .some)));
         }
 
     pub goes-on : (a : Activation) (q : ℕ) → Sound a → In q (a .function .graph .successors (activationLast a)) → Sound (onto a q)
@@ -98,5 +102,6 @@ module _ (script : List GraphFunction) where
           path = path-on (a .function) (fit (a .function) (s .known) .law) (a .words) q (s .path) i;
           ahead =
               rw (last-on (a .function) (a .words) q (s .path), count-on (a .function) (a .words) q (s .path))
-              (ahead-on (a .function) (fit (a .function) (s .known)) (activationLast a) (activationCount a) q (s .ahead) i (a .function .graph .serves (activationLast a) q) refl);
+              (ahead-on (a .function) (fit (a .function) (s .known)) (activationLast a) (activationCount a) q
+              (s .ahead) i (a .function .graph .serves (activationLast a) q) refl);
         }

@@ -7,7 +7,10 @@ use native.Mathlib.Nat.{le-trans, mul-le-mul-right}
 use native.Mathlib.Omega.{arith}
 use lib.ListN.{length}
 use Rattle.graph.specs.Graph.{In}
-use Rattle.calls.specs.Control.{GraphFunction, Activation, activationLast, activationCount, Control, idle, Move, call, tailcall, step, leave, serviced, waiting, activationFunctions, onto, stepped, returned, controlMoved, FollowsTop, Allowed, Run, controlAfter, Nested, Unserving, Serviceless}
+use Rattle.calls.specs.Control.{GraphFunction, Activation, activationLast, activationCount, Control}
+use Rattle.calls.specs.Control.{idle, Move, call, tailcall, step, leave, serviced, waiting}
+use Rattle.calls.specs.Control.{activationFunctions, onto, stepped, returned, controlMoved, FollowsTop}
+use Rattle.calls.specs.Control.{Allowed, Run, controlAfter, Nested, Unserving, Serviceless}
 use Rattle.calls.specs.Bound.{Fit, longestRun, total, largestRun, running, Bounded, CallsBounded}
 use Rattle.calls.proofs.Activations.{count-on, Sound, AllSound, sound-of, own-most, Few, few-more, enters, goes-on}
 
@@ -27,7 +30,8 @@ module _ (script : List GraphFunction) (fit : (f : GraphFunction) → In f scrip
   pub kept-idle : Kept idle
   kept-idle = record { sound = tt; chained = (omega arith, omega arith); few = omega arith }
 
-  kept-serviced : (a : Activation) (others : List Activation) (weight : ℕ) → Sound script a → AllSound script others → weight ≤ activationCount a → Kept (serviced a others weight)
+  kept-serviced : (a : Activation) (others : List Activation) (weight : ℕ) → Sound script a
+      → AllSound script others → weight ≤ activationCount a → Kept (serviced a others weight)
   kept-serviced a others weight s o h =
       record { sound = (s, o); chained = ([], refl, omega arith, omega arith); few = few-more script (a .function) [] (s .known) (omega arith) }
 
@@ -71,7 +75,8 @@ module _ (script : List GraphFunction) (fit : (f : GraphFunction) → In f scrip
   pub kept-move : (c : Control) (m : Move) → Kept c → Allowed script c m → Kept (controlMoved c m)
   kept-move c (call f) k i = kept-serviced (record { function = f; words = 0 ∷ [] }) (c .stack) (f .weight 0) (enters script fit f i) (k .sound) (omega arith)
   kept-move c (tailcall f) k i =
-      kept-serviced (record { function = f; words = 0 ∷ [] }) (waiting (c .stack)) (f .weight 0) (enters script fit f i) (waiting-sound (c .stack) (k .sound)) (omega arith)
+      kept-serviced (record { function = f; words = 0 ∷ [] }) (waiting (c .stack)) (f .weight 0)
+      (enters script fit f i) (waiting-sound (c .stack) (k .sound)) (omega arith)
   kept-move c (step q) k i = kept-step c (c .stack) q (k .sound) (k .chained) (k .few) i
   kept-move c leave k i = kept-leave c (c .stack) k (k .sound) (k .chained)
 

@@ -14,10 +14,16 @@ use Rattle.meter.specs.declared.step.Meter.{Meter}
 use Rattle.meter.specs.Feed.{Scale, scaleOf, beginOf, feedOf}
 use Rattle.meter.specs.Calls.{meterAfter, meterAnswers}
 use Rattle.meter.specs.Bound.{feeds}
-use Rattle.calls.specs.Control.{GraphFunction, Activation, activationLast, activationCount, Control, idle, call, tailcall, step, leave, stepped, returned, controlMoved, onto, waiting, serviced, FollowsTop, Allowed, Run, controlAfter}
+use Rattle.calls.specs.Control.{GraphFunction, Activation, activationLast, activationCount, Control}
+use Rattle.calls.specs.Control.{idle, call, tailcall, step, leave, stepped, returned, controlMoved}
+use Rattle.calls.specs.Control.{onto, waiting, serviced, FollowsTop, Allowed, Run, controlAfter}
 use Rattle.calls.specs.Bound.{Fit, running}
 use Rattle.calls.specs.Script.{functionOf, functionsFrom, runAnswerOf, AcceptedScript, Shows}
-use Rattle.calls.specs.Meters.{HeldMeter, Controller, unused, CallEvent, enters, replaces, goes, leaves, fedHeld, begunFor, heldAt, serving, behind, wentOn, dropped, controllerTold, toldAll, answersTo, eventAnswers, allAnswered, StepFrom, Possible, Happens, eventMove, movesOf, runningCount, MeterBound, MetersBound}
+use Rattle.calls.specs.Meters.{HeldMeter, Controller, unused, CallEvent, enters, replaces, goes, leaves}
+use Rattle.calls.specs.Meters.{fedHeld, begunFor, heldAt, serving, behind, wentOn, dropped}
+use Rattle.calls.specs.Meters.{controllerTold, toldAll, answersTo, eventAnswers, allAnswered, StepFrom}
+use Rattle.calls.specs.Meters.{Possible, Happens, eventMove, movesOf, runningCount, MeterBound}
+use Rattle.calls.specs.Meters.{MetersBound}
 use Rattle.calls.proofs.Activations.{Sound, AllSound, goes-on}
 use Rattle.calls.proofs.Bound.{Kept, kept-idle, kept-move, shown-of, most-of}
 use Rattle.calls.proofs.Script.{shows, fit-of, named}
@@ -28,7 +34,9 @@ after-more : (s : Scale) (m : Meter) (ws : List ℕ) (q : ℕ) → meterAfter s 
 after-more s m [] q = refl
 after-more s m (p ∷ ps) q = after-more s (feedOf s m p .meter) ps q
 
-answers-more : (s : Scale) (m : Meter) (ws : List ℕ) (q : ℕ) → In (feedOf s (meterAfter s m (feeds ws)) q .answer .number) (meterAnswers s m (feeds (ws ++ (q ∷ []))))
+answers-more : (s : Scale) (m : Meter) (ws : List ℕ) (q : ℕ)
+    → In (feedOf s (meterAfter s m (feeds ws)) q .answer .number)
+    (meterAnswers s m (feeds (ws ++ (q ∷ []))))
 answers-more s m [] q = inl refl
 answers-more s m (p ∷ ps) q = inr (answers-more s (feedOf s m p .meter) ps q)
 
@@ -42,7 +50,8 @@ in-append n [] ys P f g i = g n i
 in-append n (x ∷ xs) ys P f g (inl e) = f n (inl e)
 in-append n (x ∷ xs) ys P f g (inr i) = in-append n xs ys P (λ m j. f m (inr j)) g i
 
-in-functions : (weights : List ℕ) (rest : Script → ℕ → ℕ) (script : List Script) (ws : Script) → In ws script → In (functionOf weights rest ws) (functionsFrom weights rest script)
+in-functions : (weights : List ℕ) (rest : Script → ℕ → ℕ) (script : List Script) (ws : Script) → In ws script
+    → In (functionOf weights rest ws) (functionsFrom weights rest script)
 in-functions weights rest (x ∷ xs) ws (inl e) = inl (ap (functionOf weights rest) e)
 in-functions weights rest (x ∷ xs) ws (inr i) = inr (in-functions weights rest xs ws i)
 
@@ -87,16 +96,23 @@ module _ (weights : List ℕ) (rest : Script → ℕ → ℕ) (script : List Scr
       }
 
   -- and its feed is accepted, if the activation is then on a path
-  taken-on : (h : HeldMeter) (a : Activation) (q : ℕ) → (m : Match h a) → Path (a .function .graph) (onto a q .words) → fedHeld weights h q .answer .number ≡ «ACCEPTED»
+  taken-on : (h : HeldMeter) (a : Activation) (q : ℕ) → (m : Match h a)
+      → Path (a .function .graph) (onto a q .words) → fedHeld weights h q .answer .number ≡ «ACCEPTED»
   unfolding match-on
   taken-on h a q m path =
       ap (λ (x : Meter). feedOf (scaleOf (h .words) weights) x q .answer .number) (m .is)
       ∙ in-replicate (length (onto a q .words)) «ACCEPTED» _
-      (subst (λ (xs : List ℕ). In (feedOf (scaleOf (h .words) weights) (meterAfter (scaleOf (h .words) weights) (beginOf (m .meter)) (feeds (a .words))) q .answer .number) xs)
+      (subst (λ (xs : List ℕ). In
+      (feedOf (scaleOf (h .words) weights)
+      (meterAfter (scaleOf (h .words) weights) (beginOf (m .meter)) (feeds (a .words)))
+      q .answer .number)
+      xs)
       (shown-by (heldAt weights h q) (onto a q) (match-on h a q m) path .taken)
       (answers-more (scaleOf (h .words) weights) (beginOf (m .meter)) (a .words) q))
 
-  match-entered : (ws : Script) (m : Meter) → In ws script → m .services < 4294967296 → Match (heldAt weights (begunFor weights ws m) 0) (record { function = functionOf weights rest ws; words = 0 ∷ [] })
+  match-entered : (ws : Script) (m : Meter) → In ws script → m .services < 4294967296
+      → Match (heldAt weights (begunFor weights ws m) 0)
+      (record { function = functionOf weights rest ws; words = 0 ∷ [] })
   match-entered ws m i fits = record { known = i; same = refl; meter = m; fits = fits; is = refl }
 
   taken-entered : (ws : Script) (m : Meter) → In ws script → m .services < 4294967296 → fedHeld weights (begunFor weights ws m) 0 .answer .number ≡ «ACCEPTED»
@@ -188,7 +204,12 @@ module _ (weights : List ℕ) (rest : Script → ℕ → ℕ) (script : List Scr
       let i = in-functions weights rest script ws (p .0) in
       record {
         allowed = i;
-        mirrors = record { matches = (match-entered ws x (p .0) (p .1), m .matches); left = refl; kept = kept-move functions fit c (call (functionOf weights rest ws)) (m .kept) i };
+        mirrors =
+            record {
+              matches = (match-entered ws x (p .0) (p .1), m .matches);
+              left = refl;
+              kept = kept-move functions fit c (call (functionOf weights rest ws)) (m .kept) i;
+            };
         taken = λ n j. only (fedHeld weights (begunFor weights ws x) 0 .answer .number) n (taken-entered ws x (p .0) (p .1)) j;
       }
   next k c (replaces ws x) m p =
@@ -232,7 +253,10 @@ module _ (weights : List ℕ) (rest : Script → ℕ → ℕ) (script : List Scr
       record {
         run = (x .allowed, later .run);
         mirrors = later .mirrors;
-        taken = λ n j. in-append n (eventAnswers weights k e) (allAnswered weights (controllerTold weights k e) es) (λ (y : ℕ). y ≡ «ACCEPTED») (x .taken) (later .taken) j;
+        taken =
+            λ n j.
+            in-append n (eventAnswers weights k e) (allAnswered weights (controllerTold weights k e) es)
+            (λ (y : ℕ). y ≡ «ACCEPTED») (x .taken) (later .taken) j;
       }
 
   running-is : (hs : List HeldMeter) (os : List Activation) → Matches hs os → AllSound functions os → runningCount hs ≡ running os

@@ -37,7 +37,9 @@ use Rattle.meter.specs.Demand3.{Demand3}
 use Rattle.meter.proofs.Laws as meter
 use Rattle.calls.specs.Control.{GraphFunction, Activation, Control, idle, Move, call, step, leave, Run, controlAfter}
 use Rattle.calls.specs.Bound.{Fit, longestRun, largestRun, Bounded}
-use Rattle.calls.specs.Script.{functionOf, functionsFrom, runAnswerOf, largestAnswer, AcceptedScript, Shows, Metered, ScriptBounded, ScriptsBounded, versionScripts, EitherVersion, recursive, RecursionCase}
+use Rattle.calls.specs.Script.{functionOf, functionsFrom, runAnswerOf, largestAnswer, AcceptedScript}
+use Rattle.calls.specs.Script.{Shows, Metered, ScriptBounded, ScriptsBounded, versionScripts}
+use Rattle.calls.specs.Script.{EitherVersion, recursive, RecursionCase}
 use Rattle.calls.proofs.Bound.{calls-bounded}
 
 -- A path fed word by word is written down whole.
@@ -135,7 +137,8 @@ module _ (weights : List ℕ) (rest : Script → ℕ → ℕ) where
           known = n .1;
           same = n .2;
           shows = λ m fits.
-              shows weights (ok .weighs) (n .0) (ok .sound (n .0) (n .1)) (ok .accepted (n .0) (n .1)) m fits a rest (n .2) (subst (λ (h : GraphFunction). Path (h .graph) (a .words)) (n .2) path);
+              shows weights (ok .weighs) (n .0) (ok .sound (n .0) (n .1)) (ok .accepted (n .0) (n .1)) m fits
+              a rest (n .2) (subst (λ (h : GraphFunction). Path (h .graph) (a .words)) (n .2) path);
         }
 
     bounded-by : (moves : List Move) (c : Control) → Bounded (functionsFrom weights rest script) moves c → ScriptBounded weights rest script moves c
@@ -156,7 +159,8 @@ scripts-bounded = bounded
 
 -- Words of either version.
 
-of-version : (P : Script → Type 0) (version : Version) → ((ws : List ℕ) → P (scriptOf version ws)) → (script : List (List ℕ)) (f : Script) → In f (versionScripts version script) → P f
+of-version : (P : Script → Type 0) (version : Version) → ((ws : List ℕ) → P (scriptOf version ws))
+    → (script : List (List ℕ)) (f : Script) → In f (versionScripts version script) → P f
 of-version P version h [] f i = absurd i
 of-version P version h (ws ∷ script) f (inl e) = subst P (sym e) (h ws)
 of-version P version h (ws ∷ script) f (inr i) = of-version P version h script f i
@@ -180,7 +184,9 @@ either-version version weights weighs rest part script accepted moves run =
     moves run
 
 pub case : RecursionCase
-unfolding unless one ordered two opcodeAt isBetween companionPresent successorsOf servesOf classOf companionOf leads markOf within heaviest lengthOf most lowestFrom longest first lowestZero refusesWeights lowestInvalid runOf
+unfolding unless one ordered two opcodeAt isBetween companionPresent successorsOf servesOf classOf companionOf
+    leads markOf within heaviest lengthOf most lowestFrom longest first lowestZero refusesWeights
+    lowestInvalid runOf
 case =
     let f : GraphFunction = functionOf ones (λ ws p. 0) recursive in
     record {

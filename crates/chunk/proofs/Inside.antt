@@ -9,10 +9,13 @@ use lib.Dec.{leb, eqb}
 use lib.ListN.{length, getD, replicate}
 use Rattle.values.specs.Values.{«TAG_NIL», «TAG_FALSE», «TAG_TRUE», «TAG_INTEGER», «TAG_FLOAT», «TAG_SHORT_STRING», «TAG_LONG_STRING»}
 use Rattle.common.specs.Limits.{mostConstants}
-use Rattle.chunk.specs.Reading.{Result, done, refused, Reader, bind, only, repeat}
-use Rattle.chunk.specs.Lundump.{Text, absent, text, Constant, plain, string, loadByte, loadInt, loadNumber, loadInteger, loadStringN, present, loadString, loadItems, constantByTag, loadConstant, loadConstants, loadName, namesFrom, loadNames}
+use Rattle.lundump.specs.Reading.{Result, done, refused, Reader, bind, only, repeat}
+use Rattle.lundump.specs.Lundump.{Text, absent, text, Constant, plain, string, loadByte, loadInt}
+use Rattle.lundump.specs.Lundump.{loadNumber, loadInteger, loadStringN, present, loadString, loadItems}
+use Rattle.lundump.specs.Lundump.{constantByTag, loadConstant, loadConstants, loadName, namesFrom}
+use Rattle.lundump.specs.Lundump.{loadNames}
 use Rattle.chunk.specs.Places.{Plain}
-use Rattle.chunk.proofs.Texts.{text-inside}
+use Rattle.lundump.proofs.Texts.{text-inside}
 
 -- ---- a fact of each thing that is read
 module _ {A : Type 0} (Q : A → Type 0) where

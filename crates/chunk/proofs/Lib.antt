@@ -1,16 +1,6 @@
-pub mod Steps
-pub mod Unsigned
-pub mod Binds
-pub mod Repeats
-pub mod Bounds
-pub mod Thens
-pub mod Walks
-pub mod Whole
 pub mod Standing
 pub mod Rising
 pub mod Stores
-pub mod Texts
-pub mod Takes
 pub mod Refill
 pub mod Shows
 pub mod Passes

@@ -15,10 +15,10 @@ use Rattle.values.specs.declared.model.Span.{Span}
 use Rattle.values.specs.declared.model.Name.the-variants.{Unnamed, Named}
 use Rattle.values.specs.Values.{unnamed, spanOf, nameOf, spanNumber}
 use Rattle.values.specs.Spans.{past, namePastAt, firstNamePast}
-use Rattle.chunk.specs.Reading.{Result, done, refused, bind, only}
-use Rattle.chunk.specs.Lundump.{Text, absent, text, Constant, plain, string, Function, undump}
-use Rattle.chunk.specs.Chunk.{pick, chosen, payloadOf, nameNumber, valuesOf, payloadsOf, namesOf}
-use Rattle.chunk.specs.Stands.{Stands, OneRead}
+use Rattle.lundump.specs.Reading.{Result, done, refused, bind, only}
+use Rattle.lundump.specs.Lundump.{Text, absent, text, Constant, plain, string, Function, undump}
+use Rattle.lundump.specs.Chunk.{pick, chosen, payloadOf, nameNumber, valuesOf, payloadsOf, namesOf}
+use Rattle.lundump.specs.Stands.{Stands, OneRead}
 use Rattle.chunk.specs.Places.{Plain, Places}
 use Rattle.chunk.proofs.Standing.{chosen-stands}
 use Rattle.chunk.proofs.Stores.{values-count}

@@ -10,13 +10,14 @@ use lib.ListN.{length, drop, getD}
 use borrow.Author.Tests.{ltb-true}
 use Rattle.values.specs.Values.{«TAG_NIL», «TAG_FALSE», «TAG_TRUE», «TAG_INTEGER», «TAG_FLOAT», «TAG_SHORT_STRING», «TAG_LONG_STRING»}
 use Rattle.common.specs.Limits.{mostWords, mostConstants, mostNames, levelsBelow, sizeMax, intMax}
-use Rattle.chunk.specs.Reading.{Result, done, refused, Reader, bind, andThen, only, repeat}
-use Rattle.chunk.specs.Lundump.{Function, Constant, Text, absent, text, loadBlock, loadByte, unsignedFrom, loadUnsigned, loadSize, loadInt}
-use Rattle.chunk.specs.Lundump.{loadNumber, loadInteger, stringOf, loadStringN, present, loadString, loadVector, loadItems, loadCode}
-use Rattle.chunk.specs.Lundump.{constantByTag, loadConstant, loadConstants, loadUpvalues, loadAbsLine, loadLocVar, loadLines, loadName, namesFrom, loadNames}
-use Rattle.chunk.specs.Lundump.{loadHead, functionWith, several, noneOf, loadProtos, loadFunction, checkHeader, undump}
-use Rattle.chunk.specs.Stands.{StandBetween, ReadBetween}
-use Rattle.chunk.proofs.Thens.{then1, then2, then3, then4, then5, then6, then7}
+use Rattle.lundump.specs.Reading.{Result, done, refused, Reader, bind, andThen, only, repeat}
+use Rattle.lundump.specs.Lundump.{Function, Constant, Text, absent, text, loadBlock, loadByte, unsignedFrom, loadUnsigned, loadSize, loadInt}
+use Rattle.lundump.specs.Lundump.{loadNumber, loadInteger, stringOf, loadStringN, present, loadString, loadVector, loadItems, loadCode}
+use Rattle.lundump.specs.Lundump.{constantByTag, loadConstant, loadConstants, loadUpvalues, loadAbsLine}
+use Rattle.lundump.specs.Lundump.{loadLocVar, loadLines, loadName, namesFrom, loadNames}
+use Rattle.lundump.specs.Lundump.{loadHead, functionWith, several, noneOf, loadProtos, loadFunction, checkHeader, undump}
+use Rattle.lundump.specs.Stands.{StandBetween, ReadBetween}
+use Rattle.lundump.proofs.Thens.{then1, then2, then3, then4, then5, then6, then7}
 
 -- ---- what is read ends where it starts, or later
 abbrev Up : {A : Type 0} → ℕ → Result A → Type 0
@@ -239,7 +240,8 @@ module _ (size : ℕ) where
   above lo hi zero (f ∷ fs) d b h = b .0
   above lo hi (suc k) (f ∷ fs) d b h = omega (arith, b .0, above (f .firstAt + 1) hi k fs d (b .1 .1 .1) (omega arith))
 
-  rises : (lo hi : ℕ) (fs : List Function) → StandBetween size lo fs hi → (j k : ℕ) (d : Function) → j < k → k < length fs → getD fs j d .firstAt < getD fs k d .firstAt
+  rises : (lo hi : ℕ) (fs : List Function) → StandBetween size lo fs hi → (j k : ℕ) (d : Function) → j < k
+      → k < length fs → getD fs j d .firstAt < getD fs k d .firstAt
   rises lo hi [] b j k d h l = absurd (omega arith)
   rises lo hi (f ∷ fs) b j zero d h l = absurd (omega arith)
   rises lo hi (f ∷ fs) b zero (suc k) d h l = omega (arith, above (f .firstAt + 1) hi k fs d (b .1 .1 .1) (omega arith))
@@ -258,7 +260,8 @@ module _ (size : ℕ) where
   lower-read lo lo₁ (refused e) h k = tt
 
   -- after what goes forward
-  read-bind : {A : Type 0} (at : ℕ) (X : Result A) (g : A → ℕ → Result (List Function)) → Up at X → ((a : A) (at₁ : ℕ) → Read at₁ (g a at₁)) → Read at (bind X g)
+  read-bind : {A : Type 0} (at : ℕ) (X : Result A) (g : A → ℕ → Result (List Function)) → Up at X
+      → ((a : A) (at₁ : ℕ) → Read at₁ (g a at₁)) → Read at (bind X g)
   read-bind at (done a at₁) g h k = lower-read at at₁ (g a at₁) h (k a at₁)
   read-bind at (refused e) g h k = tt
 
@@ -267,7 +270,8 @@ module _ (bytes : List ℕ) where
   size = length bytes
 
   module _ (r : Reader (List Function)) (each : (at : ℕ) → Read size at (r bytes at)) where
-    both : (lo : ℕ) (fs : List Function) (at : ℕ) → StandBetween size lo fs at → (X : Result (List Function)) → Read size at X → Read size lo (bind X (λ more at₂. done (fs ++ more) at₂))
+    both : (lo : ℕ) (fs : List Function) (at : ℕ) → StandBetween size lo fs at → (X : Result (List Function))
+        → Read size at X → Read size lo (bind X (λ more at₂. done (fs ++ more) at₂))
     both lo fs at h (done more at₂) k = joined size lo at at₂ fs more h k
     both lo fs at h (refused e) k = tt
 
@@ -296,7 +300,9 @@ module _ (bytes : List ℕ) where
 
       r5 : (at₁ : ℕ) (ws : List ℕ) (at₂ : ℕ) (ks : List Constant) (n at₄ : ℕ) (X : Result (List Function))
           → at₀ + 1 ≤ at₄ → Read size at₄ X → Read size at₀ (bind X (then5 bytes P at₀ at₁ ws at₂ ks n))
-      r5 at₁ ws at₂ ks n at₄ (done inner at₅) h b = r6 at₁ ws at₂ ks n inner at₅ (loadLines bytes at₅) (lower size (at₀ + 1) at₄ at₅ inner h b) (lines bytes at₅)
+      r5 at₁ ws at₂ ks n at₄ (done inner at₅) h b =
+          r6 at₁ ws at₂ ks n inner at₅ (loadLines bytes at₅) (lower size (at₀ + 1) at₄ at₅ inner h b)
+          (lines bytes at₅)
       r5 at₁ ws at₂ ks n at₄ (refused e) h b = tt
 
       r4 : (at₁ : ℕ) (ws : List ℕ) (at₂ : ℕ) (ks : List Constant) (at₃ : ℕ) (X : Result ℕ)

@@ -8,12 +8,15 @@ use native.Mathlib.Omega.{arith}
 use lib.Dec.{leb}
 use lib.ListN.{length}
 use Rattle.common.specs.Limits.{mostConstants, mostNames, levelsBelow}
-use Rattle.chunk.specs.Reading.{Result, done, refused, Reader, bind, only}
-use Rattle.chunk.specs.Lundump.{loadByte, Function, Constant, Text, loadInt, loadHead, loadCode, loadConstant, loadConstants, loadUpvalues, loadLines, loadNames, functionWith, several, noneOf, loadProtos, loadFunction, checkHeader, undump}
-use Rattle.chunk.specs.Chunk.{pick, chosen}
-use Rattle.chunk.specs.Stands.{AllStand, AllRead, OneRead}
-use Rattle.chunk.proofs.Bounds.{names-length, few-words, few-upvalues, few-items}
-use Rattle.chunk.proofs.Thens.{then1, then2, then3, then4, then5, then6, then7}
+use Rattle.lundump.specs.Reading.{Result, done, refused, Reader, bind, only}
+use Rattle.lundump.specs.Lundump.{loadByte, Function, Constant, Text, loadInt, loadHead, loadCode}
+use Rattle.lundump.specs.Lundump.{loadConstant, loadConstants, loadUpvalues, loadLines, loadNames}
+use Rattle.lundump.specs.Lundump.{functionWith, several, noneOf, loadProtos, loadFunction, checkHeader}
+use Rattle.lundump.specs.Lundump.{undump}
+use Rattle.lundump.specs.Chunk.{pick, chosen}
+use Rattle.lundump.specs.Stands.{AllStand, AllRead, OneRead}
+use Rattle.lundump.proofs.Bounds.{names-length, few-words, few-upvalues, few-items}
+use Rattle.lundump.proofs.Thens.{then1, then2, then3, then4, then5, then6, then7}
 
 module _ (bytes : List ℕ) where
   both : (fs gs : List Function) → AllStand bytes fs → AllStand bytes gs → AllStand bytes (fs ++ gs)

@@ -1,13 +1,6 @@
--- Compiled files: the format as lundump.c reads it, the chosen function, the names shown;
--- then what contracts within the crate cite.
-pub mod Numbers
-pub mod Reading
-pub mod Lundump
-pub mod Chunk
+-- Compiled files: the names shown; what contracts within the crate cite; what holds of both passes, of the
+-- names shown and of the filled places.
 pub mod Names
-pub mod Stands
-pub mod Cursors
-pub mod Search
 pub mod Filling
 pub mod Claims
 pub mod Examples

@@ -19,8 +19,8 @@ use Rattle.values.specs.Values.{
   nameOf,
 }
 use Rattle.values.specs.Spans.{past, firstNamePast}
-use Rattle.chunk.specs.Lundump.{Text, absent, text, Constant, plain, string, Function}
-use Rattle.chunk.specs.Chunk.{payloadsOf, namesOf}
+use Rattle.lundump.specs.Lundump.{Text, absent, text, Constant, plain, string, Function}
+use Rattle.lundump.specs.Chunk.{payloadsOf, namesOf}
 
 -- the tags that need no bytes
 abbrev pub Plain : ℕ → Type 0

@@ -1,6 +1,6 @@
 // The C interface: answers as structs of numbers, since an exported function may give no enum.
 ghost use mathlib.Core.Path.{_≡_};
-ghost use Rattle.chunk.specs.Chunk.{
+ghost use Rattle.lundump.specs.Chunk.{
   chosen,
   countsOf,
   filled,
@@ -13,19 +13,19 @@ ghost use Rattle.chunk.specs.Chunk.{
 };
 ghost use lib.ListN.{length};
 ghost use Rattle.chunk.specs.Names.{shownOf};
-use crate::counts::Counts;
-use crate::counts::report;
 use crate::filling::fill_code;
 use crate::filling::fill_constants;
 use crate::filling::fill_names;
 use crate::filling::with_room;
-use crate::locating::Located;
-use crate::locating::locate;
 use crate::names::Shown;
 use crate::names::check;
 use crate::names::lent_name;
 use crate::names::no_name;
 use crate::names::or_else;
+use lundump::Counts;
+use lundump::Located;
+use lundump::inner::locate;
+use lundump::inner::report;
 use values::lookup;
 
 // Of function k, counted from 0 by first byte. Nothing is filled.

@@ -1,5 +1,5 @@
 // What the cases print.
-use chunk::Counts;
+use lundump::Counts;
 use print_cases::bytes;
 pub use print_cases::end;
 pub use print_cases::number;

@@ -31,7 +31,14 @@ both : (l : List ℕ) (i : ℕ) (xs ys : List ℕ) → i + (length xs + length y
 unfolding put
 both l i xs ys h =
     let e : length (take i l ++ xs) ≡ i + length xs = simp (length-append, length-take-le i l (omega arith)) refl in
-    rw (← append-assoc (take i l) xs (drop (i + length xs) l), take-at (take i l ++ xs) (drop (i + length xs) l) (i + length xs) e, ← drop-drop (length ys) (i + length xs) (take i l ++ xs ++ drop (i + length xs) l), drop-at (take i l ++ xs) (drop (i + length xs) l) (i + length xs) e, drop-drop (length ys) (i + length xs) l, length-append xs ys)
+    rw (
+      ← append-assoc (take i l) xs (drop (i + length xs) l),
+      take-at (take i l ++ xs) (drop (i + length xs) l) (i + length xs) e,
+      ← drop-drop (length ys) (i + length xs) (take i l ++ xs ++ drop (i + length xs) l),
+      drop-at (take i l ++ xs) (drop (i + length xs) l) (i + length xs) e,
+      drop-drop (length ys) (i + length xs) l,
+      length-append xs ys,
+    )
     (rest (i + length xs + length ys) (i + (length xs + length ys)) (omega arith))
   where
     rest : (a b : ℕ) → a ≡ b → (take i l ++ xs) ++ (ys ++ drop a l) ≡ take i l ++ ((xs ++ ys) ++ drop b l)
@@ -58,7 +65,15 @@ before : (l : List ℕ) (i k b : ℕ) (xs : List ℕ) → length xs ≡ k → i 
 unfolding put
 before l i k b xs e h =
     let s : length (xs ++ (b ∷ [])) ≡ k + 1 = length-append xs (b ∷ []) ∙ ap (λ (n : ℕ). n + 1) e in
-    rw (take-set-le i l (i + k) b (omega arith), e, s, set-split l (i + k) b h, drop-at (take (i + k) l) (b ∷ drop (suc (i + k)) l) (i + k) (length-take-le (i + k) l (omega arith)), append-assoc xs (b ∷ []) (drop (i + (k + 1)) l))
+    rw (
+      take-set-le i l (i + k) b (omega arith),
+      e,
+      s,
+      set-split l (i + k) b h,
+      drop-at (take (i + k) l) (b ∷ drop (suc (i + k)) l) (i + k)
+          (length-take-le (i + k) l (omega arith)),
+      append-assoc xs (b ∷ []) (drop (i + (k + 1)) l),
+    )
     (let q : suc (i + k) ≡ i + (k + 1) = omega arith in rw q)
 
 pub put-laws : PutLaws

@@ -12,7 +12,9 @@ abbrev pub AtSet : List ℕ → ℕ → ℕ → ℕ → Type 0
 AtSet l q v x = ((x ≡ q) × (getD (set l q v) x 0 ≡ v)) ⊎ ((x ≡ q → ⊥) × (getD (set l q v) x 0 ≡ getD l x 0))
 
 pub at-set : (l : List ℕ) (q v x : ℕ) → q < length l → AtSet l q v x
-at-set l q v x h = ⊎-elim (λ e. inl (e, ap (λ (y : ℕ). getD (set l q v) y 0) e ∙ getD-set-same l q v 0 h)) (λ n. inr (n, getD-set-other l q x v 0 n)) (same-or-not x q)
+at-set l q v x h =
+    ⊎-elim (λ e. inl (e, ap (λ (y : ℕ). getD (set l q v) y 0) e ∙ getD-set-same l q v 0 h))
+    (λ n. inr (n, getD-set-other l q x v 0 n)) (same-or-not x q)
 
 -- a number that is stored once more stays where it is
 pub stays : (l : List ℕ) (q v x : ℕ) → q < length l → getD l x 0 ≡ v → getD (set l q v) x 0 ≡ v

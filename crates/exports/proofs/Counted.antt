@@ -60,7 +60,9 @@ module _ (words tags payloads names : List ℕ) where
   record-more l o o′ i e h f =
       let z : 53 * i ≡ 0 + 53 * i = omega arith in
       let k : length (numbersOf (liftOf words tags payloads names i)) ≡ 53 = length-numbers (liftOf words tags payloads names i) in
-      rw (add-one i) (put-laws .and-then l o o′ 0 (53 * i) (recordsNumbers words tags payloads names i) (numbersOf (liftOf words tags payloads names i)) e (length-records i) (rw k (omega arith)) (rw z at f))
+      rw (add-one i) (put-laws .and-then l o o′ 0 (53 * i) (recordsNumbers words tags payloads names i)
+      (numbersOf (liftOf words tags payloads names i)) e (length-records i) (rw k (omega arith))
+      (rw z at f))
 
   pub record-none : (l : List ℕ) → l ≡ put l 0 (recordsNumbers words tags payloads names 0)
   unfolding recordsNumbers put

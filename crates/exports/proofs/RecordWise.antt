@@ -33,7 +33,12 @@ module _ (words tags payloads names : List ℕ) where
       go : (t : Bool) → eqb i n ≡ t → (i < n → take 53 (drop (53 * i) all) ≡ numbersOf (liftOf words tags payloads names i))
           → take 53 (drop (53 * i) all) ≡ numbersOf (liftOf words tags payloads names i)
       go true e lower =
-          rw (eqb-true i n e, drop-at (recordsNumbers words tags payloads names n) (numbersOf (liftOf words tags payloads names n) ++ rest) (53 * n) (length-records words tags payloads names n))
+          rw (
+            eqb-true i n e,
+            drop-at (recordsNumbers words tags payloads names n)
+                (numbersOf (liftOf words tags payloads names n) ++ rest) (53 * n)
+                (length-records words tags payloads names n),
+          )
           (take-at (numbersOf (liftOf words tags payloads names n)) rest 53 (length-numbers (liftOf words tags payloads names n)))
       go false e lower = let d : i ≡ n → ⊥ = eqb-false i n e in lower (omega arith)
 
@@ -60,7 +65,10 @@ module _ (words tags payloads names : List ℕ) where
 
     past : (t : Bool) → drop (53 * length words) (after (choose t (length words) 0)) ≡ drop (53 * length words) numbers
     unfolding choose recordsNumbers
-    past true = drop-at (recordsNumbers words tags payloads names (length words)) (drop (53 * length words) numbers) (53 * length words) (length-records words tags payloads names (length words))
+    past true =
+        drop-at (recordsNumbers words tags payloads names (length words))
+        (drop (53 * length words) numbers) (53 * length words)
+        (length-records words tags payloads names (length words))
     past false = refl
 
     kept : length (numbersAfter words tags payloads names bytes numbers) ≡ length numbers
@@ -68,7 +76,9 @@ module _ (words tags payloads names : List ℕ) where
         let n = planOf (length words) tags payloads names bytes (roomIn numbers) .count in
         let w = plan-laws words tags payloads names bytes (roomIn numbers) in
         let k : length (recordsNumbers words tags payloads names n) ≡ 53 * n = length-records words tags payloads names n in
-        rw (← k) (ap length (sym (put-laws .start numbers (recordsNumbers words tags payloads names n))) ∙ put-laws .length-put numbers 0 (recordsNumbers words tags payloads names n) (omega (arith, w .within-room, k)))
+        rw (← k) (ap length (sym (put-laws .start numbers (recordsNumbers words tags payloads names n)))
+        ∙ put-laws .length-put numbers 0 (recordsNumbers words tags payloads names n)
+        (omega (arith, w .within-room, k)))
 
     pub record-wise : RecordWise words tags payloads names bytes numbers
     record-wise =

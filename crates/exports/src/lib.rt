@@ -2,8 +2,6 @@
 // function may give no enum.
 pub mod c;
 pub mod lifted;
-mod numbers;
-pub mod parts;
 
 pub use c::lawendeb_longest_run_3;
 pub use c::lawendeb_successors;

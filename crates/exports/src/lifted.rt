@@ -5,9 +5,8 @@ ghost use Prim.Native.Nat.{_+_, _*_, _<_, _≤_};
 ghost use lib.ListN.{length};
 ghost use Rattle.common.specs.Lists.{put};
 ghost use Rattle.records.specs.Laws.{Recorded};
+ghost use Rattle.numbered.specs.Parts.{flatOperand, flatTarget};
 ghost use Rattle.exports.specs.Flat.{
-  flatOperand,
-  flatTarget,
   slotNumbers,
   pairNumbers,
   headNumbers,
@@ -20,7 +19,9 @@ ghost use Rattle.exports.specs.Flat.{
   recordsNumbers,
   recordLength,
 };
-use crate::parts::*;
+use numbered::FlatPair;
+use numbered::FlatSlot;
+use numbered::inner::*;
 use records::lift::record_or_blank;
 use values::ir::*;
 

@@ -22,9 +22,9 @@ use Rattle.values.specs.declared.ir.ImplicitEffect.the-variants.{
 }
 use Rattle.values.specs.declared.ir.CompanionRole.the-variants as role
 use Rattle.values.specs.declared.ir.OptionalPc.the-variants.{NoPc, Pc}
-use Rattle.families.specs.declared.builders.Body.{Body}
-use Rattle.families.specs.Shapes.{body, plain}
-use Rattle.families.specs.Parts.{
+use Rattle.builders.specs.declared.builders.Body.{Body}
+use Rattle.builders.specs.Shapes.{body, plain}
+use Rattle.builders.specs.Parts.{
   plus,
   eventOf,
   constant,

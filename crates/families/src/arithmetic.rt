@@ -2,8 +2,8 @@
 // Gettable, Geti and Getfield do.
 ghost use mathlib.Core.Path.{_≡_};
 ghost use Rattle.families.specs.Families as F;
-use crate::builders::*;
-use crate::parts::*;
+use builders::builders::*;
+use builders::parts::*;
 use fields::word::RawInstruction54;
 use values::ir::CompanionRole;
 use values::ir::EffectTarget;

@@ -1,8 +1,8 @@
 // Arms of lifter.rs from Call to Extraarg.
 ghost use mathlib.Core.Path.{_≡_};
 ghost use Rattle.families.specs.Families as F;
-use crate::builders::*;
-use crate::parts::*;
+use builders::builders::*;
+use builders::parts::*;
 use fields::word::RawInstruction54;
 use values::ir::EffectTarget;
 use values::ir::ImplicitEffect;

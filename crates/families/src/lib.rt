@@ -1,8 +1,6 @@
 // Layer 4, its middle: what each arm of lifter.rs says of a decoded word.
 pub mod arithmetic;
-pub mod builders;
 pub mod calls;
 pub mod control;
 pub mod loads;
-pub mod parts;
 pub mod tables;

@@ -3,7 +3,10 @@
 use Prim.Native.Nat.{ℕ, _/_, _%_, _<_}
 use mathlib.Core.Path.{_≡_}
 use native.Mathlib.Omega.{arith}
-use Rattle.fields.specs.Table53.{StepClass, following, returning, branching, comparing, skipping, skippingIfC, skippingUnlessC, jumping, looping, invalid, classNumber, classOf, companionNumber, companionOf, modeOf, companionAndClass, modeByte}
+use Rattle.fields.specs.Table53.{StepClass, following, returning, branching, comparing, skipping}
+use Rattle.fields.specs.Table53.{skippingIfC, skippingUnlessC, jumping, looping, invalid, classNumber}
+use Rattle.fields.specs.Table53.{classOf, companionNumber, companionOf, modeOf, companionAndClass}
+use Rattle.fields.specs.Table53.{modeByte}
 use Rattle.fields.specs.Packed.{eightOf, byteOf}
 use Rattle.fields.proofs.Bytes.{byte-at}
 

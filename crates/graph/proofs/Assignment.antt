@@ -14,7 +14,9 @@ use Rattle.common.proofs.Order.{split, same-or-not, past}
 use Rattle.graph.specs.Graph.{Graph, In, Lawful, Along, Path, Reachable}
 use Rattle.graph.specs.Marks.{markOf}
 use Rattle.graph.specs.Distance.{lastOf}
-use Rattle.graph.specs.Assignment.{Usage, ReadsBounded, SetAlong, SetOn, UnsetAlong, SetBeforeUse, Breaks, without, cut, someBelow, readsUnset, unsetAt, lowestUnset, Assignments, Cutting}
+use Rattle.graph.specs.Assignment.{Usage, ReadsBounded, SetAlong, SetOn, UnsetAlong, SetBeforeUse}
+use Rattle.graph.specs.Assignment.{Breaks, without, cut, someBelow, readsUnset, unsetAt, lowestUnset}
+use Rattle.graph.specs.Assignment.{Assignments, Cutting}
 use Rattle.graph.proofs.Paths.{along-in}
 use Rattle.graph.proofs.Laws.{reaching, marking}
 
@@ -24,7 +26,8 @@ module _ (t : ℕ → Bool) where
   without-in q [] i = absurd i
   without-in q (x ∷ xs) i = go (λ j. without-in q xs j) (t x) refl i
     where
-      go : (In q (without t xs) → In q xs × (t q ≡ false)) → (b : Bool) → t x ≡ b → In q (cond b (without t xs) (x ∷ without t xs)) → In q (x ∷ xs) × (t q ≡ false)
+      go : (In q (without t xs) → In q xs × (t q ≡ false)) → (b : Bool) → t x ≡ b
+          → In q (cond b (without t xs) (x ∷ without t xs)) → In q (x ∷ xs) × (t q ≡ false)
       go rec true e j = let r = rec j in (inr (r .0), r .1)
       go rec false e (inl d) = (inl d, ap t d ∙ e)
       go rec false e (inr j) = let r = rec j in (inr (r .0), r .1)
@@ -149,7 +152,9 @@ some-is t (suc k) e = go (λ f. some-is t k f) (t k) refl e
 is-some : (t : ℕ → Bool) (k r : ℕ) → r < k → t r ≡ true → someBelow t k ≡ true
 unfolding someBelow
 is-some t zero r h e = absurd (not-suc-le-zero h)
-is-some t (suc k) r h e = ⊎-elim (λ d. let f : t k ≡ true = subst (λ (x : ℕ). t x ≡ true) d e in simp f) (λ n. go (t k) (is-some t k r (past (omega arith) (λ d. n (sym d))) e)) (same-or-not r k)
+is-some t (suc k) r h e =
+    ⊎-elim (λ d. let f : t k ≡ true = subst (λ (x : ℕ). t x ≡ true) d e in simp f)
+    (λ n. go (t k) (is-some t k r (past (omega arith) (λ d. n (sym d))) e)) (same-or-not r k)
   where
     go : (b : Bool) → someBelow t k ≡ true → b || someBelow t k ≡ true
     go true f = refl
@@ -215,7 +220,15 @@ module _ (g : Graph) (law : Lawful g) (u : Usage) (bounded : ReadsBounded u) (k 
       along [] a n =
           absurd
           (unbroken
-          (record { rest = []; path = (refl, subst (λ (x : ℕ). x < g .size) (a .0) (along-in g p after (a .1))); ends = sym (a .0); register = r; no-parameter = n; read = read; unset = tt }))
+          (record {
+            rest = [];
+            path = (refl, subst (λ (x : ℕ). x < g .size) (a .0) (along-in g p after (a .1)));
+            ends = sym (a .0);
+            register = r;
+            no-parameter = n;
+            read = read;
+            unset = tt;
+          }))
       along (b ∷ bs) a n = ⊎-elim (λ s. s) (λ s. absurd (unbroken (broken s))) (set-or-not (setting r) b (bs ++ (p ∷ [])))
         where
           broken : UnsetAlong (setting r) b (bs ++ (p ∷ [])) → Breaks g u k p

@@ -12,7 +12,8 @@ use lib.ListN.{length}
 use Rattle.common.proofs.Order.{same-or-not, past}
 use Rattle.graph.specs.Graph.{Graph, In, Lawful, Reachable}
 use Rattle.graph.specs.Marks.{markOf}
-use Rattle.graph.specs.Crossing.{Edge, Crosses, crosses, crossingFrom, crossingBelow, crossingEdges, crossingOf, EdgeListed, EachOnce, Different, Crossing, Crossings}
+use Rattle.graph.specs.Crossing.{Edge, Crosses, crosses, crossingFrom, crossingBelow, crossingEdges}
+use Rattle.graph.specs.Crossing.{crossingOf, EdgeListed, EachOnce, Different, Crossing, Crossings}
 use Rattle.graph.proofs.Laws.{reaching, marking}
 
 -- the test is right
@@ -100,11 +101,13 @@ module _ (g : Graph) (law : Lawful g) (w : ℕ) where
   of-word : (k : ℕ) (e : Edge) → EdgeListed e (ofWord k) → (markOf g k ≡ 1) × EdgeListed e (crossingFrom w k (g .successors k))
   of-word k e i = go (eqb (markOf g k) 1) refl i
     where
-      go : (b : Bool) → eqb (markOf g k) 1 ≡ b → EdgeListed e (cond b (crossingFrom w k (g .successors k)) []) → (markOf g k ≡ 1) × EdgeListed e (crossingFrom w k (g .successors k))
+      go : (b : Bool) → eqb (markOf g k) 1 ≡ b → EdgeListed e (cond b (crossingFrom w k (g .successors k)) [])
+          → (markOf g k ≡ 1) × EdgeListed e (crossingFrom w k (g .successors k))
       go true t j = (eqb-true (markOf g k) 1 t, j)
       go false t j = absurd j
 
-  below-is : (k : ℕ) → k ≤ g .size → (e : Edge) → EdgeListed e (crossingBelow g w k) → (e .from < k) × Reachable g (e .from) × In (e .to) (g .successors (e .from)) × Crosses w e
+  below-is : (k : ℕ) → k ≤ g .size → (e : Edge) → EdgeListed e (crossingBelow g w k)
+      → (e .from < k) × Reachable g (e .from) × In (e .to) (g .successors (e .from)) × Crosses w e
   unfolding crossingBelow
   below-is zero h e i = absurd i
   below-is (suc k) h e i =
@@ -118,17 +121,24 @@ module _ (g : Graph) (law : Lawful g) (w : ℕ) where
       (λ j. let r = below-is k (omega arith) e j in (omega (arith, r .0), r .1, r .2, r .3))
       (listed-either e (ofWord k) (crossingBelow g w k) i)
 
-  is-below : (k p q : ℕ) → p < k → Reachable g p → In q (g .successors p) → ((p < w) × (w < q)) ⊎ ((q < w) × (w < p)) → EdgeListed (record { from = p; to = q }) (crossingBelow g w k)
+  is-below : (k p q : ℕ) → p < k → Reachable g p → In q (g .successors p)
+      → ((p < w) × (w < q)) ⊎ ((q < w) × (w < p))
+      → EdgeListed (record { from = p; to = q }) (crossingBelow g w k)
   unfolding crossingBelow
   is-below zero p q h r i c = absurd (not-suc-le-zero h)
   is-below (suc k) p q h r i c =
       ⊎-elim
-      (λ e. listed-left (record { from = p; to = q }) (ofWord k) (crossingBelow g w k) (subst (λ (x : ℕ). EdgeListed (record { from = p; to = q }) (ofWord x)) e here))
+      (λ e. listed-left (record { from = p; to = q }) (ofWord k) (crossingBelow g w k)
+      (subst (λ (x : ℕ). EdgeListed (record { from = p; to = q }) (ofWord x)) e here))
       (λ n. listed-right (record { from = p; to = q }) (ofWord k) (crossingBelow g w k) (is-below k p q (past (omega arith) (λ e. n (sym e))) r i c))
       (same-or-not p k)
     where
       here : EdgeListed (record { from = p; to = q }) (ofWord p)
-      here = subst (λ (b : Bool). EdgeListed (record { from = p; to = q }) (cond b (crossingFrom w p (g .successors p)) [])) (sym (eq-eqb (markOf g p) 1 (marking g law .one p r))) (is-from w p (g .successors p) q i c)
+      here =
+          subst
+          (λ (b : Bool).
+          EdgeListed (record { from = p; to = q }) (cond b (crossingFrom w p (g .successors p)) []))
+          (sym (eq-eqb (markOf g p) 1 (marking g law .one p r))) (is-from w p (g .successors p) q i c)
 
   below-once : ((p : ℕ) → Different (g .successors p)) → (k : ℕ) → k ≤ g .size → EachOnce (crossingBelow g w k)
   unfolding crossingBelow

@@ -17,7 +17,9 @@ serves-in : (g : Graph) (p : ℕ) (l : List ℕ) → someServes g p l ≡ true �
 serves-in g p [] e = absurd (false≢true e)
 serves-in g p (x ∷ xs) e = go (λ h. serves-in g p xs h) (g .serves p x) refl e
   where
-    go : (someServes g p xs ≡ true → (q : ℕ) × In q xs × (g .serves p q ≡ true)) → (b : Bool) → g .serves p x ≡ b → b || someServes g p xs ≡ true → (q : ℕ) × In q (x ∷ xs) × (g .serves p q ≡ true)
+    go : (someServes g p xs ≡ true → (q : ℕ) × In q xs × (g .serves p q ≡ true)) → (b : Bool)
+        → g .serves p x ≡ b → b || someServes g p xs ≡ true
+        → (q : ℕ) × In q (x ∷ xs) × (g .serves p q ≡ true)
     go rec true s h = (x, inl refl, s)
     go rec false s h = let r = rec h in (r .0, inr (r .1), r .2)
 
@@ -25,7 +27,8 @@ serves-not : (g : Graph) (p : ℕ) (l : List ℕ) → someServes g p l ≡ false
 serves-not g p [] e q i = absurd i
 serves-not g p (x ∷ xs) e q i = go (λ h j. serves-not g p xs h q j) (g .serves p x) refl e i
   where
-    go : (someServes g p xs ≡ false → In q xs → g .serves p q ≡ false) → (b : Bool) → g .serves p x ≡ b → b || someServes g p xs ≡ false → In q (x ∷ xs) → g .serves p q ≡ false
+    go : (someServes g p xs ≡ false → In q xs → g .serves p q ≡ false) → (b : Bool) → g .serves p x ≡ b
+        → b || someServes g p xs ≡ false → In q (x ∷ xs) → g .serves p q ≡ false
     go rec true s h j = absurd (true≢false h)
     go rec false s h (inl d) = ap (g .serves p) d ∙ s
     go rec false s h (inr j) = rec h j
@@ -54,7 +57,9 @@ least-in : (f : ℕ → ℕ) (x : ℕ) (xs : List ℕ) → (q : ℕ) × In q (x 
 least-in f x [] = (x, inl refl, refl)
 least-in f x (y ∷ ys) = go (least-in f y ys) (split (f x) (leastOf f (y ∷ ys)))
   where
-    go : ((q : ℕ) × In q (y ∷ ys) × (f q ≡ leastOf f (y ∷ ys))) → (f x ≤ leastOf f (y ∷ ys)) ⊎ (leastOf f (y ∷ ys) < f x) → (q : ℕ) × In q (x ∷ y ∷ ys) × (f q ≡ min (f x) (leastOf f (y ∷ ys)))
+    go : ((q : ℕ) × In q (y ∷ ys) × (f q ≡ leastOf f (y ∷ ys)))
+        → (f x ≤ leastOf f (y ∷ ys)) ⊎ (leastOf f (y ∷ ys) < f x)
+        → (q : ℕ) × In q (x ∷ y ∷ ys) × (f q ≡ min (f x) (leastOf f (y ∷ ys)))
     go r (inl d) = (x, inl refl, omega arith)
     go r (inr d) = (r .0, inr (r .1), omega (arith, r .2))
 
@@ -79,7 +84,9 @@ module _ (g : Graph) (law : Lawful g) where
       let b = least-le (λ r. nearest g k r) (g .successors p) q (f .0 .0) in
       go (endsBy g p (g .successors p)) ih b
     where
-      go : (t : Bool) → nearest g k q ≤ length (q ∷ qs) → leastOf (λ r. nearest g k r) (g .successors p) ≤ nearest g k q → 1 + cond t 0 (leastOf (λ r. nearest g k r) (g .successors p)) ≤ length (p ∷ q ∷ qs)
+      go : (t : Bool) → nearest g k q ≤ length (q ∷ qs)
+          → leastOf (λ r. nearest g k r) (g .successors p) ≤ nearest g k q
+          → 1 + cond t 0 (leastOf (λ r. nearest g k r) (g .successors p)) ≤ length (p ∷ q ∷ qs)
       go true ih b = omega arith
       go false ih b = omega arith
 
@@ -133,7 +140,10 @@ module _ (g : Graph) (law : Lawful g) where
   turn f p h e =
       stable (g .size - p) (suc (g .size - suc p)) p h (omega arith) (omega arith)
       ∙ nearer-same (λ q. nearest g (g .size - suc p) q) f p
-      (λ q i s. let u = law .forward p q i s in stable (g .size - suc p) (g .size - q) q (law .inside p q i) (omega arith) (omega arith) ∙ sym (e q u (law .inside p q i)))
+      (λ q i s.
+      let u = law .forward p q i s in
+      stable (g .size - suc p) (g .size - q) q (law .inside p q i) (omega arith) (omega arith)
+      ∙ sym (e q u (law .inside p q i)))
 
   -- a walk with no serving edge goes forward, so that it fits
   free-fits : (p : ℕ) (ps : List ℕ) → p < g .size → Free g p ps → length (p ∷ ps) + p ≤ g .size

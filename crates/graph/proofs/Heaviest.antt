@@ -25,7 +25,8 @@ attain-there : (g : Graph) (p : ℕ) (f : ℕ → ℕ) (x : ℕ) (xs : List ℕ)
 attain-there g p f x xs e (inl z) = inl (omega arith)
 attain-there g p f x xs e (inr w) = inr (w .0, inr (w .1), w .2, w .3 ∙ e)
 
-attain-here : (g : Graph) (p : ℕ) (f : ℕ → ℕ) (x : ℕ) (xs : List ℕ) (m : ℕ) (b : Bool) → g .serves p x ≡ b → Attains g p f xs m → Attains g p f (x ∷ xs) (max (cond b 0 (f x)) m)
+attain-here : (g : Graph) (p : ℕ) (f : ℕ → ℕ) (x : ℕ) (xs : List ℕ) (m : ℕ) (b : Bool) → g .serves p x ≡ b
+    → Attains g p f xs m → Attains g p f (x ∷ xs) (max (cond b 0 (f x)) m)
 attain-here g p f x xs m true s a = attain-there g p f x xs (omega arith) a
 attain-here g p f x xs m false s a = ⊎-elim (λ h. attain-there g p f x xs (omega arith) a) (λ h. inr (x, inl refl, s, omega arith)) (split (f x) m)
 
@@ -57,7 +58,9 @@ module _ (g : Graph) (law : Lawful g) (w : ℕ → ℕ) where
   abbrev Attained : ℕ → ℕ → Type 0
   Attained p v = (ps : List ℕ) × Free g p ps × (weigh w (p ∷ ps) ≡ v)
 
-  attained-more : (k p : ℕ) → ((q : ℕ) → q < g .size → g .size - q ≤ k → Attained q (within g w k q)) → g .size - p ≤ suc k → (m : ℕ) → Attains g p (λ q. within g w k q) (g .successors p) m → Attained p (w p + m)
+  attained-more : (k p : ℕ) → ((q : ℕ) → q < g .size → g .size - q ≤ k → Attained q (within g w k q))
+      → g .size - p ≤ suc k → (m : ℕ) → Attains g p (λ q. within g w k q) (g .successors p) m
+      → Attained p (w p + m)
   attained-more k p rec e m (inl z) = ([], tt, omega arith)
   attained-more k p rec e m (inr x) =
       let i = law .inside p (x .0) (x .1) in
@@ -68,7 +71,9 @@ module _ (g : Graph) (law : Lawful g) (w : ℕ → ℕ) where
   pub attained : (k p : ℕ) → p < g .size → g .size - p ≤ k → Attained p (within g w k p)
   unfolding within
   attained zero p h e = absurd (omega arith)
-  attained (suc k) p h e = attained-more k p (λ q. attained k q) e (best g p (λ q. within g w k q) (g .successors p)) (best-attained g p (λ q. within g w k q) (g .successors p))
+  attained (suc k) p h e =
+      attained-more k p (λ q. attained k q) e (best g p (λ q. within g w k q) (g .successors p))
+      (best-attained g p (λ q. within g w k q) (g .successors p))
 
   bounded : (k j p : ℕ) → p < g .size → g .size - p ≤ k → g .size - p ≤ j → within g w k p ≤ within g w j p
   bounded k j p h e d =

@@ -46,7 +46,9 @@ module _ (g : Graph) (w f : ℕ → ℕ) (e : (p : ℕ) → p < g .size → f p 
 
   first-found : lowestFrom (λ p. eqb (f p) (longest g w)) 0 (g .size) ≡ first g w
   unfolding first
-  first-found = lowest-laws .same (λ p. eqb (f p) (longest g w)) (λ p. eqb (lengthOf g w p) (longest g w)) 0 (g .size) (λ p l. ap (λ (y : ℕ). eqb y (longest g w)) (e p (omega arith)))
+  first-found =
+      lowest-laws .same (λ p. eqb (f p) (longest g w)) (λ p. eqb (lengthOf g w p) (longest g w)) 0
+      (g .size) (λ p l. ap (λ (y : ℕ). eqb y (longest g w)) (e p (omega arith)))
 
 pub passing : (g : Graph) → Lawful g → (w : ℕ → ℕ) → Passing g w
 passing g law w =

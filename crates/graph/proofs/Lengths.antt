@@ -54,8 +54,12 @@ module _ (g : Graph) (w : ℕ → ℕ) where
     length-of-reach p r = length-marked p (mark-of-reach g law p r)
 
     -- the recursion that the pass follows
-    pub length-is : (f : ℕ → ℕ) (p : ℕ) → p < g .size → markOf g p ≡ 1 → ((q : ℕ) → p < q → q < g .size → f q ≡ lengthOf g w q) → lengthOf g w p ≡ w p + best g p f (g .successors p)
+    pub length-is : (f : ℕ → ℕ) (p : ℕ) → p < g .size → markOf g p ≡ 1
+        → ((q : ℕ) → p < q → q < g .size → f q ≡ lengthOf g w q)
+        → lengthOf g w p ≡ w p + best g p f (g .successors p)
     length-is f p l e h =
         let r = reach-of-mark g law p l e in
         length-of-reach p r ∙ heaviest-is g law w p l
-        ∙ ap (λ (x : ℕ). w p + x) (best-same g p (heaviest g w) f (g .successors p) (λ q i s. sym (length-of-reach q (next r i (law .inside p q i))) ∙ sym (h q (law .forward p q i s) (law .inside p q i))))
+        ∙ ap (λ (x : ℕ). w p + x) (best-same g p (heaviest g w) f (g .successors p)
+        (λ q i s. sym (length-of-reach q (next r i (law .inside p q i)))
+        ∙ sym (h q (law .forward p q i s) (law .inside p q i))))

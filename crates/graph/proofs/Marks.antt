@@ -160,7 +160,9 @@ module _ (g : Graph) where
               bits = λ p h. ⊎-elim (λ x. omega arith) (λ x. omega (arith, w .bits p h)) (at-set m (o .to) 1 p in-m);
               root = stays m (o .to) 1 0 in-m (w .root);
               near = λ p h e. subst (λ (k : ℕ). leads g k 0 p ≡ true) (sym more) (⊎-elim
-                  (λ x. subst (λ (y : ℕ). leads g (suc (markedCount (g .size) m)) 0 y ≡ true) (sym (x .0)) (leads-last (markedCount (g .size) m) 0 (o .from) (o .to) (w .near (o .from) (o .inside) (o .marked)) (o .edge)))
+                  (λ x. subst (λ (y : ℕ). leads g (suc (markedCount (g .size) m)) 0 y ≡ true) (sym (x .0))
+                  (leads-last (markedCount (g .size) m) 0 (o .from) (o .to)
+                  (w .near (o .from) (o .inside) (o .marked)) (o .edge)))
                   (λ x. leads-more (markedCount (g .size) m) 0 p (w .near p h (sym (x .1) ∙ e)))
                   (at-set m (o .to) 1 p in-m));
             }

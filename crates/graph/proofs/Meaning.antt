@@ -106,5 +106,9 @@ meaning g law w pos =
       longest-most = longest-most g law w;
       longest-some = λ z. let a = first-some g law w pos z in (first g w, a .0, a .1, a .2);
       first-some = first-some g law w pos;
-      first-lowest = λ p ps s e. let l = reach-in g (segment-start g s) in first-least g law w p l (omega (arith, e, length-most g law w p ps s, longest-upper g law w p l));
+      first-lowest =
+          λ p ps s e.
+          let l = reach-in g (segment-start g s) in
+          first-least g law w p l
+          (omega (arith, e, length-most g law w p ps s, longest-upper g law w p l));
     }

@@ -10,19 +10,19 @@ use borrow.Author.Tests.{leb-true, le-leb, lt-leb}
 use Rattle.common.specs.Lists.{put}
 use Rattle.common.proofs.Put.{put-laws}
 use Rattle.common.specs.Limits.{mostBytes, levelsBelow}
-use Rattle.chunk.specs.declared.reading.Refusal.{Refusal}
-use Rattle.chunk.specs.declared.reading.Refusal.the-variants.{Malformed, Short}
-use Rattle.chunk.specs.declared.reading.Cursor.{Cursor}
-use Rattle.chunk.specs.declared.reading.Cursor.the-variants.{At, Refused}
-use Rattle.chunk.specs.declared.functions.Layout.{Layout}
-use Rattle.chunk.specs.declared.functions.Search.{Search}
-use Rattle.chunk.specs.declared.functions.Search.the-variants.{Left, Found}
-use Rattle.chunk.specs.declared.functions.Walk.{Walk}
-use Rattle.chunk.specs.declared.functions.Walk.the-variants.{Past, Stopped}
-use Rattle.chunk.specs.Reading.{Result, done, refused, bind, only}
-use Rattle.chunk.specs.Lundump.{Function, loadByte, loadFunction, checkHeader, undump}
-use Rattle.chunk.specs.Cursors.{step, cursorOf, same, none}
-use Rattle.chunk.specs.Search.{search, walkOf, walk}
+use Rattle.lundump.specs.declared.reading.Refusal.{Refusal}
+use Rattle.lundump.specs.declared.reading.Refusal.the-variants.{Malformed, Short}
+use Rattle.lundump.specs.declared.reading.Cursor.{Cursor}
+use Rattle.lundump.specs.declared.reading.Cursor.the-variants.{At, Refused}
+use Rattle.lundump.specs.declared.functions.Layout.{Layout}
+use Rattle.lundump.specs.declared.functions.Search.{Search}
+use Rattle.lundump.specs.declared.functions.Search.the-variants.{Left, Found}
+use Rattle.lundump.specs.declared.functions.Walk.{Walk}
+use Rattle.lundump.specs.declared.functions.Walk.the-variants.{Past, Stopped}
+use Rattle.lundump.specs.Reading.{Result, done, refused, bind, only}
+use Rattle.lundump.specs.Lundump.{Function, loadByte, loadFunction, checkHeader, undump}
+use Rattle.lundump.specs.Cursors.{step, cursorOf, same, none}
+use Rattle.lundump.specs.Search.{search, walkOf, walk}
 use Rattle.chunk.proofs.Laws.{laws}
 use Rattle.index.specs.declared.listing.Listed.{Listed}
 use Rattle.index.specs.declared.listing.FunctionTally.{FunctionTally}
@@ -157,11 +157,21 @@ record Room (bytes : List ℕ) (a b : ℕ) (X : Result (List Function)) : Type 0
 module _ (bytes : List ℕ) (a b : ℕ) where
   fitting : (fs : List Function) (at : ℕ) (s t : Bool) → leb (length fs) a ≡ s → leb (length fs) b ≡ t → undump bytes 0 ≡ done fs at → (n : ℕ)
       → tallied (cond (s && t) (done fs at) (refused Short)) ≡ tally.All n → Room bytes a b (cond (s && t) (done fs at) (refused Short))
-  fitting fs at true true ea eb u n d = record { functions = fs; past = at; is = refl; all = u; for-places = leb-true (length fs) a ea; for-parents = leb-true (length fs) b eb }
+  fitting fs at true true ea eb u n d =
+      record {
+        functions = fs;
+        past = at;
+        is = refl;
+        all = u;
+        for-places = leb-true (length fs) a ea;
+        for-parents = leb-true (length fs) b eb;
+      }
   fitting fs at true false ea eb u n d = absurd (let z : _≡_ {A = ℕ} 0 1 = cc in omega arith)
   fitting fs at false t ea eb u n d = absurd (let z : _≡_ {A = ℕ} 0 1 = cc in omega arith)
 
-  in-room : (s : Bool) (X : Result (List Function)) → undump bytes 0 ≡ X → (n : ℕ) → tallied (bind (only s X) (roomForAll a b)) ≡ tally.All n → Room bytes a b (bind (only s X) (roomForAll a b))
+  in-room : (s : Bool) (X : Result (List Function)) → undump bytes 0 ≡ X → (n : ℕ)
+      → tallied (bind (only s X) (roomForAll a b)) ≡ tally.All n
+      → Room bytes a b (bind (only s X) (roomForAll a b))
   in-room true (done fs at) u n d = fitting fs at (leb (length fs) a) (leb (length fs) b) refl refl u n d
   in-room true (refused x) u n d = absurd (let z : _≡_ {A = ℕ} 0 1 = cc in omega arith)
   in-room false X u n d = absurd (let z : _≡_ {A = ℕ} 0 1 = cc in omega arith)
@@ -173,7 +183,8 @@ module _ (bytes : List ℕ) (a b : ℕ) where
 module _ (bytes : List ℕ) (h c : Cursor) (eh : h ≡ cursorOf none (checkHeader bytes 0)) (ec : c ≡ step same loadByte bytes h) (pl pa pl′ pa′ : List ℕ)
     (w : WroteAt (loadFunction levelsBelow) bytes c noFunction 0 pl pa pl′ pa′) where
   -- what was written is what the whole chunk says
-  by-byte : (X : Result ℕ) → WroteBy (loadFunction 31) bytes (cursorOf same X) noFunction 0 pl pa pl′ pa′ → Wrote (bind X (λ _ at. loadFunction 31 bytes at)) noFunction 0 pl pa pl′ pa′
+  by-byte : (X : Result ℕ) → WroteBy (loadFunction 31) bytes (cursorOf same X) noFunction 0 pl pa pl′ pa′
+      → Wrote (bind X (λ _ at. loadFunction 31 bytes at)) noFunction 0 pl pa pl′ pa′
   by-byte (done b at) v = v
   by-byte (refused e) v = tt
 
@@ -185,14 +196,18 @@ module _ (bytes : List ℕ) (h c : Cursor) (eh : h ≡ cursorOf none (checkHeade
 
   whole : Wrote (undump bytes 0) noFunction 0 pl pa pl′ pa′
   unfolding undump
-  whole = by-header (checkHeader bytes 0) (subst (λ (d : Cursor). WroteBy (loadFunction 31) bytes d noFunction 0 pl pa pl′ pa′) (ec ∙ ap (step same loadByte bytes) eh) (w .written))
+  whole =
+      by-header (checkHeader bytes 0)
+      (subst (λ (d : Cursor). WroteBy (loadFunction 31) bytes d noFunction 0 pl pa pl′ pa′)
+      (ec ∙ ap (step same loadByte bytes) eh) (w .written))
 
   pub all-stored : (t : FunctionTally) (n : ℕ) → t ≡ tallied (listedIn bytes (length pl) (length pa)) → t ≡ tally.All n
       → (pl′ ≡ afterAll placesOf (listedIn bytes (length pl) (length pa)) pl) × (pa′ ≡ afterAll parentsOf (listedIn bytes (length pl) (length pa)) pa)
   unfolding afterAll
   all-stored t n e k =
       let r = room-for bytes (length pl) (length pa) t n e k in
-      let v = subst (λ (X : Result (List Function)). Wrote X noFunction 0 pl pa pl′ pa′) (r .all) whole (omega (arith, r .for-places)) (omega (arith, r .for-parents)) in (
+      let v = subst (λ (X : Result (List Function)). Wrote X noFunction 0 pl pa pl′ pa′) (r .all) whole
+      (omega (arith, r .for-places)) (omega (arith, r .for-parents)) in (
         rw (r .is) (v .0 ∙ put-laws .start pl (placesOf (r .functions))),
         rw (r .is) (v .1 ∙ put-laws .start pa (parentsOf (r .functions))),
       )

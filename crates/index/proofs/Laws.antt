@@ -12,12 +12,12 @@ use lib.Seq.{drop-cons}
 use borrow.Author.Tests.{ltb-true, ltb-false, leb-true, le-leb}
 use Rattle.common.proofs.Order.{split}
 use Rattle.common.specs.Limits.{mostBytes, levelsBelow}
-use Rattle.chunk.specs.declared.reading.Refusal.{Refusal}
-use Rattle.chunk.specs.declared.reading.Refusal.the-variants.{Short}
-use Rattle.chunk.specs.Reading.{Result, done, refused, bind, only}
-use Rattle.chunk.specs.Lundump.{Function, loadByte, loadFunction, checkHeader, undump}
-use Rattle.chunk.specs.Chunk.{pick, chosen, valuesOf, countsOf, Rooms, fits, roomFor, filled, after}
-use Rattle.chunk.specs.Stands.{Stands, OneRead, StandBetween, ReadBetween}
+use Rattle.lundump.specs.declared.reading.Refusal.{Refusal}
+use Rattle.lundump.specs.declared.reading.Refusal.the-variants.{Short}
+use Rattle.lundump.specs.Reading.{Result, done, refused, bind, only}
+use Rattle.lundump.specs.Lundump.{Function, loadByte, loadFunction, checkHeader, undump}
+use Rattle.lundump.specs.Chunk.{pick, chosen, valuesOf, countsOf, Rooms, fits, roomFor, filled, after}
+use Rattle.lundump.specs.Stands.{Stands, OneRead, StandBetween, ReadBetween}
 use Rattle.chunk.proofs.Laws as chunk
 use Rattle.lines.specs.declared.choosing.Choice.the-variants.{Number, Place}
 use Rattle.lines.specs.Choices.{functionAt, chosenBy, filledBy}
@@ -56,7 +56,9 @@ module _ (bytes : List ℕ) (short : length bytes ≤ mostBytes) (k : ℕ) (f : 
         go true = refl
         go false = refl
 
-    slices : (part : Function → List ℕ) (out : List ℕ) → after part (filledBy (Place (f .firstAt)) bytes rooms) out ≡ after part (filledBy (Number k) bytes rooms) out
+    slices : (part : Function → List ℕ) (out : List ℕ)
+        → after part (filledBy (Place (f .firstAt)) bytes rooms) out
+        ≡ after part (filledBy (Number k) bytes rooms) out
     unfolding after
     slices part out = rw (at-place, at-number) (go (fits f rooms))
       where
@@ -88,7 +90,9 @@ module _ (d : Function) (fs : List Function) where
   seenOf zero = []
   seenOf (suc k) = (getD fs k d .endAt, k) ∷ seenOf k
 
-  parent-at : (outer k i : ℕ) → i + k < length fs → getD (parentsFrom outer (seenOf i) i (drop i fs)) k 0 ≡ standsIn outer (seenOf (i + k)) (getD fs (i + k) d .firstAt)
+  parent-at : (outer k i : ℕ) → i + k < length fs
+      → getD (parentsFrom outer (seenOf i) i (drop i fs)) k 0
+      ≡ standsIn outer (seenOf (i + k)) (getD fs (i + k) d .firstAt)
   unfolding parentsFrom seenOf
   parent-at outer zero i h =
       let z : i ≡ i + 0 = omega arith in
@@ -115,7 +119,8 @@ module _ (d : Function) (fs : List Function) where
   stands-in outer at zero = inr (λ i h. absurd (omega arith))
   stands-in outer at (suc n) = go (ltb at (getD fs n d .endAt)) refl (stands-in outer at n)
     where
-      later : getD fs n d .endAt ≤ at → Nearest n at (standsIn outer (seenOf n) at) ⊎ None n at → Nearest (suc n) at (standsIn outer (seenOf n) at) ⊎ None (suc n) at
+      later : getD fs n d .endAt ≤ at → Nearest n at (standsIn outer (seenOf n) at) ⊎ None n at
+          → Nearest (suc n) at (standsIn outer (seenOf n) at) ⊎ None (suc n) at
       later l (inl x) =
           inl (record {
             before = omega (arith, x .before);
@@ -182,7 +187,9 @@ module _ (bytes : List ℕ) (fs : List Function) (at : ℕ) where
     main-encloses k d h =
         let w = from-first (both e .all) in
         let f = function-read levelsBelow bytes (w .first) fs at 0 (w .whole) in
-        let b : StandBetween (length bytes) (w .first) fs at = subst (λ (X : Result (List Function)). ReadBetween (length bytes) (w .first) X) (w .whole) (chunk.laws .all-between levelsBelow bytes (w .first)) in
+        let b : StandBetween (length bytes) (w .first) fs at = subst
+        (λ (X : Result (List Function)). ReadBetween (length bytes) (w .first) X) (w .whole)
+        (chunk.laws .all-between levelsBelow bytes (w .first)) in
         let z : getD fs 0 d .endAt ≡ at = ap (λ (gs : List Function). getD gs 0 d .endAt) (f .is) ∙ f .last in
         omega (arith, z, below (length bytes) (w .first) at fs k d b h)
 
@@ -245,7 +252,7 @@ refusing bytes e k h = go (leb (length bytes) mostBytes) (undump bytes 0) h
     go false X d = let y = d in again y
       where
         again : only {A = List Function} false X ≡ refused e → only {A = Function} false (bind X (pick k)) ≡ refused e
-        again q = let w : Rattle.chunk.specs.declared.reading.Refusal.the-variants.Malformed ≡ e = cc in ap refused w
+        again q = let w : Rattle.lundump.specs.declared.reading.Refusal.the-variants.Malformed ≡ e = cc in ap refused w
 
 by-number : (k : ℕ) (bytes : List ℕ) (rooms : Rooms) → filledBy (Number k) bytes rooms ≡ filled k bytes rooms
 unfolding filledBy filled

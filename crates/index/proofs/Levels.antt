@@ -3,8 +3,9 @@ use mathlib.Core.Path.{_≡_, refl, sym, ap, _∙_}
 use mathlib.Core.List.{List, [], _∷_, _++_}
 use Prim.Native.Nat.{ℕ, zero, suc, _≤_}
 use native.Mathlib.Omega.{arith}
-use Rattle.chunk.specs.Reading.{Result, done, refused, Reader, bind}
-use Rattle.chunk.specs.Lundump.{Function, loadInt, loadHead, loadCode, loadConstants, loadUpvalues, loadLines, loadNames, functionWith, several, noneOf, loadProtos, loadFunction}
+use Rattle.lundump.specs.Reading.{Result, done, refused, Reader, bind}
+use Rattle.lundump.specs.Lundump.{Function, loadInt, loadHead, loadCode, loadConstants, loadUpvalues, loadLines}
+use Rattle.lundump.specs.Lundump.{loadNames, functionWith, several, noneOf, loadProtos, loadFunction}
 use Rattle.index.proofs.Thens.{then1, then2, then3, then4, then5}
 
 bind-same : {A B : Type 0} (X : Result A) (f g : A → ℕ → Result B) (b : B) (p : ℕ) → ((a : A) (at : ℕ) → f a at ≡ done b p → g a at ≡ done b p)

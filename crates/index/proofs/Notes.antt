@@ -8,15 +8,17 @@ use native.Mathlib.Numerals.{add-one}
 use lib.ListN.{length, set, length-append, length-set}
 use Rattle.common.specs.Lists.{put}
 use Rattle.common.proofs.Put.{put-laws}
-use Rattle.chunk.specs.declared.reading.Refusal.{Refusal}
-use Rattle.chunk.specs.declared.reading.Refusal.the-variants.{TooDeep}
-use Rattle.chunk.specs.declared.reading.Cursor.{Cursor}
-use Rattle.chunk.specs.declared.reading.Cursor.the-variants.{At, Refused}
-use Rattle.chunk.specs.Reading.{Result, done, refused, Reader, bind}
-use Rattle.chunk.specs.Lundump.{Function, Constant, Text, loadInt, loadHead, loadCode, loadConstants, loadUpvalues, loadLines, loadNames, functionWith, several, noneOf, loadProtos, loadFunction}
-use Rattle.chunk.specs.Chunk.{valuesOf}
-use Rattle.chunk.specs.Cursors.{step, cursorOf, valued, positionOf, cursorValue, same, none}
-use Rattle.chunk.specs.Stands.{StandBetween, ReadBetween}
+use Rattle.lundump.specs.declared.reading.Refusal.{Refusal}
+use Rattle.lundump.specs.declared.reading.Refusal.the-variants.{TooDeep}
+use Rattle.lundump.specs.declared.reading.Cursor.{Cursor}
+use Rattle.lundump.specs.declared.reading.Cursor.the-variants.{At, Refused}
+use Rattle.lundump.specs.Reading.{Result, done, refused, Reader, bind}
+use Rattle.lundump.specs.Lundump.{Function, Constant, Text, loadInt, loadHead, loadCode, loadConstants}
+use Rattle.lundump.specs.Lundump.{loadUpvalues, loadLines, loadNames, functionWith, several, noneOf, loadProtos}
+use Rattle.lundump.specs.Lundump.{loadFunction}
+use Rattle.lundump.specs.Chunk.{valuesOf}
+use Rattle.lundump.specs.Cursors.{step, cursorOf, valued, positionOf, cursorValue, same, none}
+use Rattle.lundump.specs.Stands.{StandBetween, ReadBetween}
 use Rattle.chunk.proofs.Laws.{laws}
 use Rattle.index.specs.Listing.{placesOf, parentsFrom}
 use Rattle.index.specs.Noting.{Noted, Wrote, WroteBy, WroteAt}
@@ -177,12 +179,16 @@ module _ (level : ℕ) (bytes : List ℕ) (at₀ : ℕ) (fs : List Function) (pa
   i1 (refused x) e = absurd (let z : _≡_ {A = ℕ} 0 1 = cc in omega arith)
 
   pub function-read : (v : ℕ) → loadFunction level bytes at₀ ≡ done fs past
-      → FunctionRead level bytes at₀ (step same loadUpvalues bytes (step length loadConstants bytes (step length loadCode bytes (step same loadHead bytes (At at₀ v))))) fs past
+      → FunctionRead level bytes at₀
+      (step same loadUpvalues bytes (step length loadConstants bytes
+      (step length loadCode bytes (step same loadHead bytes (At at₀ v)))))
+      fs past
   unfolding step functionWith
   function-read v e = i1 (loadHead bytes at₀) e
 
 -- ---- what is stored of it
-renumbered : (X : Result (List Function)) (outer i j : ℕ) (pl pa pl′ pa′ : List ℕ) → (i ≤ length pl → j ≡ i) → Wrote X outer j pl pa pl′ pa′ → Wrote X outer i pl pa pl′ pa′
+renumbered : (X : Result (List Function)) (outer i j : ℕ) (pl pa pl′ pa′ : List ℕ) → (i ≤ length pl → j ≡ i)
+    → Wrote X outer j pl pa pl′ pa′ → Wrote X outer i pl pa pl′ pa′
 renumbered (done fs at) outer i j pl pa pl′ pa′ e w = λ a b. subst (λ (k : ℕ). Wrote (done fs at) outer k pl pa pl′ pa′) (e (omega arith)) w a b
 renumbered (refused x) outer i j pl pa pl′ pa′ e w = tt
 
@@ -206,7 +212,9 @@ module _ (level : ℕ) (bytes : List ℕ) (outer i : ℕ) (pl pa pl₁ pa₁ pl�
             ∙ ap (put pa i) (sym (parents-function (length bytes) outer (main .firstAt + 1) past i main inner (b .1 .1 .1) (omega (arith, ep)))),
       )
 
-  all-read : (at v : ℕ) (u : Cursor) → u ≡ step same loadUpvalues bytes (step length loadConstants bytes (step length loadCode bytes (step same loadHead bytes (At at v))))
+  all-read : (at v : ℕ) (u : Cursor)
+      → u ≡ step same loadUpvalues bytes
+      (step length loadConstants bytes (step length loadCode bytes (step same loadHead bytes (At at v))))
       → Noted i at outer pl pa pl₁ pa₁ → WroteBy (loadProtos level) bytes u i (i + 1) pl₁ pa₁ pl₂ pa₂
       → (X : Result (List Function)) → loadFunction level bytes at ≡ X → ReadBetween (length bytes) at X → Wrote X outer i pl pa pl₂ pa₂
   all-read at v u eu o w (done fs past) e b =
@@ -219,14 +227,18 @@ module _ (level : ℕ) (bytes : List ℕ) (outer i : ℕ) (pl pa pl₁ pa₁ pl�
       (subst (λ (gs : List Function). StandBetween (length bytes) at gs past) (f .is) b) o w′)
   all-read at v u eu o w (refused x) e b = tt
 
-  by-cursor : (c u : Cursor) (p : ℕ) → u ≡ step same loadUpvalues bytes (step length loadConstants bytes (step length loadCode bytes (step same loadHead bytes c)))
+  by-cursor : (c u : Cursor) (p : ℕ)
+      → u ≡ step same loadUpvalues bytes
+      (step length loadConstants bytes (step length loadCode bytes (step same loadHead bytes c)))
       → p ≡ positionOf c → Noted i p outer pl pa pl₁ pa₁ → WroteBy (loadProtos level) bytes u i (i + 1) pl₁ pa₁ pl₂ pa₂
       → WroteBy (loadFunction level) bytes c outer i pl pa pl₂ pa₂
   by-cursor (At at v) u p eu ep o w =
       all-read at v u eu (subst (λ (k : ℕ). Noted i k outer pl pa pl₁ pa₁) ep o) w (loadFunction level bytes at) refl (laws .all-between level bytes at)
   by-cursor (Refused e) u p eu ep o w = tt
 
-  renumbered-by : (u : Cursor) (j : ℕ) → (i + 1 ≤ length pl₁ → j ≡ i + 1) → WroteBy (loadProtos level) bytes u i j pl₁ pa₁ pl₂ pa₂ → WroteBy (loadProtos level) bytes u i (i + 1) pl₁ pa₁ pl₂ pa₂
+  renumbered-by : (u : Cursor) (j : ℕ) → (i + 1 ≤ length pl₁ → j ≡ i + 1)
+      → WroteBy (loadProtos level) bytes u i j pl₁ pa₁ pl₂ pa₂
+      → WroteBy (loadProtos level) bytes u i (i + 1) pl₁ pa₁ pl₂ pa₂
   renumbered-by (At at v) j e w = renumbered (loadProtos level bytes at) i (i + 1) j pl₁ pa₁ pl₂ pa₂ e w
   renumbered-by (Refused x) j e w = tt
 
@@ -245,7 +257,8 @@ module _ (level : ℕ) (bytes : List ℕ) (outer i : ℕ) (pl pa pl₁ pa₁ pl�
       }
 
 -- those within are fewer than the bytes
-within-few : (level : ℕ) (bytes : List ℕ) (at : ℕ) (X : Result (List Function)) → ReadBetween (length bytes) at X → cursorValue (cursorOf length X) ≤ length bytes
+within-few : (level : ℕ) (bytes : List ℕ) (at : ℕ) (X : Result (List Function))
+    → ReadBetween (length bytes) at X → cursorValue (cursorOf length X) ≤ length bytes
 within-few level bytes at (done fs past) b = let h = fewer (length bytes) at past fs b in omega arith
 within-few level bytes at (refused e) b = omega arith
 
@@ -272,7 +285,8 @@ module _ (level : ℕ) (bytes : List ℕ) where
   totalled-more m total at₁ fs (done more at₂) = ap (At at₂) (omega (arith, length-append fs more))
   totalled-more m total at₁ fs (refused e) = refl
 
-  one-totalled : (m total at : ℕ) (fs : List Function) (at₁ : ℕ) → R bytes at ≡ done fs at₁ → totalled total (several R (suc m) bytes at) ≡ totalled (total + length fs) (several R m bytes at₁)
+  one-totalled : (m total at : ℕ) (fs : List Function) (at₁ : ℕ) → R bytes at ≡ done fs at₁
+      → totalled total (several R (suc m) bytes at) ≡ totalled (total + length fs) (several R m bytes at₁)
   unfolding several
   one-totalled m total at fs at₁ e = rw e (totalled-more m total at₁ fs (several R m bytes at₁))
 
@@ -292,7 +306,8 @@ module _ (level : ℕ) (bytes : List ℕ) where
           put-laws .and-then pl pl₁ pl₂ i (length fs) (placesOf fs) (placesOf more) (q .0) (places-count fs)
               (omega (arith, x, n, places-count more)) (r .0)
               ∙ ap (put pl i) (sym (places-both fs more)),
-          put-laws .and-then pa pa₁ pa₂ i (length fs) (parentsFrom outer [] i fs) (parentsFrom outer [] (i + length fs) more) (q .1) (parents-count outer [] i fs)
+          put-laws .and-then pa pa₁ pa₂ i (length fs) (parentsFrom outer [] i fs)
+              (parentsFrom outer [] (i + length fs) more) (q .1) (parents-count outer [] i fs)
               (omega (arith, y, n, parents-count outer [] (i + length fs) more)) (r .1)
               ∙ ap (put pa i) (sym (parents-both (length bytes) outer lo mid hi i fs more b c)),
         )
@@ -310,7 +325,9 @@ module _ (level : ℕ) (bytes : List ℕ) where
     unfolding several
     one-wrote m at fs at₁ e w v =
         rw e
-        (then-wrote at at₁ fs (several R m bytes at₁) (subst (λ (X : Result (List Function)). ReadBetween (length bytes) at X) e (laws .all-between level bytes at))
+        (then-wrote at at₁ fs (several R m bytes at₁)
+        (subst (λ (X : Result (List Function)). ReadBetween (length bytes) at X) e
+        (laws .all-between level bytes at))
         (laws .several-between level m bytes at₁) w v)
 
 -- so many of n are read
@@ -351,9 +368,12 @@ module _ (level : ℕ) (bytes : List ℕ) (start n outer first : ℕ) (pl₀ pa�
       still : Still
       still = omega arith
 
-      more-by : (fs : List Function) (behind : ℕ) → loadFunction level bytes at ≡ done fs behind → Midway level bytes start n outer first pl₀ pa₀ pl₁ pa₁ behind (total + length fs) (i + 1)
+      more-by : (fs : List Function) (behind : ℕ) → loadFunction level bytes at ≡ done fs behind
+          → Midway level bytes start n outer first pl₀ pa₀ pl₁ pa₁ behind (total + length fs) (i + 1)
       more-by fs behind e =
-          let b : StandBetween (length bytes) at fs behind = subst (λ (X : Result (List Function)). ReadBetween (length bytes) at X) e (laws .all-between level bytes at) in
+          let b : StandBetween (length bytes) at fs behind = subst
+          (λ (X : Result (List Function)). ReadBetween (length bytes) at X) e
+          (laws .all-between level bytes at) in
           let l = ends (length bytes) at behind fs b in
           record {
             upto = omega arith;
@@ -395,24 +415,30 @@ module _ (level : ℕ) (bytes : List ℕ) (start n outer first : ℕ) (pl₀ pa�
       -- or a refusal
       pub midway-refused :
           (next : Cursor) (e : Refusal) → next ≡ step length (loadFunction level) bytes (At at 0) → next ≡ Refused e
-          → (next ≡ cursorOf length (several (loadFunction level) n bytes start)) × Wrote (several (loadFunction level) n bytes start) outer first pl₀ pa₀ pl₁ pa₁
+          → (next ≡ cursorOf length (several (loadFunction level) n bytes start))
+          × Wrote (several (loadFunction level) n bytes start) outer first pl₀ pa₀ pl₁ pa₁
       unfolding step
       midway-refused next x e k = go (loadFunction level bytes at) refl (sym e ∙ k)
         where
           go : (X : Result (List Function)) → loadFunction level bytes at ≡ X → cursorOf length X ≡ Refused x
-              → (next ≡ cursorOf length (several (loadFunction level) n bytes start)) × Wrote (several (loadFunction level) n bytes start) outer first pl₀ pa₀ pl₁ pa₁
+              → (next ≡ cursorOf length (several (loadFunction level) n bytes start))
+              × Wrote (several (loadFunction level) n bytes start) outer first pl₀ pa₀ pl₁ pa₁
           go (done fs past) d q = absurd (let z : _≡_ {A = ℕ} 0 1 = cc in omega arith)
           go (refused y) d q =
               let s : several (loadFunction level) (n - i) bytes at ≡ refused y =
               ap (λ (k : ℕ). several (loadFunction level) k bytes at) still ∙ one-refused level bytes (n - (i + 1)) total at y d in
-              let t : several (loadFunction level) n bytes start ≡ refused y = refusal-of (several (loadFunction level) n bytes start) (m .counted ∙ ap (totalled total) s) in
+              let t : several (loadFunction level) n bytes start ≡ refused y =
+              refusal-of (several (loadFunction level) n bytes start)
+              (m .counted ∙ ap (totalled total) s) in
               (k ∙ sym q ∙ ap (cursorOf length) (sym t), subst (λ (X : Result (List Function)). Wrote X outer first pl₀ pa₀ pl₁ pa₁) (sym t) tt)
             where
               refusal-of : (X : Result (List Function)) → totalled 0 X ≡ Refused y → X ≡ refused y
               refusal-of (done fs past) r = absurd (let z : _≡_ {A = ℕ} 0 1 = cc in omega arith)
               refusal-of (refused z) r = let v : z ≡ y = cc in ap refused v
 
-    pub midway-done : n ≤ i → (At at total ≡ cursorOf length (several (loadFunction level) n bytes start)) × Wrote (several (loadFunction level) n bytes start) outer first pl₀ pa₀ pl pa
+    pub midway-done : n ≤ i
+        → (At at total ≡ cursorOf length (several (loadFunction level) n bytes start))
+        × Wrote (several (loadFunction level) n bytes start) outer first pl₀ pa₀ pl pa
     unfolding several valuesOf parentsFrom
     midway-done h =
         let z : n - i ≡ 0 = omega arith in
@@ -437,7 +463,9 @@ module _ (bytes : List ℕ) (level : ℕ) (c count : Cursor) (e : count ≡ step
     record {
       places-same = sp;
       parents-same = sq;
-      written = subst (λ (d : Cursor). WroteBy (loadProtos level) bytes d outer first pl pa pl′ pa′) (sym h) (subst (λ (Y : Result (List Function)). Wrote Y outer first pl pa pl′ pa′) (sym k) w);
+      written =
+          subst (λ (d : Cursor). WroteBy (loadProtos level) bytes d outer first pl pa pl′ pa′) (sym h)
+          (subst (λ (Y : Result (List Function)). Wrote Y outer first pl pa pl′ pa′) (sym k) w);
     },
   )
 
@@ -452,7 +480,10 @@ module _ (bytes : List ℕ) (level : ℕ) (c count : Cursor) (e : count ≡ step
     where
       go : (d : Cursor) → c ≡ d → step same loadInt bytes d ≡ Refused x → Done count pl pa
       go (At at v) k q =
-          finish at v k (refused x) (refused-all level x at (refused-is same (loadInt bytes at) (cursorOf same (loadInt bytes at)) x refl q)) count pl pa refl refl h tt
+          finish at v k (refused x)
+          (refused-all level x at
+          (refused-is same (loadInt bytes at) (cursorOf same (loadInt bytes at)) x refl q))
+          count pl pa refl refl h tt
       go (Refused y) k q =
           let r : count ≡ step length (loadProtos level) bytes (Refused y) = h ∙ sym q in (
             subst (λ (d : Cursor). count ≡ step length (loadProtos level) bytes d) (sym k) r,
@@ -480,7 +511,9 @@ module _ (bytes : List ℕ) (level : ℕ) (c count : Cursor) (e : count ≡ step
 
     pub none-within : level ≡ 0 → n ≡ 0 → Done (At start 0) pl pa
     unfolding loadProtos noneOf valuesOf parentsFrom
-    none-within l z = finish (counted .at) (counted .value) (counted .cursor) (done [] start) (is level n l z (counted .int)) (At start 0) pl pa refl refl refl nothing
+    none-within l z =
+        finish (counted .at) (counted .value) (counted .cursor) (done [] start)
+        (is level n l z (counted .int)) (At start 0) pl pa refl refl refl nothing
       where
         is : (l′ m : ℕ) → l′ ≡ 0 → m ≡ 0 → loadInt bytes (counted .at) ≡ done m start → loadProtos l′ bytes (counted .at) ≡ done [] start
         is zero zero a b d = rw d
@@ -492,7 +525,9 @@ module _ (bytes : List ℕ) (level : ℕ) (c count : Cursor) (e : count ≡ step
 
     pub too-deep : level ≡ 0 → (n ≡ 0 → ⊥) → Done (Refused TooDeep) pl pa
     unfolding loadProtos noneOf
-    too-deep l z = finish (counted .at) (counted .value) (counted .cursor) (refused TooDeep) (is level n l z (counted .int)) (Refused TooDeep) pl pa refl refl refl tt
+    too-deep l z =
+        finish (counted .at) (counted .value) (counted .cursor) (refused TooDeep)
+        (is level n l z (counted .int)) (Refused TooDeep) pl pa refl refl refl tt
       where
         is : (l′ m : ℕ) → l′ ≡ 0 → (m ≡ 0 → ⊥) → loadInt bytes (counted .at) ≡ done m start → loadProtos l′ bytes (counted .at) ≡ refused TooDeep
         is zero zero a b d = absurd (b refl)
@@ -501,12 +536,16 @@ module _ (bytes : List ℕ) (level : ℕ) (c count : Cursor) (e : count ≡ step
 
     pub several-within :
         (level ≡ 0 → ⊥) → (r : Cursor) (pl′ pa′ : List ℕ) → length pl′ ≡ length pl → length pa′ ≡ length pa
-        → (r ≡ cursorOf length (several (loadFunction (level - 1)) n bytes start)) × Wrote (several (loadFunction (level - 1)) n bytes start) outer first pl pa pl′ pa′
+        → (r ≡ cursorOf length (several (loadFunction (level - 1)) n bytes start))
+        × Wrote (several (loadFunction (level - 1)) n bytes start) outer first pl pa pl′ pa′
         → Done r pl′ pa′
     unfolding loadProtos
     several-within l r pl′ pa′ sp sq w =
-        finish (counted .at) (counted .value) (counted .cursor) (several (loadFunction (level - 1)) n bytes start) (is level l (counted .int)) r pl′ pa′ sp sq (w .0) (w .1)
+        finish (counted .at) (counted .value) (counted .cursor)
+        (several (loadFunction (level - 1)) n bytes start) (is level l (counted .int)) r pl′ pa′ sp sq
+        (w .0) (w .1)
       where
-        is : (l′ : ℕ) → (l′ ≡ 0 → ⊥) → loadInt bytes (counted .at) ≡ done n start → loadProtos l′ bytes (counted .at) ≡ several (loadFunction (l′ - 1)) n bytes start
+        is : (l′ : ℕ) → (l′ ≡ 0 → ⊥) → loadInt bytes (counted .at) ≡ done n start
+            → loadProtos l′ bytes (counted .at) ≡ several (loadFunction (l′ - 1)) n bytes start
         is zero b d = absurd (b refl)
         is (suc l′) b d = let y : l′ ≡ suc l′ - 1 = omega arith in rw d (ap (λ (k : ℕ). several (loadFunction k) n bytes start) y)

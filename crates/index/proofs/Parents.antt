@@ -7,9 +7,9 @@ use native.Mathlib.Omega.{arith}
 use lib.Dec.{ltb}
 use lib.ListN.{length}
 use borrow.Author.Tests.{lt-ltb, le-ltb}
-use Rattle.chunk.specs.Lundump.{Function}
-use Rattle.chunk.specs.Chunk.{valuesOf}
-use Rattle.chunk.specs.Stands.{StandBetween}
+use Rattle.lundump.specs.Lundump.{Function}
+use Rattle.lundump.specs.Chunk.{valuesOf}
+use Rattle.lundump.specs.Stands.{StandBetween}
 use Rattle.index.specs.Listing.{placesOf, standsIn, parentsFrom}
 
 -- a number for each

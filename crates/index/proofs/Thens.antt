@@ -2,12 +2,23 @@
 -- Assumes nothing.
 use mathlib.Core.List.{List, _∷_}
 use Prim.Native.Nat.{ℕ}
-use Rattle.chunk.specs.Reading.{Result, done, Reader, bind}
-use Rattle.chunk.specs.Lundump.{Function, Constant, Text, loadCode, loadConstants, loadUpvalues, loadLines, loadNames}
+use Rattle.lundump.specs.Reading.{Result, done, Reader, bind}
+use Rattle.lundump.specs.Lundump.{Function, Constant, Text, loadCode, loadConstants, loadUpvalues, loadLines, loadNames}
 
 abbrev pub own : ℕ → ℕ → List ℕ → ℕ → List Constant → ℕ → ℕ → ℕ → List Text → ℕ → Function
 own at₀ at₁ code at₂ ks n at₅ at₆ names at₇ =
-    record { firstAt = at₀; codeAt = at₁; words = code; constantsAt = at₂; constants = ks; upvalues = n; linesAt = at₅; namesAt = at₆; names = names; endAt = at₇ }
+    record {
+      firstAt = at₀;
+      codeAt = at₁;
+      words = code;
+      constantsAt = at₂;
+      constants = ks;
+      upvalues = n;
+      linesAt = at₅;
+      namesAt = at₆;
+      names = names;
+      endAt = at₇;
+    }
 
 module _ (bytes : List ℕ) (P : Reader (List Function)) (at₀ : ℕ) where
   abbrev pub then7 : ℕ → List ℕ → ℕ → List Constant → ℕ → List Function → ℕ → ℕ → List Text → ℕ → Result (List Function)

@@ -5,7 +5,7 @@ use mathlib.Core.Bool.{true, false}
 use mathlib.Core.List.{List, [], _∷_, _++_}
 use Prim.Native.Nat.{ℕ}
 use lib.ListN.{replicate}
-use Rattle.chunk.specs.Examples.{header}
+use Rattle.lundump.specs.Examples.{header}
 use Rattle.index.specs.declared.refusing.Why.the-variants.{
   NotLua,
   Lua53,

@@ -5,11 +5,11 @@ use mathlib.Core.Path.{_≡_}
 use mathlib.Core.List.{List, _∷_}
 use Prim.Native.Nat.{ℕ, _≤_, _<_}
 use lib.ListN.{length, getD}
-use Rattle.chunk.specs.declared.reading.Refusal.{Refusal}
-use Rattle.chunk.specs.declared.reading.Refusal.the-variants.{Malformed}
-use Rattle.chunk.specs.Reading.{done, refused}
-use Rattle.chunk.specs.Lundump.{Function}
-use Rattle.chunk.specs.Chunk.{chosen, countsOf, Rooms, filled, after}
+use Rattle.lundump.specs.declared.reading.Refusal.{Refusal}
+use Rattle.lundump.specs.declared.reading.Refusal.the-variants.{Malformed}
+use Rattle.lundump.specs.Reading.{done, refused}
+use Rattle.lundump.specs.Lundump.{Function}
+use Rattle.lundump.specs.Chunk.{chosen, countsOf, Rooms, filled, after}
 use Rattle.lines.specs.declared.choosing.Choice.the-variants.{Number, Place}
 use Rattle.lines.specs.Choices.{functionAt, filledBy}
 use Rattle.lines.specs.Heads.{headOf, headFrom}

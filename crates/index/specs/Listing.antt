@@ -7,11 +7,11 @@ use lib.Dec.{ltb, leb}
 use lib.ListN.{length, drop}
 use Rattle.common.specs.Numbers.{«ACCEPTED»}
 use Rattle.common.specs.Limits.{mostBytes}
-use Rattle.chunk.specs.declared.reading.Refusal.the-variants.{Short}
-use Rattle.chunk.specs.Numbers.{refusalNumber, refusalPlace}
-use Rattle.chunk.specs.Reading.{Result, done, refused, bind, only}
-use Rattle.chunk.specs.Lundump.{Function, undump}
-use Rattle.chunk.specs.Chunk.{valuesOf}
+use Rattle.lundump.specs.declared.reading.Refusal.the-variants.{Short}
+use Rattle.lundump.specs.Numbers.{refusalNumber, refusalPlace}
+use Rattle.lundump.specs.Reading.{Result, done, refused, bind, only}
+use Rattle.lundump.specs.Lundump.{Function, undump}
+use Rattle.lundump.specs.Chunk.{valuesOf}
 use Rattle.index.specs.declared.listing.Listed.{Listed}
 
 -- "The chunk's length is checked first"; then all of it is read

@@ -10,12 +10,12 @@ use lib.Dec.{leb}
 use lib.ListN.{length, set}
 use Rattle.common.specs.Numbers.{«ACCEPTED»}
 use Rattle.common.specs.Lists.{put}
-use Rattle.chunk.specs.declared.reading.Refusal.the-variants.{Short}
-use Rattle.chunk.specs.declared.reading.Cursor.{Cursor}
-use Rattle.chunk.specs.declared.reading.Cursor.the-variants.{At, Refused}
-use Rattle.chunk.specs.Numbers.{refusalNumber, refusalPlace}
-use Rattle.chunk.specs.Reading.{Result, done, refused, Reader}
-use Rattle.chunk.specs.Lundump.{Function}
+use Rattle.lundump.specs.declared.reading.Refusal.the-variants.{Short}
+use Rattle.lundump.specs.declared.reading.Cursor.{Cursor}
+use Rattle.lundump.specs.declared.reading.Cursor.the-variants.{At, Refused}
+use Rattle.lundump.specs.Numbers.{refusalNumber, refusalPlace}
+use Rattle.lundump.specs.Reading.{Result, done, refused, Reader}
+use Rattle.lundump.specs.Lundump.{Function}
 use Rattle.index.specs.declared.listing.Listed.{Listed}
 use Rattle.index.specs.declared.listing.FunctionTally.{FunctionTally}
 use Rattle.index.specs.declared.listing.FunctionTally.the-variants.{All, Not}

@@ -10,11 +10,11 @@ use lib.ListN.{length, getD, replicate}
 use Rattle.common.specs.Numbers.{«MALFORMED_CHUNK»}
 use Rattle.common.specs.Lists.{put}
 use Rattle.common.specs.Chain.{refuseIf}
-use Rattle.chunk.specs.declared.reading.Refusal.the-variants as refusal
-use Rattle.chunk.specs.declared.reading.Cursor.{Cursor}
-use Rattle.chunk.specs.declared.reading.Cursor.the-variants.{At, Refused}
-use Rattle.chunk.specs.Lundump.{checkHeader}
-use Rattle.chunk.specs.Cursors.{cursorOf, none}
+use Rattle.lundump.specs.declared.reading.Refusal.the-variants as refusal
+use Rattle.lundump.specs.declared.reading.Cursor.{Cursor}
+use Rattle.lundump.specs.declared.reading.Cursor.the-variants.{At, Refused}
+use Rattle.lundump.specs.Lundump.{checkHeader}
+use Rattle.lundump.specs.Cursors.{cursorOf, none}
 use Rattle.index.specs.Listing.{functionsOf, listedOf}
 use Rattle.index.specs.declared.refusing.Why.{Why}
 use Rattle.index.specs.declared.refusing.Why.the-variants.{

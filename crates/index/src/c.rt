@@ -2,7 +2,7 @@
 // `lawendeb_chunk_index` gives.
 ghost use mathlib.Core.Path.{_≡_};
 ghost use lib.ListN.{length};
-ghost use Rattle.chunk.specs.Chunk.{countsOf, after, wordsOf, wordsRoom};
+ghost use Rattle.lundump.specs.Chunk.{countsOf, after, wordsOf, wordsRoom};
 ghost use Rattle.lines.specs.declared.choosing.Choice.the-variants.{Number, Place};
 ghost use Rattle.lines.specs.Choices.{filledBy};
 ghost use Rattle.lines.specs.Lines.{linesIn};
@@ -11,12 +11,12 @@ ghost use Rattle.index.specs.Listing.{functionsOf, listedOf, listedIn, p
 use crate::listing::Listed;
 use crate::listing::count_functions;
 use crate::listing::list_functions;
-use chunk::Counts;
 use lines::Choice;
 use lines::FlatHead;
 use lines::head_by;
 use lines::lines_by;
 use lines::words_by;
+use lundump::Counts;
 
 #[no_mangle]
 pub extern "C" fn lawendeb_chunk_lines(chunk: &[u8], k: usize, lines: &mut [u32]) -> Counts

@@ -1,7 +1,7 @@
 // Why a file is no chunk that is read here, for a program that says it in words. Numbers 14 and 15 do not
 // tell a Lua of another version from a picture.
 ghost use mathlib.Core.Path.{_≡_};
-ghost use Rattle.chunk.specs.Lundump.{checkHeader};
+ghost use Rattle.lundump.specs.Lundump.{checkHeader};
 ghost use Prim.Native.Nat.{_-_};
 ghost use lib.ListN.{length, replicate};
 ghost use Rattle.common.specs.Lists.{put};
@@ -14,10 +14,10 @@ ghost use Rattle.index.specs.Refusing.{
   headerReason,
 };
 use crate::listing::count_functions;
-use chunk::Cursor;
-use chunk::Refusal;
-use chunk::inner::header;
 use common::numbers::MALFORMED_CHUNK;
+use lundump::Cursor;
+use lundump::Refusal;
+use lundump::inner::header;
 
 pub enum Why {
     // The file does not begin with LUA_SIGNATURE.

@@ -1,8 +1,8 @@
 // What the cases print.
-use chunk::Counts;
 use index::Listed;
 use index::Why;
 use lines::FlatHead;
+use lundump::Counts;
 pub use print_cases::end;
 use print_cases::number;
 pub use print_cases::numbers;

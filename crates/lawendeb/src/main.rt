@@ -1,23 +1,19 @@
 // The owner's command: a compiled script, and of each of its functions the most words that can pass without
-// a service. What is told is `owner::tell`; here are the arguments, the files and the memory.
-mod asking;
-mod reading;
-mod rooms;
-mod usage;
-
-use asking::Asked;
-use asking::Wish;
-use asking::read_all;
+// a service. What is told is `owner::tell`, the arguments and the memory are `command`'s; here they meet.
+use command::asking::Asked;
+use command::asking::Wish;
+use command::asking::read_all;
+use command::reading::Reading;
+use command::reading::read_file;
+use command::rooms;
+use command::usage::put_bad_line;
+use command::usage::put_unclear;
+use command::usage::put_usage;
+use command::usage::put_version;
 use libc::STDERR_FILENO;
 use owner::Options;
 use pages::PageState;
 use pages::first;
-use reading::Reading;
-use reading::read_file;
-use usage::put_bad_line;
-use usage::put_unclear;
-use usage::put_usage;
-use usage::put_version;
 
 // What came of a script: all is told, or it is refused, by number and place.
 pub enum Outcome {

@@ -7,12 +7,12 @@ use native.Mathlib.Omega.{arith}
 use lib.Dec.{leb}
 use lib.ListN.{length}
 use borrow.Author.Tests.{leb-true}
-use Rattle.chunk.specs.declared.reading.Refusal.{Refusal}
-use Rattle.chunk.specs.declared.reading.Cursor.{Cursor}
-use Rattle.chunk.specs.declared.reading.Cursor.the-variants.{At, Refused}
-use Rattle.chunk.specs.Reading.{Result, done, refused, Reader, bind, andThen, only}
-use Rattle.chunk.specs.Lundump.{loadBlock}
-use Rattle.chunk.specs.Cursors.{step, cursorOf, same, none}
+use Rattle.lundump.specs.declared.reading.Refusal.{Refusal}
+use Rattle.lundump.specs.declared.reading.Cursor.{Cursor}
+use Rattle.lundump.specs.declared.reading.Cursor.the-variants.{At, Refused}
+use Rattle.lundump.specs.Reading.{Result, done, refused, Reader, bind, andThen, only}
+use Rattle.lundump.specs.Lundump.{loadBlock}
+use Rattle.lundump.specs.Cursors.{step, cursorOf, same, none}
 
 module _ {A : Type 0} (f : A → ℕ) (r : Reader A) (bytes : List ℕ) where
   -- a reader at a cursor that is known
@@ -48,7 +48,8 @@ unit-is (done tt at₁) d at n h k = let p : at₁ ≡ at = cc in ap (done tt) p
 unit-is (refused x) d at n h k = absurd (let z : _≡_ {A = ℕ} 0 1 = cc in omega arith)
 
 -- a block that was read lies inside the bytes
-in-bytes : (size at : ℕ) (bytes : List ℕ) (b : Bool) → leb (at + size) (length bytes) ≡ b → (next : ℕ) → _≡_ {A = Result (Unit {0})} (only b (done tt (at + size))) (done tt next) → at + size ≤ length bytes
+in-bytes : (size at : ℕ) (bytes : List ℕ) (b : Bool) → leb (at + size) (length bytes) ≡ b → (next : ℕ)
+    → _≡_ {A = Result (Unit {0})} (only b (done tt (at + size))) (done tt next) → at + size ≤ length bytes
 in-bytes size at bytes true h next e = leb-true _ _ h
 in-bytes size at bytes false h next e = absurd (let z : _≡_ {A = ℕ} 0 1 = cc in omega arith)
 

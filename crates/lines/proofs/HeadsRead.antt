@@ -4,22 +4,21 @@ use mathlib.Core.Bool.{Bool, true, false}
 use mathlib.Core.List.{List}
 use Prim.Native.Nat.{ℕ, _≤_}
 use native.Mathlib.Omega.{arith}
-use Rattle.chunk.specs.declared.reading.Refusal.{Refusal}
-use Rattle.chunk.specs.declared.reading.Cursor.{Cursor}
-use Rattle.chunk.specs.declared.reading.Cursor.the-variants.{At, Refused}
-use Rattle.chunk.specs.declared.strings.Placed.{Placed}
-use Rattle.chunk.specs.declared.strings.Placed.the-variants as placed
-use Rattle.chunk.specs.declared.functions.Layout.{Layout}
-use Rattle.chunk.specs.declared.locating.Located.{Located}
-use Rattle.chunk.specs.declared.locating.Located.the-variants.{Here, Not}
+use Rattle.lundump.specs.declared.reading.Refusal.{Refusal}
+use Rattle.lundump.specs.declared.reading.Cursor.{Cursor}
+use Rattle.lundump.specs.declared.reading.Cursor.the-variants.{At, Refused}
+use Rattle.lundump.specs.declared.strings.Placed.{Placed}
+use Rattle.lundump.specs.declared.strings.Placed.the-variants as placed
+use Rattle.lundump.specs.declared.functions.Layout.{Layout}
+use Rattle.lundump.specs.declared.locating.Located.{Located}
+use Rattle.lundump.specs.declared.locating.Located.the-variants.{Here, Not}
 use Rattle.lines.specs.declared.heads.FlatHead.{FlatHead}
-use Rattle.chunk.specs.Reading.{Result, done, refused, bind, andThen}
-use Rattle.chunk.specs.Lundump.{Text, Function, loadByte, loadInt, loadStringN, loadHead}
-use Rattle.chunk.specs.Cursors.{step, cursorOf, cursorValue, refusalOf, same, placedOf}
-use Rattle.chunk.specs.Chunk.{nameNumber}
-use Rattle.chunk.specs.Filling.{BytesBounded}
-use Rattle.chunk.specs.Search.{layoutOf, locatedOf}
-use Rattle.chunk.specs.Stands.{Stands, OneRead}
+use Rattle.lundump.specs.Reading.{Result, done, refused, bind, andThen}
+use Rattle.lundump.specs.Lundump.{Text, Function, loadByte, loadInt, loadStringN, loadHead}
+use Rattle.lundump.specs.Cursors.{step, cursorOf, cursorValue, refusalOf, same, BytesBounded, placedOf}
+use Rattle.lundump.specs.Chunk.{nameNumber}
+use Rattle.lundump.specs.Search.{layoutOf, locatedOf}
+use Rattle.lundump.specs.Stands.{Stands, OneRead}
 use Rattle.lines.specs.declared.choosing.Choice.{Choice}
 use Rattle.lines.specs.Choices.{chosenBy}
 use Rattle.lines.specs.Heads.{Head, readHead, headOf, headRefused, headTold, HeadLaws}
@@ -69,7 +68,9 @@ module _ (bytes : List ℕ) (t : Text) where
   abbrev end1 : Cursor → FlatHead
   end1 d = end2 d (step same loadInt bytes d)
 
-  h5 : (d a l b p c v e : ℕ) (X : Result ℕ) → told (nameNumber t) (At a d) (At b l) (At c p) (At e v) (cursorOf same X) ≡ headTold (bind X (λ m at₆. done (head d l p v m) at₆))
+  h5 : (d a l b p c v e : ℕ) (X : Result ℕ)
+      → told (nameNumber t) (At a d) (At b l) (At c p) (At e v) (cursorOf same X)
+      ≡ headTold (bind X (λ m at₆. done (head d l p v m) at₆))
   h5 d a l b p c v e (done m at) = refl
   h5 d a l b p c v e (refused x) = refl
 
@@ -103,7 +104,8 @@ module _ (bytes : List ℕ) (t : Text) where
 
 -- the source first
 module _ (bytes : List ℕ) (at : ℕ) where
-  pub no-source : (s : Placed) (e : Refusal) (r : FlatHead) → s ≡ placedOf (loadStringN bytes at) → s ≡ placed.Refused e → r ≡ headRefused e → r ≡ headTold (readHead bytes at)
+  pub no-source : (s : Placed) (e : Refusal) (r : FlatHead) → s ≡ placedOf (loadStringN bytes at)
+      → s ≡ placed.Refused e → r ≡ headRefused e → r ≡ headTold (readHead bytes at)
   unfolding readHead
   no-source s e r h k q = go (loadStringN bytes at) (sym h ∙ k)
     where
@@ -174,7 +176,10 @@ module _ (bytes : List ℕ) where
   g2 t (done d at) = g3 t d (loadInt bytes at)
   g2 t (refused e) = refl
 
-  g1 : (X : Result Text) → bind X (λ _ at. andThen loadInt (andThen loadInt (andThen loadByte (andThen loadByte loadByte))) bytes at) ≡ bind (bind X (λ t at₁. then1 bytes t at₁)) size
+  g1 : (X : Result Text)
+      → bind X
+      (λ _ at. andThen loadInt (andThen loadInt (andThen loadByte (andThen loadByte loadByte))) bytes at)
+      ≡ bind (bind X (λ t at₁. then1 bytes t at₁)) size
   g1 (done t at) = g2 t (loadInt bytes at)
   g1 (refused e) = refl
 
@@ -185,7 +190,8 @@ module _ (bytes : List ℕ) where
   has : (f : Function) (stack : ℕ) → loadHead bytes (f .firstAt) ≡ done stack (f .codeAt) → (h : Head) × (readHead bytes (f .firstAt) ≡ done h (f .codeAt))
   has f stack e = go (readHead bytes (f .firstAt)) refl (sym (same-head (f .firstAt)) ∙ e)
     where
-      go : (X : Result Head) → readHead bytes (f .firstAt) ≡ X → bind X size ≡ done stack (f .codeAt) → (h : Head) × (readHead bytes (f .firstAt) ≡ done h (f .codeAt))
+      go : (X : Result Head) → readHead bytes (f .firstAt) ≡ X → bind X size ≡ done stack (f .codeAt)
+          → (h : Head) × (readHead bytes (f .firstAt) ≡ done h (f .codeAt))
       go (done h at) r d = let w : at ≡ f .codeAt = cc in (h, r ∙ ap (done h) w)
       go (refused x) r d = absurd (let z : _≡_ {A = ℕ} 0 1 = cc in omega arith)
 

@@ -12,21 +12,22 @@ use borrow.Author.Tests.{ltb-true, eq-eqb, ne-eqb}
 use Rattle.common.specs.Limits.{mostWords, intMax}
 use Rattle.common.specs.Lists.{put}
 use Rattle.common.proofs.Put.{put-laws}
-use Rattle.chunk.specs.declared.reading.Refusal.{Refusal}
-use Rattle.chunk.specs.declared.reading.Cursor.{Cursor}
-use Rattle.chunk.specs.declared.reading.Cursor.the-variants.{At, Refused}
+use Rattle.lundump.specs.declared.reading.Refusal.{Refusal}
+use Rattle.lundump.specs.declared.reading.Cursor.{Cursor}
+use Rattle.lundump.specs.declared.reading.Cursor.the-variants.{At, Refused}
 use Rattle.lines.specs.declared.lines.AbsRead.{AbsRead}
 use Rattle.lines.specs.declared.lines.AbsRead.the-variants as next
-use Rattle.chunk.specs.Reading.{Result, done, refused, bind, only, andThen}
-use Rattle.chunk.specs.Lundump.{unsignedFrom, loadUnsigned, Text, loadBlock, loadInt, loadStringN}
-use Rattle.chunk.specs.Cursors.{step, cursorOf, cursorValue, same, none}
+use Rattle.lundump.specs.Reading.{Result, done, refused, bind, only, andThen}
+use Rattle.lundump.specs.Lundump.{unsignedFrom, loadUnsigned, Text, loadBlock, loadInt, loadStringN}
+use Rattle.lundump.specs.Cursors.{step, cursorOf, cursorValue, same, none}
 use Rattle.lines.specs.declared.lines.LinePlaces.{LinePlaces}
-use Rattle.chunk.specs.declared.functions.Layout.{Layout}
-use Rattle.chunk.specs.Chunk.{Rooms, after}
+use Rattle.lundump.specs.declared.functions.Layout.{Layout}
+use Rattle.lundump.specs.Chunk.{Rooms, after}
 use Rattle.lines.specs.declared.choosing.Choice.{Choice}
 use Rattle.lines.specs.Choices.{filledBy}
 use Rattle.lines.specs.Ldebug.{AbsLine, LineInfo, lineMoved, linesFrom, linesOf}
-use Rattle.lines.specs.Lines.{orNone, definedAt, readInfo, readAbs, absFrom, absBehind, infoBehind, lineInfoAt, linesIn, nextAbsRead, nextAbs, Placed, LineTurns}
+use Rattle.lines.specs.Lines.{orNone, definedAt, readInfo, readAbs, absFrom, absBehind, infoBehind}
+use Rattle.lines.specs.Lines.{lineInfoAt, linesIn, nextAbsRead, nextAbs, Placed, LineTurns}
 use Rattle.lines.proofs.Cursors.{seen, follows, refused-is, done-is, unit-is, block-inside}
 use Rattle.lines.proofs.Ldebug.{moved-most}
 use Rattle.lines.proofs.Ldebug as ldebug
@@ -88,7 +89,8 @@ module _ (bytes : List ℕ) (at : ℕ) where
     unfolding readAbs
     no-line pc middle e h k = rw (h, k) at (some-left left z)
 
-    pub both-read : (pc middle line past : ℕ) → loadInt bytes at ≡ done pc middle → loadInt bytes middle ≡ done line past → next.At pc line past ≡ nextAbs left bytes at
+    pub both-read : (pc middle line past : ℕ) → loadInt bytes at ≡ done pc middle
+        → loadInt bytes middle ≡ done line past → next.At pc line past ≡ nextAbs left bytes at
     unfolding readAbs
     both-read pc middle line past h k = rw (h, k) at (some-left left z)
 
@@ -97,11 +99,16 @@ abs-low : (bytes : List ℕ) (at : ℕ) (a : AbsLine) (past : ℕ) → readAbs b
 unfolding readAbs
 abs-low bytes at a past e = first (loadInt bytes at) e
   where
-    second : (pc : ℕ) (X : Result ℕ) (middle : ℕ) → loadInt bytes middle ≡ X → bind X (λ line at₂. done (record { pc = pc; line = line }) at₂) ≡ done a past → a .line ≤ intMax
+    second : (pc : ℕ) (X : Result ℕ) (middle : ℕ) → loadInt bytes middle ≡ X
+        → bind X (λ line at₂. done (record { pc = pc; line = line }) at₂) ≡ done a past → a .line ≤ intMax
     second pc (done line p) middle h d = let k : line ≡ a .line = cc in let m = int-most bytes middle line p h in omega arith
     second pc (refused x) middle h d = absurd (let z : _≡_ {A = ℕ} 0 1 = cc in omega arith)
 
-    first : (X : Result ℕ) → bind X (λ pc at₁. bind (loadInt bytes at₁) (λ line at₂. done (record { pc = pc; line = line }) at₂)) ≡ done a past → a .line ≤ intMax
+    first : (X : Result ℕ)
+        → bind X
+        (λ pc at₁. bind (loadInt bytes at₁) (λ line at₂. done (record { pc = pc; line = line }) at₂))
+        ≡ done a past
+        → a .line ≤ intMax
     first (done pc middle) d = second pc (loadInt bytes middle) middle refl d
     first (refused x) d = absurd (let z : _≡_ {A = ℕ} 0 1 = cc in omega arith)
 
@@ -155,7 +162,8 @@ unfolding linesFrom
 own-line m line i pc own xs b bs z = rw (eq-eqb pc i z)
 
 moved-line : (m line i pc own : ℕ) (xs : List AbsLine) (b : ℕ) (bs : List ℕ) → (pc ≡ i → ⊥)
-    → linesFrom (suc m) line i (record { pc = pc; line = own } ∷ xs) (b ∷ bs) ≡ lineMoved line b ∷ linesFrom m (lineMoved line b) (i + 1) (record { pc = pc; line = own } ∷ xs) bs
+    → linesFrom (suc m) line i (record { pc = pc; line = own } ∷ xs) (b ∷ bs) ≡ lineMoved line b
+    ∷ linesFrom m (lineMoved line b) (i + 1) (record { pc = pc; line = own } ∷ xs) bs
 unfolding linesFrom
 moved-line m line i pc own xs b bs z = rw (ne-eqb pc i z)
 
@@ -250,7 +258,8 @@ module _ (bytes part : List ℕ) (defined n left₀ abs₀ : ℕ) (out₀ : List
     pub storing-low : line ≤ 4294967295
     storing-low = omega (arith, s .low, s .upto, s .few)
 
-    module _ (h : i < n) (shown line′ at′ left′ : ℕ) (t : LineTurns bytes part line i left at (record { shown = shown; line = line′; at = at′; left = left′ })) where
+    module _ (h : i < n) (shown line′ at′ left′ : ℕ) (t : LineTurns bytes part line i left at
+        (record { shown = shown; line = line′; at = at′; left = left′ })) where
       pub shown-low : shown < 4294967296
       shown-low = let k = t .low (intMax + 127 * i) (omega arith) (s .low) in omega (arith, k .0, s .few)
 
@@ -312,7 +321,8 @@ value-none (done v at) = refl
 value-none (refused e) = refl
 
 module _ (bytes : List ℕ) (at : ℕ) where
-  pub defined-is : (d x : Cursor) (v : ℕ) → d ≡ step none loadStringN bytes (At at 0) → x ≡ step same loadInt bytes d → v ≡ cursorValue x → v ≡ definedAt bytes at
+  pub defined-is : (d x : Cursor) (v : ℕ) → d ≡ step none loadStringN bytes (At at 0)
+      → x ≡ step same loadInt bytes d → v ≡ cursorValue x → v ≡ definedAt bytes at
   unfolding definedAt
   defined-is d x v h k e =
       e ∙ ap cursorValue (follows none same loadStringN loadInt bytes (At at 0) d x h k ∙ seen same (andThen loadStringN loadInt) bytes at 0)
@@ -333,7 +343,8 @@ module _ (bytes : List ℕ) (at : ℕ) where
 -- ---- the function that is filled
 pub fill-is :
     (bytes : List ℕ) (firstAt linesAt n v : ℕ) (p : LinePlaces) (out : List ℕ) → v ≡ definedAt bytes firstAt → Placed bytes v linesAt p
-    → linesFrom n v 0 (absFrom (p .left) bytes (p .abs)) (take (p .count) (drop (p .start) bytes)) ++ drop n out ≡ linesOf (lineInfoAt bytes firstAt linesAt) n ++ drop n out
+    → linesFrom n v 0 (absFrom (p .left) bytes (p .abs)) (take (p .count) (drop (p .start) bytes))
+    ++ drop n out ≡ linesOf (lineInfoAt bytes firstAt linesAt) n ++ drop n out
 unfolding lineInfoAt linesOf
 fill-is bytes firstAt linesAt n v p out e q =
     ap (λ (f : LineInfo). linesOf f n ++ drop n out) (sym (q .info) ∙ ap (λ (d : ℕ). infoBehind d bytes (readInfo bytes linesAt)) e)

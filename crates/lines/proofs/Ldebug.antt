@@ -11,7 +11,9 @@ use lib.ListN.{length, getD, drop}
 use lib.Seq.{drop-cons, getD-drop}
 use borrow.Author.Tests.{lt-ltb, le-ltb, le-leb, lt-leb, leb-true, leb-false, ltb-true, ltb-false, eqb-true, eqb-false, eq-eqb, ne-eqb}
 use Rattle.common.proofs.Order.{split, same-or-not}
-use Rattle.lines.specs.Ldebug.{AbsLine, LineInfo, lineMoved, mostWithoutAbs, Base, baseAt, noAbs, climb, getbaseline, walked, upTo, funcline, linesFrom, linesOf, Rises, Estimated, Lines}
+use Rattle.lines.specs.Ldebug.{AbsLine, LineInfo, lineMoved, mostWithoutAbs, Base, baseAt, noAbs, climb}
+use Rattle.lines.specs.Ldebug.{getbaseline, walked, upTo, funcline, linesFrom, linesOf, Rises}
+use Rattle.lines.specs.Ldebug.{Estimated, Lines}
 
 -- the last base that is not past pc, of those in a list that rises
 abbrev baseBy : ℕ → List AbsLine → Base → Base
@@ -74,7 +76,10 @@ module _ (linedefined pc : ℕ) where
         (sym (climbs pc (λ k. getD (a ∷ xs) k noAbs) xs 0 (λ k l. let z : suc k ≡ suc 0 + k = omega arith in ap (λ (x : ℕ). getD (a ∷ xs) x noAbs) z)))
     by-estimate (suc i) e =
         let s = e i refl in
-        sym (base-from pc 0 (a ∷ xs) i first r (s .there) (s .low) ∙ climbs pc (λ k. getD (a ∷ xs) k noAbs) (drop (suc i) (a ∷ xs)) i (λ k l. getD-drop (suc i) (a ∷ xs) k noAbs))
+        sym
+        (base-from pc 0 (a ∷ xs) i first r (s .there) (s .low)
+        ∙ climbs pc (λ k. getD (a ∷ xs) k noAbs) (drop (suc i) (a ∷ xs)) i
+        (λ k l. getD-drop (suc i) (a ∷ xs) k noAbs))
 
   base-is :
       (abs : List AbsLine) → Rises 0 abs
@@ -104,7 +109,9 @@ module _ (info : List ℕ) where
   own-step t pc line [] h = walk-on t pc line h
   own-step t pc line (a ∷ xs) h = go (leb (a .pc) t)
     where
-      go : (b : Bool) → upTo info t (cond b (baseBy t xs (baseAt a)) (base pc line)) ≡ upTo info t (cond b (baseBy t xs (baseAt a)) (base (pc + 1) (lineMoved line (getD info pc 0))))
+      go : (b : Bool)
+          → upTo info t (cond b (baseBy t xs (baseAt a)) (base pc line)) ≡ upTo info t
+          (cond b (baseBy t xs (baseAt a)) (base (pc + 1) (lineMoved line (getD info pc 0))))
       go true = refl
       go false = walk-on t pc line h
 
@@ -129,7 +136,11 @@ module _ (info : List ℕ) where
 
   module _ (n pc : ℕ) (rec : Right n (pc + 1)) (line k t : ℕ) (e : pc + k ≡ t) (l : t < length info) (h : k < suc n) where
     by-byte : (xs : List AbsLine) → Rises (pc + 1) xs
-        → getD (lineMoved line (getD info pc 0) ∷ linesFrom n (lineMoved line (getD info pc 0)) (pc + 1) xs (drop (pc + 1) info)) k 0 ≡ upTo info t (baseBy t xs (base pc line))
+        → getD
+        (lineMoved line (getD info pc 0)
+        ∷ linesFrom n (lineMoved line (getD info pc 0)) (pc + 1) xs (drop (pc + 1) info))
+        k 0
+        ≡ upTo info t (baseBy t xs (base pc line))
     by-byte xs r = one-more n pc rec (lineMoved line (getD info pc 0)) xs r k t e l h ∙ sym (own-step t pc line xs (omega arith))
 
     by-abs : (a : AbsLine) (xs : List AbsLine) → a .pc ≡ pc → Rises (a .pc + 1) xs
@@ -140,7 +151,11 @@ module _ (info : List ℕ) where
         ∙ ap (upTo info t) (sym (base-next t a xs (base pc line) (omega arith)))
 
     either : (a : AbsLine) (xs : List AbsLine) → Rises pc (a ∷ xs) → (b : Bool) → eqb (a .pc) pc ≡ b
-        → getD (cond b (a .line ∷ linesFrom n (a .line) (pc + 1) xs (drop (pc + 1) info)) (lineMoved line (getD info pc 0) ∷ linesFrom n (lineMoved line (getD info pc 0)) (pc + 1) (a ∷ xs) (drop (pc + 1) info))) k 0
+        → getD
+        (cond b (a .line ∷ linesFrom n (a .line) (pc + 1) xs (drop (pc + 1) info))
+        (lineMoved line (getD info pc 0)
+        ∷ linesFrom n (lineMoved line (getD info pc 0)) (pc + 1) (a ∷ xs) (drop (pc + 1) info)))
+        k 0
         ≡ upTo info t (baseBy t (a ∷ xs) (base pc line))
     either a xs r true d = by-abs a xs (eqb-true (a .pc) pc d) (r .1)
     either a xs r false d = let x = eqb-false (a .pc) pc d in by-byte (a ∷ xs) (past (r .0) x, r .1)
@@ -189,7 +204,9 @@ unfolding linesFrom
 lines-count zero line pc xs bs = refl
 lines-count (suc n) line pc xs [] = ap suc (lines-count n line (pc + 1) xs [])
 lines-count (suc n) line pc [] (b ∷ bs) = ap suc (lines-count n (lineMoved line b) (pc + 1) [] bs)
-lines-count (suc n) line pc (a ∷ xs) (b ∷ bs) = go (eqb (a .pc) pc) (lines-count n (a .line) (pc + 1) xs bs) (lines-count n (lineMoved line b) (pc + 1) (a ∷ xs) bs)
+lines-count (suc n) line pc (a ∷ xs) (b ∷ bs) =
+    go (eqb (a .pc) pc) (lines-count n (a .line) (pc + 1) xs bs)
+    (lines-count n (lineMoved line b) (pc + 1) (a ∷ xs) bs)
   where
     go : (t : Bool) → length (linesFrom n (a .line) (pc + 1) xs bs) ≡ n → length (linesFrom n (lineMoved line b) (pc + 1) (a ∷ xs) bs) ≡ n
         → length (cond t (a .line ∷ linesFrom n (a .line) (pc + 1) xs bs) (lineMoved line b ∷ linesFrom n (lineMoved line b) (pc + 1) (a ∷ xs) bs)) ≡ suc n
@@ -221,16 +238,28 @@ bounded (suc n) line pc [] (b ∷ bs) (suc k) most i h a =
     omega arith
 bounded (suc n) line pc (x ∷ xs) (b ∷ bs) zero most i h a = go (eqb (x .pc) pc)
   where
-    go : (t : Bool) → getD (cond t (x .line ∷ linesFrom n (x .line) (pc + 1) xs bs) (lineMoved line b ∷ linesFrom n (lineMoved line b) (pc + 1) (x ∷ xs) bs)) 0 0 ≤ most + 127 * (i + suc n)
+    go : (t : Bool)
+        → getD
+        (cond t (x .line ∷ linesFrom n (x .line) (pc + 1) xs bs)
+        (lineMoved line b ∷ linesFrom n (lineMoved line b) (pc + 1) (x ∷ xs) bs))
+        0 0
+        ≤ most + 127 * (i + suc n)
     go true = let u = a 0 (omega arith) in omega arith
     go false = let m = moved-most line b in omega arith
 bounded (suc n) line pc (x ∷ xs) (b ∷ bs) (suc k) most i h a =
     let m = moved-most line b in
     let u = a 0 (omega arith) in
-    go (eqb (x .pc) pc) (bounded n (x .line) (pc + 1) xs bs k most i (omega arith) (λ j l. a (suc j) (omega arith))) (bounded n (lineMoved line b) (pc + 1) (x ∷ xs) bs k most (i + 1) (omega arith) a)
+    go (eqb (x .pc) pc)
+    (bounded n (x .line) (pc + 1) xs bs k most i (omega arith) (λ j l. a (suc j) (omega arith)))
+    (bounded n (lineMoved line b) (pc + 1) (x ∷ xs) bs k most (i + 1) (omega arith) a)
   where
-    go : (t : Bool) → getD (linesFrom n (x .line) (pc + 1) xs bs) k 0 ≤ most + 127 * (i + n) → getD (linesFrom n (lineMoved line b) (pc + 1) (x ∷ xs) bs) k 0 ≤ most + 127 * (i + 1 + n)
-        → getD (cond t (x .line ∷ linesFrom n (x .line) (pc + 1) xs bs) (lineMoved line b ∷ linesFrom n (lineMoved line b) (pc + 1) (x ∷ xs) bs)) (suc k) 0 ≤ most + 127 * (i + suc n)
+    go : (t : Bool) → getD (linesFrom n (x .line) (pc + 1) xs bs) k 0 ≤ most + 127 * (i + n)
+        → getD (linesFrom n (lineMoved line b) (pc + 1) (x ∷ xs) bs) k 0 ≤ most + 127 * (i + 1 + n)
+        → getD
+        (cond t (x .line ∷ linesFrom n (x .line) (pc + 1) xs bs)
+        (lineMoved line b ∷ linesFrom n (lineMoved line b) (pc + 1) (x ∷ xs) bs))
+        (suc k) 0
+        ≤ most + 127 * (i + suc n)
     go true p q = omega arith
     go false p q = omega arith
 

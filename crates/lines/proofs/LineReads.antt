@@ -7,9 +7,9 @@ use native.Mathlib.Omega.{arith}
 use lib.Dec.{leb}
 use lib.ListN.{length}
 use Rattle.common.specs.Limits.{intMax}
-use Rattle.chunk.specs.Reading.{Result, done, refused, bind, only, repeat}
-use Rattle.chunk.specs.Lundump.{Vector, Function, loadInt, loadBlock, loadVector, loadItems, loadAbsLine, loadLocVar, loadLines}
-use Rattle.chunk.specs.Stands.{Stands, OneRead}
+use Rattle.lundump.specs.Reading.{Result, done, refused, bind, only, repeat}
+use Rattle.lundump.specs.Lundump.{Vector, Function, loadInt, loadBlock, loadVector, loadItems, loadAbsLine, loadLocVar, loadLines}
+use Rattle.lundump.specs.Stands.{Stands, OneRead}
 use Rattle.lines.specs.declared.choosing.Choice.{Choice}
 use Rattle.lines.specs.Choices.{chosenBy}
 use Rattle.lines.specs.Ldebug.{AbsLine, linesOf}
@@ -43,16 +43,23 @@ module _ (bytes : List ℕ) where
   info-same at v past e = counted v past (loadInt bytes at) e
 
   -- ---- abslineinfo
-  abs-cons : (n at : ℕ) (a : AbsLine) (past : ℕ) → readAbs bytes at ≡ done a past → length (absFrom n bytes past) ≡ n → length (absFrom (suc n) bytes at) ≡ suc n
+  abs-cons : (n at : ℕ) (a : AbsLine) (past : ℕ) → readAbs bytes at ≡ done a past
+      → length (absFrom n bytes past) ≡ n → length (absFrom (suc n) bytes at) ≡ suc n
   unfolding absFrom
   abs-cons n at a past e h = rw e (ap suc h)
 
-  abs-read : (at pc middle line past : ℕ) → loadInt bytes at ≡ done pc middle → loadInt bytes middle ≡ done line past → readAbs bytes at ≡ done (record { pc = pc; line = line }) past
+  abs-read : (at pc middle line past : ℕ) → loadInt bytes at ≡ done pc middle
+      → loadInt bytes middle ≡ done line past
+      → readAbs bytes at ≡ done (record { pc = pc; line = line }) past
   unfolding readAbs
   abs-read at pc middle line past e h = rw (e, h)
 
-  module _ (n i : ℕ) (rec : (at : ℕ) (xs : List ℕ) (past : ℕ) → repeat loadAbsLine (i + 1) n bytes at ≡ done xs past → length (absFrom n bytes at) ≡ n) (at : ℕ) (xs : List ℕ) (past : ℕ) where
-    rest-read : (pc middle line a : ℕ) (Z : Result (List ℕ)) → loadInt bytes at ≡ done pc middle → loadInt bytes middle ≡ done line a → repeat loadAbsLine (i + 1) n bytes a ≡ Z
+  module _ (n i : ℕ)
+      (rec : (at : ℕ) (xs : List ℕ) (past : ℕ) → repeat loadAbsLine (i + 1) n bytes at ≡ done xs past
+      → length (absFrom n bytes at) ≡ n)
+      (at : ℕ) (xs : List ℕ) (past : ℕ) where
+    rest-read : (pc middle line a : ℕ) (Z : Result (List ℕ)) → loadInt bytes at ≡ done pc middle
+        → loadInt bytes middle ≡ done line a → repeat loadAbsLine (i + 1) n bytes a ≡ Z
         → bind Z (λ ys b. done (line ∷ ys) b) ≡ done xs past → length (absFrom (suc n) bytes at) ≡ suc n
     rest-read pc middle line a (done ys b) e h z d = abs-cons n at (record { pc = pc; line = line }) a (abs-read at pc middle line a e h) (rec a ys b z)
     rest-read pc middle line a (refused x) e h z d = absurd (let q : _≡_ {A = ℕ} 0 1 = cc in omega arith)
@@ -82,7 +89,10 @@ module _ (bytes : List ℕ) where
     within n from false X e h d = absurd (let q : _≡_ {A = ℕ} 0 1 = cc in omega arith)
 
     behind : (X : Result ℕ) → loadInt bytes past ≡ X
-        → bind (bind X (λ n at₁. only (leb n intMax) (repeat loadAbsLine 0 n bytes at₁))) (λ _ at₂. loadItems intMax loadLocVar bytes at₂) ≡ done ls end → InfoRead bytes at
+        → bind (bind X (λ n at₁. only (leb n intMax) (repeat loadAbsLine 0 n bytes at₁)))
+        (λ _ at₂. loadItems intMax loadLocVar bytes at₂)
+        ≡ done ls end
+        → InfoRead bytes at
     behind (done n from) e d = within n from (leb n intMax) (repeat loadAbsLine 0 n bytes from) e refl d
     behind (refused x) e d = absurd (let q : _≡_ {A = ℕ} 0 1 = cc in omega arith)
 

@@ -8,22 +8,22 @@ use lib.Dec.{leb}
 use lib.ListN.{length, drop}
 use borrow.Author.Tests.{leb-true, le-leb, lt-leb}
 use Rattle.common.specs.Limits.{mostBytes, levelsBelow}
-use Rattle.chunk.specs.declared.reading.Refusal.{Refusal}
-use Rattle.chunk.specs.declared.reading.Refusal.the-variants.{Malformed, Short}
-use Rattle.chunk.specs.declared.reading.Cursor.the-variants.{At}
-use Rattle.chunk.specs.declared.functions.Layout.{Layout}
-use Rattle.chunk.specs.declared.functions.Search.the-variants.{Left}
-use Rattle.chunk.specs.declared.functions.Walk.{Walk}
-use Rattle.chunk.specs.declared.locating.Located.{Located}
-use Rattle.chunk.specs.declared.locating.Located.the-variants.{Here, Not}
-use Rattle.chunk.specs.declared.counts.Counts.{Counts}
-use Rattle.chunk.specs.Reading.{Result, done, refused, bind, only}
-use Rattle.chunk.specs.Lundump.{Function, loadCode, loadFunction, undump}
-use Rattle.chunk.specs.Chunk.{pick, chosen, valuesOf, wordsOf, countsOf, Rooms, fits, roomFor, after}
-use Rattle.chunk.specs.Stands.{Stands, AllStand, AllRead, OneRead}
-use Rattle.chunk.specs.Cursors.{same}
-use Rattle.chunk.specs.Search.{search, walkOf, walk, layoutOf, locatedOf, foundOf, locatedBy, reported, roomed}
-use Rattle.chunk.specs.Filling.{Read, valuesAfter, BytesBounded}
+use Rattle.lundump.specs.declared.reading.Refusal.{Refusal}
+use Rattle.lundump.specs.declared.reading.Refusal.the-variants.{Malformed, Short}
+use Rattle.lundump.specs.declared.reading.Cursor.the-variants.{At}
+use Rattle.lundump.specs.declared.functions.Layout.{Layout}
+use Rattle.lundump.specs.declared.functions.Search.the-variants.{Left}
+use Rattle.lundump.specs.declared.functions.Walk.{Walk}
+use Rattle.lundump.specs.declared.locating.Located.{Located}
+use Rattle.lundump.specs.declared.locating.Located.the-variants.{Here, Not}
+use Rattle.lundump.specs.declared.counts.Counts.{Counts}
+use Rattle.lundump.specs.Reading.{Result, done, refused, bind, only}
+use Rattle.lundump.specs.Lundump.{Function, loadCode, loadFunction, undump}
+use Rattle.lundump.specs.Chunk.{pick, chosen, valuesOf, wordsOf, countsOf, Rooms, fits, roomFor, after}
+use Rattle.lundump.specs.Stands.{Stands, AllStand, AllRead, OneRead}
+use Rattle.lundump.specs.Cursors.{same, BytesBounded}
+use Rattle.lundump.specs.Search.{search, walkOf, walk, layoutOf, locatedOf, foundOf, locatedBy, reported, roomed}
+use Rattle.chunk.specs.Filling.{Read, valuesAfter}
 use Rattle.chunk.proofs.Laws.{laws}
 use Rattle.lines.specs.declared.choosing.Choice.{Choice}
 use Rattle.lines.specs.declared.choosing.Choice.the-variants.{Number, Place}
@@ -72,7 +72,8 @@ module _ (bytes : List ℕ) where
       → roomed w t p n (locatedOf X) ≡ locatedOf (bind X (roomFor (record { words = w; tags = t; payloads = p; names = n })))
   unfolding roomed fits
   roomy (done f at) w t p n s =
-      rw (s .one-each) (four f at (layoutOf f) refl (leb (length (f .words)) w) (leb (length (f .constants)) t) (leb (length (f .constants)) p) (leb (f .upvalues) n))
+      rw (s .one-each) (four f at (layoutOf f) refl (leb (length (f .words)) w)
+      (leb (length (f .constants)) t) (leb (length (f .constants)) p) (leb (f .upvalues) n))
   roomy (refused e) w t p n s = refl
 
   pub filled-is : (k : Choice) (w t p n : ℕ) (l m : Located) → l ≡ locatedOf (chosenBy k bytes) → m ≡ roomed w t p n l
@@ -111,7 +112,13 @@ module _ (bytes : List ℕ) where
   all-fit : (f : Function) (rooms : Rooms) (a b c d : Bool)
       → leb (length (f .words)) (rooms .words) ≡ a → leb (length (f .constants)) (rooms .tags) ≡ b → leb (length (f .constants)) (rooms .payloads) ≡ c
       → leb (length (f .names)) (rooms .names) ≡ d → a && (b && (c && d)) ≡ true → All f rooms
-  all-fit f rooms true true true true ea eb ec ed h = record { words = leb-true _ _ ea; tags = leb-true _ _ eb; payloads = leb-true _ _ ec; names = leb-true _ _ ed }
+  all-fit f rooms true true true true ea eb ec ed h =
+      record {
+        words = leb-true _ _ ea;
+        tags = leb-true _ _ eb;
+        payloads = leb-true _ _ ec;
+        names = leb-true _ _ ed;
+      }
   all-fit f rooms true true true false ea eb ec ed h = absurd (let z : _≡_ {A = ℕ} 0 1 = cc in omega arith)
   all-fit f rooms true true false d ea eb ec ed h = absurd (let z : _≡_ {A = ℕ} 0 1 = cc in omega arith)
   all-fit f rooms true false c d ea eb ec ed h = absurd (let z : _≡_ {A = ℕ} 0 1 = cc in omega arith)
@@ -122,14 +129,28 @@ module _ (bytes : List ℕ) where
   fit f rooms h = all-fit f rooms _ _ _ _ refl refl refl refl h
 
   module _ (k : Choice) (rooms : Rooms) (l : Layout) where
-    with-room : (f : Function) (at : ℕ) (b : Bool) → fits f rooms ≡ b → filledBy k bytes rooms ≡ cond b (done f at) (refused Short) → Stands bytes f → BytesBounded bytes
+    with-room : (f : Function) (at : ℕ) (b : Bool) → fits f rooms ≡ b
+        → filledBy k bytes rooms ≡ cond b (done f at) (refused Short) → Stands bytes f
+        → BytesBounded bytes
         → Here l ≡ locatedOf (cond b (done f at) (refused Short)) → Filled k rooms l
     with-room f at true b e s o h =
         let a = fit f rooms b in
-        record { function = f; next = at; is = e; layout = (let p : l ≡ layoutOf f = cc in p); stands = s; bounded = o; words = a .words; tags = a .tags; payloads = a .payloads; names = a .names }
+        record {
+          function = f;
+          next = at;
+          is = e;
+          layout = (let p : l ≡ layoutOf f = cc in p);
+          stands = s;
+          bounded = o;
+          words = a .words;
+          tags = a .tags;
+          payloads = a .payloads;
+          names = a .names;
+        }
     with-room f at false b e s o h = absurd (let z : _≡_ {A = ℕ} 0 1 = cc in omega arith)
 
-    located : (X : Result Function) → chosenBy k bytes ≡ X → filledBy k bytes rooms ≡ bind X (roomFor rooms) → OneRead bytes X → Here l ≡ locatedOf (bind X (roomFor rooms)) → Filled k rooms l
+    located : (X : Result Function) → chosenBy k bytes ≡ X → filledBy k bytes rooms ≡ bind X (roomFor rooms)
+        → OneRead bytes X → Here l ≡ locatedOf (bind X (roomFor rooms)) → Filled k rooms l
     located (done f at) c e s h = with-room f at (fits f rooms) refl e s (short-enough k f at c) h
     located (refused x) c e s h = absurd (let z : _≡_ {A = ℕ} 0 1 = cc in omega arith)
 

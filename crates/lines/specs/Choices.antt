@@ -7,9 +7,9 @@ use Prim.Native.Nat.{ℕ}
 use lib.Dec.{leb}
 use lib.ListN.{length}
 use Rattle.common.specs.Limits.{mostBytes, levelsBelow}
-use Rattle.chunk.specs.Reading.{Result, bind, only}
-use Rattle.chunk.specs.Lundump.{Function, loadFunction}
-use Rattle.chunk.specs.Chunk.{pick, chosen, Rooms, roomFor}
+use Rattle.lundump.specs.Reading.{Result, bind, only}
+use Rattle.lundump.specs.Lundump.{Function, loadFunction}
+use Rattle.lundump.specs.Chunk.{pick, chosen, Rooms, roomFor}
 use Rattle.lines.specs.declared.choosing.Choice.{Choice}
 use Rattle.lines.specs.declared.choosing.Choice.the-variants.{Number, Place}
 

@@ -3,7 +3,7 @@
 use mathlib.Core.Path.{_≡_}
 use mathlib.Core.List.{List, [], _∷_, _++_}
 use Prim.Native.Nat.{ℕ}
-use Rattle.chunk.specs.Examples.{header}
+use Rattle.lundump.specs.Examples.{header}
 use Rattle.lines.specs.declared.choosing.Choice.{Choice}
 use Rattle.lines.specs.declared.choosing.Choice.the-variants.{Number, Place}
 use Rattle.lines.specs.declared.heads.FlatHead.{FlatHead}

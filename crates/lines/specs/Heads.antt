@@ -1,19 +1,19 @@
--- loadFunction's head with all that it reads, where loadHead of specs/Lundump.antt keeps the last number
--- only; and what is told of it.
+-- loadFunction's head with all that it reads, where loadHead of lundump/specs/Lundump.antt keeps the last
+-- number only; and what is told of it.
 -- Assumes nothing.
 use mathlib.Core.Path.{_≡_}
 use mathlib.Core.List.{List}
 use Prim.Native.Nat.{ℕ}
 use Rattle.common.specs.Numbers.{«ACCEPTED»}
 use Rattle.common.specs.Limits.{mostBytes}
-use Rattle.chunk.specs.declared.reading.Refusal.{Refusal}
+use Rattle.lundump.specs.declared.reading.Refusal.{Refusal}
 use Rattle.lines.specs.declared.heads.FlatHead.{FlatHead}
-use Rattle.chunk.specs.Numbers.{refusalNumber, refusalPlace}
+use Rattle.lundump.specs.Numbers.{refusalNumber, refusalPlace}
 use lib.Dec.{leb}
 use lib.ListN.{length}
-use Rattle.chunk.specs.Reading.{Result, done, refused, Reader, bind, only}
-use Rattle.chunk.specs.Lundump.{Text, Function, loadByte, loadInt, loadStringN, loadHead}
-use Rattle.chunk.specs.Chunk.{nameNumber}
+use Rattle.lundump.specs.Reading.{Result, done, refused, Reader, bind, only}
+use Rattle.lundump.specs.Lundump.{Text, Function, loadByte, loadInt, loadStringN, loadHead}
+use Rattle.lundump.specs.Chunk.{nameNumber}
 use Rattle.lines.specs.declared.choosing.Choice.{Choice}
 use Rattle.lines.specs.Choices.{chosenBy}
 

@@ -10,8 +10,8 @@ use Rattle.lines.specs.declared.lines.AbsRead.{AbsRead}
 use Rattle.lines.specs.declared.lines.AbsRead.the-variants as next
 use Rattle.lines.specs.declared.lines.LinePlaces.{LinePlaces}
 use Rattle.lines.specs.declared.lines.LineTurn.{LineTurn}
-use Rattle.chunk.specs.Reading.{Result, done, refused, Reader, bind, andThen}
-use Rattle.chunk.specs.Lundump.{Vector, Function, loadBlock, loadInt, loadStringN}
+use Rattle.lundump.specs.Reading.{Result, done, refused, Reader, bind, andThen}
+use Rattle.lundump.specs.Lundump.{Vector, Function, loadBlock, loadInt, loadStringN}
 use Rattle.lines.specs.declared.choosing.Choice.{Choice}
 use Rattle.lines.specs.Choices.{chosenBy}
 use Rattle.lines.specs.Ldebug.{

@@ -1,16 +1,16 @@
 // A function of a chunk, chosen by its number or by its place.
 ghost use mathlib.Core.Path.{_≡_};
-ghost use Rattle.chunk.specs.Search.{locatedOf};
+ghost use Rattle.lundump.specs.Search.{locatedOf};
 ghost use Rattle.lines.specs.Choices.{functionAt, chosenBy};
-use chunk::Cursor;
-use chunk::Located;
-use chunk::Refusal;
-use chunk::Search;
-use chunk::inner::function;
-use chunk::inner::locate;
-use chunk::inner::located_counts;
 use common::limits::LEVELS_BELOW;
 use common::limits::MOST_BYTES;
+use lundump::Cursor;
+use lundump::Located;
+use lundump::Refusal;
+use lundump::Search;
+use lundump::inner::function;
+use lundump::inner::locate;
+use lundump::inner::located_counts;
 
 pub enum Choice {
     // Counted from 0 by first byte.

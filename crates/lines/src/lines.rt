@@ -15,21 +15,21 @@ ghost use Rattle.lines.specs.Lines.{
   Placed,
   LineTurns,
 };
-ghost use Rattle.chunk.specs.Chunk.{countsOf, after, wordsRoom};
+ghost use Rattle.lundump.specs.Chunk.{countsOf, after, wordsRoom};
 ghost use Rattle.lines.specs.Choices.{filledBy};
 use crate::choosing::Choice;
 use crate::choosing::locate_by;
-use chunk::Counts;
-use chunk::Cursor;
-use chunk::Located;
-use chunk::inner::block;
-use chunk::inner::int;
-use chunk::inner::report;
-use chunk::inner::string;
-use chunk::inner::value;
 use chunk::inner::with_room;
 use common::limits::MOST_CONSTANTS;
 use common::limits::MOST_NAMES;
+use lundump::Counts;
+use lundump::Cursor;
+use lundump::Located;
+use lundump::inner::block;
+use lundump::inner::int;
+use lundump::inner::report;
+use lundump::inner::string;
+use lundump::inner::value;
 
 pub enum AbsRead {
     // An instruction, its line, and the position past them.

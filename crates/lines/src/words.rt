@@ -1,17 +1,17 @@
 // A function's words.
 ghost use mathlib.Core.Path.{_≡_};
 ghost use lib.ListN.{length};
-ghost use Rattle.chunk.specs.Chunk.{countsOf, after, wordsOf, wordsRoom};
+ghost use Rattle.lundump.specs.Chunk.{countsOf, after, wordsOf, wordsRoom};
 ghost use Rattle.lines.specs.Choices.{filledBy};
 use crate::choosing::Choice;
 use crate::choosing::locate_by;
-use chunk::Counts;
-use chunk::Located;
 use chunk::inner::fill_code;
-use chunk::inner::report;
 use chunk::inner::with_room;
 use common::limits::MOST_CONSTANTS;
 use common::limits::MOST_NAMES;
+use lundump::Counts;
+use lundump::Located;
+use lundump::inner::report;
 
 // As if there were room for all of its tags, payloads and names: only the words are filled.
 pub fn words_by(chunk: &[u8], choice: Choice, words: &mut [u32]) -> Counts

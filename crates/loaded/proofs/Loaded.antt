@@ -13,10 +13,10 @@ use Rattle.common.specs.Chain.{choose, answer, accepted}
 use Rattle.common.proofs.Lowest.{lowest-laws}
 use Rattle.values.specs.Spans.{past, firstNamePast}
 use Rattle.records.specs.Refusals.{unknownTag, unknownTagAt, isString, stringPastAt, firstUnknownTag, firstStringPast, answerOf}
-use Rattle.chunk.specs.Reading.{Result, done}
-use Rattle.chunk.specs.Lundump.{Constant, plain, string, Function}
-use Rattle.chunk.specs.Chunk.{chosen, tagOf, payloadOf, nameNumber, stringTag, valuesOf, wordsOf, tagsOf, payloadsOf, namesOf}
-use Rattle.chunk.specs.Stands.{Stands, OneRead}
+use Rattle.lundump.specs.Reading.{Result, done}
+use Rattle.lundump.specs.Lundump.{Constant, plain, string, Function}
+use Rattle.lundump.specs.Chunk.{chosen, tagOf, payloadOf, nameNumber, stringTag, valuesOf, wordsOf, tagsOf, payloadsOf, namesOf}
+use Rattle.lundump.specs.Stands.{Stands, OneRead}
 use Rattle.chunk.specs.Places.{Plain, Places}
 use Rattle.chunk.proofs.Laws.{laws}
 use Rattle.loaded.specs.Loaded.{lifting, Loaded}

@@ -8,9 +8,9 @@ use lib.ListN.{length}
 use Rattle.common.specs.declared.answer.Answer.{Answer}
 use Rattle.common.specs.Chain.{answer, accepted}
 use Rattle.records.specs.Refusals.{answerOf}
-use Rattle.chunk.specs.Reading.{done}
-use Rattle.chunk.specs.Lundump.{Function}
-use Rattle.chunk.specs.Chunk.{chosen, wordsOf, tagsOf, payloadsOf, namesOf}
+use Rattle.lundump.specs.Reading.{done}
+use Rattle.lundump.specs.Lundump.{Function}
+use Rattle.lundump.specs.Chunk.{chosen, wordsOf, tagsOf, payloadsOf, namesOf}
 
 -- what a lift answers to a function's words, tags, payloads and names, with room for so many records
 abbrev pub lifting : List ℕ → Function → ℕ → Answer

@@ -14,7 +14,9 @@ use Rattle.graph.specs.Graph.{In, Graph, Along, Path, Unserved, Segment, weigh}
 use Rattle.graph.proofs.Laws.{laws}
 use Rattle.meter.specs.declared.step.Meter.{Meter}
 use Rattle.meter.specs.Feed.{Scale, follows, beginOf, resetOf, feedOf}
-use Rattle.meter.specs.Model.{Call, begin, feed, reset, Model, emptyModel, lastFrom, writes, servesTo, fed, called, answerTo, modelAfter, modelAnswers, anyServes, sinceService, weightSince}
+use Rattle.meter.specs.Model.{Call, begin, feed, reset, Model, emptyModel, lastFrom, writes, servesTo}
+use Rattle.meter.specs.Model.{fed, called, answerTo, modelAfter, modelAnswers, anyServes, sinceService}
+use Rattle.meter.specs.Model.{weightSince}
 use Rattle.meter.specs.Calls.{meterAfter}
 use Rattle.meter.specs.Highest.{countsShown, largest, hasReset}
 use Rattle.meter.specs.Bound.{feeds, ShownOn, Bound, fresh, Worst}
@@ -208,7 +210,10 @@ module _ (scale : Scale) (sound : Sound scale) where
         go (eqb (feedOf scale h q .answer .number) «ACCEPTED») (below (feed q ∷ [])) (shown-most (feedOf scale h q .meter) (λ calls. below (feed q ∷ calls)) cs)
       where
         go : (t : Bool) → feedOf scale h q .meter .count ≤ longest → largest (countsShown scale (feedOf scale h q .meter) cs) ≤ longest
-            → largest (cond t (feedOf scale h q .meter .count ∷ countsShown scale (feedOf scale h q .meter) cs) (countsShown scale (feedOf scale h q .meter) cs)) ≤ longest
+            → largest
+            (cond t (feedOf scale h q .meter .count ∷ countsShown scale (feedOf scale h q .meter) cs)
+            (countsShown scale (feedOf scale h q .meter) cs))
+            ≤ longest
         go true first later = omega arith
         go false first later = later
     shown-most h below (reset ∷ cs) = shown-most (resetOf h) (λ calls. below (reset ∷ calls)) cs

@@ -14,7 +14,8 @@ use Rattle.meter.specs.declared.step.Meter.{Meter}
 use Rattle.meter.specs.declared.step.Fed.{Fed}
 use Rattle.runs.specs.Weights.{refusesWeights}
 use Rattle.meter.specs.Feed.{Scale, follows, oneService, showing, movedTo, isForeign, isStray, beginOf, resetOf, feedOf}
-use Rattle.meter.specs.Model.{Call, begin, feed, reset, Model, emptyModel, lastFrom, writes, fed, called, answerTo, modelAfter, modelAnswers, hasWord, lastOr0, weightSince}
+use Rattle.meter.specs.Model.{Call, begin, feed, reset, Model, emptyModel, lastFrom, writes, fed}
+use Rattle.meter.specs.Model.{called, answerTo, modelAfter, modelAnswers, hasWord, lastOr0, weightSince}
 use Rattle.meter.specs.Calls.{meterAfter, meterAnswers, FollowsModel}
 use Rattle.meter.proofs.Paths.{last-more, weight-more}
 
@@ -98,7 +99,12 @@ module _ (s : Scale) (sound : Sound s) where
   unfolding isForeign
   not-foreign start k h [] c l = rw (le-ltb h 0 l)
   not-foreign start k h (p ∷ ps) c l =
-      rw (le-ltb h (weightSince g w (p ∷ ps)) l, lt-leb (g .size) (lastFrom p ps) (c .0), ne-eqb (weightSince g w (p ∷ ps)) 0 (λ e. omega arith), le-ltb (heaviestWeight * (lastFrom p ps + 1)) (weightSince g w (p ∷ ps)) (c .1 .1))
+      rw (
+        le-ltb h (weightSince g w (p ∷ ps)) l,
+        lt-leb (g .size) (lastFrom p ps) (c .0),
+        ne-eqb (weightSince g w (p ∷ ps)) 0 (λ e. omega arith),
+        le-ltb (heaviestWeight * (lastFrom p ps + 1)) (weightSince g w (p ∷ ps)) (c .1 .1),
+      )
 
   -- One feed: the meter and the answer are the model's.
 
@@ -120,17 +126,55 @@ module _ (s : Scale) (sound : Sound s) where
   first-fed : (start k h q : ℕ) (t u : Bool) → eqb q 0 ≡ t → ltb 0 (g .size) ≡ u
       → feedOf s (shows s start (record { path = []; tally = k }) h) q ≡ Told start (record { path = []; tally = k }) h q
   unfolding feedOf isForeign isStray movedTo showing
-  first-fed start k h q true true e d = rw (le-ltb mostWords (g .size) (sound .few), sound .weighed, le-ltb h 0 (omega arith), eqb-true q 0 e, lt-leb (g .size) 0 (ltb-true 0 (g .size) d), d, ← alone 0)
-  first-fed start k h q true false e d = rw (le-ltb mostWords (g .size) (sound .few), sound .weighed, le-ltb h 0 (omega arith), eqb-true q 0 e, le-leb (g .size) 0 (ltb-false 0 (g .size) d), d)
+  first-fed start k h q true true e d =
+      rw (
+        le-ltb mostWords (g .size) (sound .few),
+        sound .weighed,
+        le-ltb h 0 (omega arith),
+        eqb-true q 0 e,
+        lt-leb (g .size) 0 (ltb-true 0 (g .size) d),
+        d,
+        ← alone 0,
+      )
+  first-fed start k h q true false e d =
+      rw (
+        le-ltb mostWords (g .size) (sound .few),
+        sound .weighed,
+        le-ltb h 0 (omega arith),
+        eqb-true q 0 e,
+        le-leb (g .size) 0 (ltb-false 0 (g .size) d),
+        d,
+      )
   first-fed start k h q false u e d = rw (le-ltb mostWords (g .size) (sound .few), sound .weighed, le-ltb h 0 (omega arith), e, or-true)
 
   next-fed : (start k h p : ℕ) (ps : List ℕ) (q : ℕ) (t u : Bool) → follows g (lastFrom p ps) q ≡ t → g .serves (lastFrom p ps) q ≡ u → Counted (p ∷ ps)
       → Covered (p ∷ ps) h → feedOf s (shows s start (record { path = p ∷ ps; tally = k }) h) q ≡ Told start (record { path = p ∷ ps; tally = k }) h q
   unfolding feedOf isStray movedTo showing
   next-fed start k h p ps q true true e d c l =
-      rw (le-ltb mostWords (g .size) (sound .few), sound .weighed, not-foreign start k h (p ∷ ps) c l, lt-leb (g .size) q (step-inside (lastFrom p ps) q e), e, d, last-more p ps q, weight-more g w p ps q, d, more-services start k)
+      rw (
+        le-ltb mostWords (g .size) (sound .few),
+        sound .weighed,
+        not-foreign start k h (p ∷ ps) c l,
+        lt-leb (g .size) q (step-inside (lastFrom p ps) q e),
+        e,
+        d,
+        last-more p ps q,
+        weight-more g w p ps q,
+        d,
+        more-services start k,
+      )
   next-fed start k h p ps q true false e d c l =
-      rw (le-ltb mostWords (g .size) (sound .few), sound .weighed, not-foreign start k h (p ∷ ps) c l, lt-leb (g .size) q (step-inside (lastFrom p ps) q e), e, d, last-more p ps q, weight-more g w p ps q, d)
+      rw (
+        le-ltb mostWords (g .size) (sound .few),
+        sound .weighed,
+        not-foreign start k h (p ∷ ps) c l,
+        lt-leb (g .size) q (step-inside (lastFrom p ps) q e),
+        e,
+        d,
+        last-more p ps q,
+        weight-more g w p ps q,
+        d,
+      )
   next-fed start k h p ps q false u e d c l = rw (le-ltb mostWords (g .size) (sound .few), sound .weighed, not-foreign start k h (p ∷ ps) c l, e, or-true)
 
   fed-as : (start k h : ℕ) (ps : List ℕ) (q : ℕ) → Counted ps → Covered ps h

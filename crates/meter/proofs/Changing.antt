@@ -18,7 +18,10 @@ use Rattle.meter.specs.declared.step.Meter.{Meter}
 use Rattle.meter.specs.declared.step.Fed.{Fed}
 use Rattle.meter.specs.Feed.{scaleOf, follows, showing, movedTo, isForeign, isStray, beginOf, resetOf, feedOf}
 use Rattle.meter.specs.Model.{lastFrom, writes, servesTo, hasWord, lastOr0, anyServes}
-use Rattle.meter.specs.Changing.{ChangingCall, begin, feed, reset, Entry, Book, empty, entryWords, entriesSum, entriesSinceService, weighedSince, written, bookFed, bookCalled, bookAfter, bookAnswer, bookAnswers, changingAfter, changingAnswers, Bytes, FollowsBook}
+use Rattle.meter.specs.Changing.{ChangingCall, begin, feed, reset, Entry, Book, empty, entryWords}
+use Rattle.meter.specs.Changing.{entriesSum, entriesSinceService, weighedSince, written, bookFed}
+use Rattle.meter.specs.Changing.{bookCalled, bookAfter, bookAnswer, bookAnswers, changingAfter}
+use Rattle.meter.specs.Changing.{changingAnswers, Bytes, FollowsBook}
 use Rattle.meter.proofs.Calls.{more-services}
 
 -- One word more at a path's end.
@@ -28,17 +31,27 @@ last-on e [] f = refl
 last-on e (x ∷ es) f = last-on x es f
 
 module _ (g : Graph) where
-  any-on : (p : ℕ) (es : List Entry) (f : Entry) → anyServes g p (entryWords (es ++ (f ∷ []))) ≡ anyServes g p (entryWords es) || g .serves (lastFrom p (entryWords es)) (f .word)
+  any-on : (p : ℕ) (es : List Entry) (f : Entry)
+      → anyServes g p (entryWords (es ++ (f ∷ []))) ≡ anyServes g p (entryWords es)
+      || g .serves (lastFrom p (entryWords es)) (f .word)
   any-on p [] f = or-false (g .serves p (f .word))
-  any-on p (x ∷ es) f = rw (any-on (x .word) es f) (sym (or-assoc (g .serves p (x .word)) (anyServes g (x .word) (entryWords es)) (g .serves (lastFrom (x .word) (entryWords es)) (f .word))))
+  any-on p (x ∷ es) f =
+      rw (any-on (x .word) es f) (sym (or-assoc (g .serves p (x .word))
+      (anyServes g (x .word) (entryWords es)) (g .serves (lastFrom (x .word) (entryWords es)) (f .word))))
 
-  since-served : (e : Entry) (es : List Entry) (f : Entry) → g .serves (lastFrom (e .word) (entryWords es)) (f .word) ≡ true → entriesSinceService g e (es ++ (f ∷ [])) ≡ f ∷ []
+  since-served : (e : Entry) (es : List Entry) (f : Entry)
+      → g .serves (lastFrom (e .word) (entryWords es)) (f .word) ≡ true
+      → entriesSinceService g e (es ++ (f ∷ [])) ≡ f ∷ []
   since-served e [] f h = rw h
   since-served e (x ∷ es) f h = rw (any-on (x .word) es f, h, or-true, or-true) (since-served x es f h)
 
-  since-more : (e : Entry) (es : List Entry) (f : Entry) → g .serves (lastFrom (e .word) (entryWords es)) (f .word) ≡ false → entriesSinceService g e (es ++ (f ∷ [])) ≡ entriesSinceService g e es ++ (f ∷ [])
+  since-more : (e : Entry) (es : List Entry) (f : Entry)
+      → g .serves (lastFrom (e .word) (entryWords es)) (f .word) ≡ false
+      → entriesSinceService g e (es ++ (f ∷ [])) ≡ entriesSinceService g e es ++ (f ∷ [])
   since-more e [] f h = rw h
-  since-more e (x ∷ es) f h = rw (any-on (x .word) es f, h, or-false) (go (g .serves (e .word) (x .word) || anyServes g (x .word) (entryWords es)) (since-more x es f h))
+  since-more e (x ∷ es) f h =
+      rw (any-on (x .word) es f, h, or-false)
+      (go (g .serves (e .word) (x .word) || anyServes g (x .word) (entryWords es)) (since-more x es f h))
     where
       go : (t : Bool) → entriesSinceService g x (es ++ (f ∷ [])) ≡ entriesSinceService g x es ++ (f ∷ [])
           → cond t (entriesSinceService g x (es ++ (f ∷ []))) (e ∷ x ∷ (es ++ (f ∷ []))) ≡ cond t (entriesSinceService g x es) (e ∷ x ∷ es) ++ (f ∷ [])
@@ -50,10 +63,14 @@ module _ (g : Graph) where
   sum-more (x ∷ es) f = omega (arith, sum-more es f)
 
   weighed-on : (e : Entry) (es : List Entry) (f : Entry)
-      → weighedSince g (e ∷ (es ++ (f ∷ []))) ≡ cond (g .serves (lastFrom (e .word) (entryWords es)) (f .word)) (f .weight) (weighedSince g (e ∷ es) + f .weight)
+      → weighedSince g (e ∷ (es ++ (f ∷ [])))
+      ≡ cond (g .serves (lastFrom (e .word) (entryWords es)) (f .word)) (f .weight)
+      (weighedSince g (e ∷ es) + f .weight)
   weighed-on e es f = go (g .serves (lastFrom (e .word) (entryWords es)) (f .word)) refl
     where
-      go : (t : Bool) → g .serves (lastFrom (e .word) (entryWords es)) (f .word) ≡ t → weighedSince g (e ∷ (es ++ (f ∷ []))) ≡ cond t (f .weight) (weighedSince g (e ∷ es) + f .weight)
+      go : (t : Bool) → g .serves (lastFrom (e .word) (entryWords es)) (f .word) ≡ t
+          → weighedSince g (e ∷ (es ++ (f ∷ [])))
+          ≡ cond t (f .weight) (weighedSince g (e ∷ es) + f .weight)
       go true h = ap entriesSum (since-served e es f h) ∙ omega arith
       go false h = ap entriesSum (since-more e es f h) ∙ sum-more (entriesSinceService g e es) f
 
@@ -127,7 +144,13 @@ module _ (ws : Script) (sound : script.Sound ws) (few : ws .size ≤ mostWords) 
     unfolding isForeign
     not-foreign start k h [] c l = rw (le-ltb h 0 l)
     not-foreign start k h (e ∷ es) c l =
-        rw (le-ltb h (weighedSince g (e ∷ es)) l, lt-leb (g .size) (lastFrom (e .word) (entryWords es)) (c .0), ne-eqb (weighedSince g (e ∷ es)) 0 (λ z. omega (arith, c .1, z)), le-ltb (heaviestWeight * (lastFrom (e .word) (entryWords es) + 1)) (weighedSince g (e ∷ es)) (c .2))
+        rw (
+          le-ltb h (weighedSince g (e ∷ es)) l,
+          lt-leb (g .size) (lastFrom (e .word) (entryWords es)) (c .0),
+          ne-eqb (weighedSince g (e ∷ es)) 0 (λ z. omega (arith, c .1, z)),
+          le-ltb
+              (heaviestWeight * (lastFrom (e .word) (entryWords es) + 1)) (weighedSince g (e ∷ es)) (c .2),
+        )
 
     abbrev rises : List Entry → ℕ → ℕ → ℕ
     rises es h q = cond (writes g (entryWords es) q) (max h (weighedSince g (es ++ (entry q ∷ [])))) h
@@ -150,24 +173,66 @@ module _ (ws : Script) (sound : script.Sound ws) (few : ws .size ≤ mostWords) 
     first-fed : (start k h q : ℕ) (t u : Bool) → eqb q 0 ≡ t → ltb 0 (g .size) ≡ u
         → feedOf (scaleOf ws weights) (shows start (record { path = []; tally = k }) h) q ≡ Told start (record { path = []; tally = k }) h q
     unfolding feedOf isForeign isStray movedTo showing
-    first-fed start k h q true true e d = rw (le-ltb mostWords (g .size) few, accepted, le-ltb h 0 (omega arith), eqb-true q 0 e, lt-leb (g .size) 0 (ltb-true 0 (g .size) d), d, ← alone 0)
-    first-fed start k h q true false e d = rw (le-ltb mostWords (g .size) few, accepted, le-ltb h 0 (omega arith), eqb-true q 0 e, le-leb (g .size) 0 (ltb-false 0 (g .size) d), d)
+    first-fed start k h q true true e d =
+        rw (
+          le-ltb mostWords (g .size) few,
+          accepted,
+          le-ltb h 0 (omega arith),
+          eqb-true q 0 e,
+          lt-leb (g .size) 0 (ltb-true 0 (g .size) d),
+          d,
+          ← alone 0,
+        )
+    first-fed start k h q true false e d =
+        rw (
+          le-ltb mostWords (g .size) few,
+          accepted,
+          le-ltb h 0 (omega arith),
+          eqb-true q 0 e,
+          le-leb (g .size) 0 (ltb-false 0 (g .size) d),
+          d,
+        )
     first-fed start k h q false u e d = rw (le-ltb mostWords (g .size) few, accepted, le-ltb h 0 (omega arith), e, or-true)
 
-    next-fed : (start k h : ℕ) (e : Entry) (es : List Entry) (q : ℕ) (t u : Bool) → follows g (lastFrom (e .word) (entryWords es)) q ≡ t → g .serves (lastFrom (e .word) (entryWords es)) q ≡ u
+    next-fed : (start k h : ℕ) (e : Entry) (es : List Entry) (q : ℕ) (t u : Bool)
+        → follows g (lastFrom (e .word) (entryWords es)) q ≡ t
+        → g .serves (lastFrom (e .word) (entryWords es)) q ≡ u
         → Counted (e ∷ es) → Covered (e ∷ es) h
         → feedOf (scaleOf ws weights) (shows start (record { path = e ∷ es; tally = k }) h) q ≡ Told start (record { path = e ∷ es; tally = k }) h q
     unfolding feedOf isStray movedTo showing
     next-fed start k h x es q true true e d c l =
-        rw (le-ltb mostWords (g .size) few, accepted, not-foreign start k h (x ∷ es) c l, lt-leb (g .size) q (step-inside (lastFrom (x .word) (entryWords es)) q e), e, d, last-on x es (entry q), weighed-on g x es (entry q), d, more-services start k)
+        rw (
+          le-ltb mostWords (g .size) few,
+          accepted,
+          not-foreign start k h (x ∷ es) c l,
+          lt-leb (g .size) q (step-inside (lastFrom (x .word) (entryWords es)) q e),
+          e,
+          d,
+          last-on x es (entry q),
+          weighed-on g x es (entry q),
+          d,
+          more-services start k,
+        )
     next-fed start k h x es q true false e d c l =
-        rw (le-ltb mostWords (g .size) few, accepted, not-foreign start k h (x ∷ es) c l, lt-leb (g .size) q (step-inside (lastFrom (x .word) (entryWords es)) q e), e, d, last-on x es (entry q), weighed-on g x es (entry q), d)
+        rw (
+          le-ltb mostWords (g .size) few,
+          accepted,
+          not-foreign start k h (x ∷ es) c l,
+          lt-leb (g .size) q (step-inside (lastFrom (x .word) (entryWords es)) q e),
+          e,
+          d,
+          last-on x es (entry q),
+          weighed-on g x es (entry q),
+          d,
+        )
     next-fed start k h x es q false u e d c l = rw (le-ltb mostWords (g .size) few, accepted, not-foreign start k h (x ∷ es) c l, e, or-true)
 
     fed-as : (start k h : ℕ) (es : List Entry) (q : ℕ) → Counted es → Covered es h
         → feedOf (scaleOf ws weights) (shows start (record { path = es; tally = k }) h) q ≡ Told start (record { path = es; tally = k }) h q
     fed-as start k h [] q c l = first-fed start k h q (eqb q 0) (ltb 0 (g .size)) refl refl
-    fed-as start k h (e ∷ es) q c l = next-fed start k h e es q (follows g (lastFrom (e .word) (entryWords es)) q) (g .serves (lastFrom (e .word) (entryWords es)) q) refl refl c l
+    fed-as start k h (e ∷ es) q c l =
+        next-fed start k h e es q (follows g (lastFrom (e .word) (entryWords es)) q)
+        (g .serves (lastFrom (e .word) (entryWords es)) q) refl refl c l
 
   -- a table that 18 refuses
   refused-as : (weights : List ℕ) → refusesWeights weights ≡ true → (m : Meter) (q : ℕ)
@@ -203,7 +268,12 @@ module _ (ws : Script) (sound : script.Sound ws) (few : ws .size ≤ mostWords) 
             answers = rw (told, e) (ap (λ (xs : List ℕ). 18 ∷ xs) (rest .answers));
             after =
                 ap (λ (f : Fed). changingAfter ws (f .meter) cs) told
-                ∙ (rest .after ∙ ap (λ (u : Bool). shows start (bookAfter ws (cond u b (written ws b weights q (writes g (entryWords (b .path)) q))) cs) (rest .highest)) (sym e));
+                ∙ (rest .after ∙ ap
+                (λ (u : Bool). shows start
+                (bookAfter ws (cond u b (written ws b weights q (writes g (entryWords (b .path)) q)))
+                cs)
+                (rest .highest))
+                (sym e));
           }
       go false e later =
           let t = writes g (entryWords (b .path)) q in

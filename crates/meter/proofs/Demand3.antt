@@ -57,7 +57,11 @@ module _ (ws : Script) (steps : script.Sound ws) (weights : List ℕ) (weighs : 
   pub demand3 : ws .size ≤ mostWords → Demand3 ws weights
   demand3 few =
       record {
-        run = λ marks lengths a b. laws .demand ws steps weights marks lengths (record { few = few; marks-long = a; lengths-long = b; weighed = weighs .accepted }) (weighs .bytes);
+        run =
+            λ marks lengths a b.
+            laws .demand ws steps weights marks lengths
+            (record { few = few; marks-long = a; lengths-long = b; weighed = weighs .accepted })
+            (weighs .bytes);
         meter = λ m fits calls. follows-model (scaleOf ws weights) (sound few) m calls (omega (arith, fits));
         bound = λ marks lengths accepted m fits. bounded-by-run marks lengths accepted m (omega (arith, fits));
         worst = λ marks lengths accepted m fits. worst-by-run marks lengths accepted m (omega (arith, fits));

@@ -29,12 +29,17 @@ unfolding countedForeign isForeign
 let-through n m h l = rw (le-ltb (m .highest) (m .count) l) (wider n (m .last) (m .count) (isBegun m) h)
 
 -- what is let through anew
-between : (n last count : ℕ) (t : Bool) → cond t (leb n last || (eqb count 0 || ltb (heaviestWeight * (last + 1)) count)) (not (eqb last 0) || not (eqb count 0)) ≡ false
+between : (n last count : ℕ) (t : Bool)
+    → cond t (leb n last || (eqb count 0 || ltb (heaviestWeight * (last + 1)) count))
+    (not (eqb last 0) || not (eqb count 0))
+    ≡ false
     → cond t (leb n last || (eqb count 0 || ltb (last + 1) count)) (not (eqb last 0) || not (eqb count 0)) ≡ true
     → (t ≡ true) × (last < n) × (last + 1 < count) × (count ≤ heaviestWeight * (last + 1))
 between n last count true h g =
-    let a : (leb n last ≡ false) × (eqb count 0 || ltb (heaviestWeight * (last + 1)) count ≡ false) = neither (leb n last) (eqb count 0 || ltb (heaviestWeight * (last + 1)) count) h in
-    let b : (eqb count 0 ≡ false) × (ltb (heaviestWeight * (last + 1)) count ≡ false) = neither (eqb count 0) (ltb (heaviestWeight * (last + 1)) count) (a .1) in
+    let a : (leb n last ≡ false) × (eqb count 0 || ltb (heaviestWeight * (last + 1)) count ≡ false) =
+    neither (leb n last) (eqb count 0 || ltb (heaviestWeight * (last + 1)) count) h in
+    let b : (eqb count 0 ≡ false) × (ltb (heaviestWeight * (last + 1)) count ≡ false) =
+    neither (eqb count 0) (ltb (heaviestWeight * (last + 1)) count) (a .1) in
     (refl, leb-false n last (a .0), ltb-true (last + 1) count (rw (a .0, b .0) at g), ltb-false (heaviestWeight * (last + 1)) count (b .1))
 between n last count false h g = absurd (true≢false (sym g ∙ h))
 
@@ -52,7 +57,8 @@ module _ (ws : Script) (steps : Sound ws) (m : Meter) (q : ℕ) where
   unfolding movedTo countedMove showing
   counted = go (isBegun m) (graphOf ws .serves (m .last) q) refl refl
     where
-      go : (t u : Bool) → isBegun m ≡ t → graphOf ws .serves (m .last) q ≡ u → earlierMeter (movedTo (scaled unitWeight) m q) ≡ countedMove (graphOf ws) (earlierMeter m) q
+      go : (t u : Bool) → isBegun m ≡ t → graphOf ws .serves (m .last) q ≡ u
+          → earlierMeter (movedTo (scaled unitWeight) m q) ≡ countedMove (graphOf ws) (earlierMeter m) q
       go true true e d = rw (e, d)
       go true false e d = rw (e, d)
       go false u e d = rw e

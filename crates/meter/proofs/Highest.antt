@@ -62,7 +62,9 @@ module _ (s : Scale) where
       either-fed m (ltb mostWords (s .graph .size)) _ _ (record { risen = λ e. absurd (false≢true e); still = λ e. refl })
       (either-fed m (refusesWeights (s .table)) _ _ (record { risen = λ e. absurd (false≢true e); still = λ e. refl })
       (either-fed m (isForeign (s .graph .size) m) _ _ (record { risen = λ e. absurd (false≢true e); still = λ e. refl })
-      (either-fed m (isStray (s .graph) m q) _ (record { meter = movedTo s m q; answer = record { number = «ACCEPTED»; place = 0 } }) (record { risen = λ e. absurd (false≢true e); still = λ e. refl })
+      (either-fed m (isStray (s .graph) m q) _
+      (record { meter = movedTo s m q; answer = record { number = «ACCEPTED»; place = 0 } })
+      (record { risen = λ e. absurd (false≢true e); still = λ e. refl })
       (record { risen = λ e. moved m q; still = λ e. absurd (true≢false e) }))))
 
   begun : (m : Meter) → Risen m (beginOf m)
@@ -96,8 +98,12 @@ module _ (s : Scale) where
     where
       go : (t : Bool) → eqb (feedOf s m q .answer .number) «ACCEPTED» ≡ t
           → meterAfter s (feedOf s m q .meter) cs .highest ≡ max (feedOf s m q .meter .highest) (largest (countsShown s (feedOf s m q .meter) cs))
-          → meterAfter s (feedOf s m q .meter) cs .highest ≡ max (m .highest) (largest (cond t (feedOf s m q .meter .count ∷ countsShown s (feedOf s m q .meter) cs) (countsShown s (feedOf s m q .meter) cs)))
-      go true d rest = further (m .highest) (feedOf s m q .meter .count) (feedOf s m q .meter .highest) (largest (countsShown s (feedOf s m q .meter) cs)) _ (fed m q .risen d .larger) rest
+          → meterAfter s (feedOf s m q .meter) cs .highest ≡ max (m .highest)
+          (largest (cond t (feedOf s m q .meter .count ∷ countsShown s (feedOf s m q .meter) cs)
+          (countsShown s (feedOf s m q .meter) cs)))
+      go true d rest =
+          further (m .highest) (feedOf s m q .meter .count) (feedOf s m q .meter .highest)
+          (largest (countsShown s (feedOf s m q .meter) cs)) _ (fed m q .risen d .larger) rest
       go false d rest = rest ∙ ap (λ (x : Meter). max (x .highest) (largest (countsShown s (feedOf s m q .meter) cs))) (fed m q .still d)
   risen m (reset ∷ cs) e = absurd (true≢false e)
 

@@ -66,7 +66,9 @@ module _ (n : ℕ) (m : Meter) where
   from-begun : isBegun m ≡ true → begunTest ≡ true → Foreign n m
   from-begun b h =
       ⊎-elim (λ e. far (is-begun b) (leb-true n (m .last) e))
-      (λ e. ⊎-elim (λ d. none (is-begun b) (eqb-true (m .count) 0 d)) (λ d. much (is-begun b) (ltb-true (255 * (m .last + 1)) (m .count) d)) (or-so (eqb (m .count) 0) (ltb (255 * (m .last + 1)) (m .count)) e))
+      (λ e. ⊎-elim (λ d. none (is-begun b) (eqb-true (m .count) 0 d))
+      (λ d. much (is-begun b) (ltb-true (255 * (m .last + 1)) (m .count) d))
+      (or-so (eqb (m .count) 0) (ltb (255 * (m .last + 1)) (m .count)) e))
       (or-so (leb n (m .last)) (eqb (m .count) 0 || ltb (255 * (m .last + 1)) (m .count)) h)
 
   from-new : isBegun m ≡ false → newTest ≡ true → Foreign n m
@@ -146,7 +148,8 @@ module _ (s : Scale) (m : Meter) (q : ℕ) where
 module _ (m next : Meter) (p : ℕ) where
   abbrev chain : Bool → Bool → Bool → Bool → Fed
   chain a b c d =
-      cond a (refusal 1 0 m) (cond b (refusal 18 p m) (cond c (refusal 11 0 m) (cond d (refusal 10 0 m) (record { meter = next; answer = record { number = 0; place = 0 } }))))
+      cond a (refusal 1 0 m) (cond b (refusal 18 p m) (cond c (refusal 11 0 m)
+      (cond d (refusal 10 0 m) (record { meter = next; answer = record { number = 0; place = 0 } }))))
 
   abbrev number : Bool → Bool → Bool → Bool → ℕ
   number a b c d = chain a b c d .answer .number

@@ -37,7 +37,9 @@ module _ (g : Graph) where
     weigh-more [] q = omega arith
     weigh-more (x ∷ xs) q = omega (arith, weigh-more xs q)
 
-    pub weight-more : (p : ℕ) (ps : List ℕ) (q : ℕ) → weightSince g w (p ∷ (ps ++ (q ∷ []))) ≡ cond (g .serves (lastFrom p ps) q) (w q) (weightSince g w (p ∷ ps) + w q)
+    pub weight-more : (p : ℕ) (ps : List ℕ) (q : ℕ)
+        → weightSince g w (p ∷ (ps ++ (q ∷ [])))
+        ≡ cond (g .serves (lastFrom p ps) q) (w q) (weightSince g w (p ∷ ps) + w q)
     weight-more p ps q = go (g .serves (lastFrom p ps) q) refl
       where
         go : (t : Bool) → g .serves (lastFrom p ps) q ≡ t → weightSince g w (p ∷ (ps ++ (q ∷ []))) ≡ cond t (w q) (weightSince g w (p ∷ ps) + w q)

@@ -17,8 +17,12 @@ puts-then page page₁ page₂ a b s s₁ s₂ p q h =
     let f : s .at + length a ≤ length page = omega (arith, h, l) in
     let x = p f in
     let w : length page₁ ≡ length page = ap length (x .0) ∙ put-laws .length-put page (s .at) a f in
-    let y = q (omega (arith, h, l, w, x .1)) in
-    (put-laws .and-then page page₁ page₂ (s .at) (length a) a b (x .0) refl (omega (arith, h, l)) (y .0 ∙ ap (λ (i : ℕ). put page₁ i b) (x .1)), omega (arith, y .1, x .1, l), y .2 ∙ x .2)
+    let y = q (omega (arith, h, l, w, x .1)) in (
+      put-laws .and-then page page₁ page₂ (s .at) (length a) a b (x .0) refl (omega (arith, h, l))
+          (y .0 ∙ ap (λ (i : ℕ). put page₁ i b) (x .1)),
+      omega (arith, y .1, x .1, l),
+      y .2 ∙ x .2,
+    )
 
 -- the first of several blanks
 pub blanks : (m n : ℕ) → m ≤ n → take {A = ℕ} m (replicate n 32) ≡ replicate m 32

@@ -32,7 +32,8 @@ few-before-none v ws vs few differ p h d = (differ p h d, next-out)
     next-out r =
         let inside : p + 1 < length ws = graph.laws .reaching (graphOf (scriptOf v ws)) (laws .lawful (scriptOf v ws) (laws .sound v ws)) .below (p + 1) r in
         let first-word : p ≡ 0 = omega (arith, inside, few) in
-        differ p h d (rw first-word (graph.laws .reaching (graphOf (scriptOf v ws)) (laws .lawful (scriptOf v ws) (laws .sound v ws)) .start (omega (arith, inside))))
+        differ p h d (rw first-word (graph.laws .reaching (graphOf (scriptOf v ws))
+        (laws .lawful (scriptOf v ws) (laws .sound v ws)) .start (omega (arith, inside))))
 
 none-smaller :
     (v : Version) (ws vs weights : List ℕ) (m l : ℕ) → length ws < smallest → length ws ≡ length vs → numberOf (runOf (scriptOf v ws) weights m l) ≡ «ACCEPTED»
@@ -40,7 +41,10 @@ none-smaller :
 none-smaller v ws vs weights m l few count accepted differ = answer-before-none v ws vs weights m l count accepted (few-before-none v ws vs few differ)
 
 pub needed : Needed
-unfolding steps53.opcodeAt steps53.companionPresent steps53.successorsOf table53.classOf table53.companionOf unless one ordered two opcodeAt isBetween companionPresent successorsOf servesOf classOf companionOf leads markOf within heaviest lengthOf most lowestFrom longest first lowestZero refusesWeights lowestInvalid runOf
+unfolding steps53.opcodeAt steps53.companionPresent steps53.successorsOf table53.classOf table53.companionOf
+    unless one ordered two opcodeAt isBetween companionPresent successorsOf servesOf classOf companionOf
+    leads markOf within heaviest lengthOf most lowestFrom longest first lowestZero refusesWeights
+    lowestInvalid runOf
 needed =
     record {
       smallest-unreachable = refl;

@@ -10,7 +10,9 @@ use lib.IntN.{pos}
 use lib.ListN.{length, getD}
 use Rattle.fields.specs.Opcodes53.{«OP_JMP», «OP_TFORLOOP», «OP_EXTRAARG»}
 use Rattle.fields.specs.Word53.{opcodeOf, aOf, cOf}
-use Rattle.fields.specs.Table53.{StepClass, following, returning, branching, comparing, skipping, skippingIfC, skippingUnlessC, jumping, looping, invalid, classOf, Companion, alone, jumpAfter, extraAfter, extraAfterUnlessC, loopAfter, companionOf}
+use Rattle.fields.specs.Table53.{StepClass, following, returning, branching, comparing, skipping, skippingIfC}
+use Rattle.fields.specs.Table53.{skippingUnlessC, jumping, looping, invalid, classOf, Companion, alone}
+use Rattle.fields.specs.Table53.{jumpAfter, extraAfter, extraAfterUnlessC, loopAfter, companionOf}
 use Rattle.fields.specs.Laws.{all}
 use Rattle.fields.proofs.Laws as fields
 use Rattle.graph.specs.Graph.{In}
@@ -84,7 +86,9 @@ module _ (n p : ℕ) where
   onward following l w e = inl (one-there n p (p + 1) e)
   onward branching l w e = inl (two-there n p (p + 1) (p + 2) (omega arith) e)
   onward comparing l w e =
-      onward-by n p (ltb 1 (aOf w)) (one n (pos (p + 2))) (two n (pos (p + 1)) (pos (p + 2))) (λ v. inr (one-there n p (p + 2) v)) (λ v. inl (two-there n p (p + 1) (p + 2) (omega arith) v)) e
+      onward-by n p (ltb 1 (aOf w)) (one n (pos (p + 2))) (two n (pos (p + 1)) (pos (p + 2)))
+      (λ v. inr (one-there n p (p + 2) v)) (λ v. inl (two-there n p (p + 1) (p + 2) (omega arith) v))
+      e
   onward skipping l w e = inr (one-there n p (p + 2) e)
   onward skippingIfC l w e =
       onward-by n p (eqb (cOf w) 0) (one n (pos (p + 1))) (one n (pos (p + 2))) (λ v. inl (one-there n p (p + 1) v)) (λ v. inr (one-there n p (p + 2) v)) e

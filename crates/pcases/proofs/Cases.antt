@@ -12,16 +12,62 @@ use Rattle.graph.specs.Longest.{within, heaviest, lengthOf, most, longest, firs
 use Rattle.runs.specs.Weights.{lowestZero, refusesWeights, weightsPlace}
 use Rattle.runs.specs.Run.{lowestInvalid, runOf}
 use Rattle.values.specs.Values.{choose, constantOf}
-use Rattle.families.specs.Parts.{plus, eventOf, constant, arguments, results}
+use Rattle.builders.specs.Parts.{plus, eventOf, constant, arguments, results}
 use Rattle.records.specs.Lift.{extendedIndex, wrap, loads, arithmetic, control, calls, recordBody, before, companionPc, confidenceOf, liftOf}
 use Rattle.pcases.specs.Cases.{Hold, pCases, cases53}
 
 pub cases-hold : Hold pCases
-unfolding unless one ordered two opcodeAt isBetween companionPresent successorsOf servesOf classOf companionOf fallbackOf leads markOf within heaviest lengthOf most lowestFrom longest first lowestZero refusesWeights lowestInvalid runOf choose constantOf plus eventOf constant arguments results extendedIndex wrap loads arithmetic control calls recordBody before companionPc confidenceOf liftOf
-cases-hold =
-    ((refl, refl, refl), (refl, (refl, (refl, (refl, ((refl, refl), ((refl, refl), ((refl, refl), ((refl, refl), (refl, (refl, (refl, (refl, (refl, (refl, (refl, (refl, (refl, (refl, (refl, (refl, (refl, (refl, (refl, tt))))))))))))))))))))))))
+unfolding unless one ordered two opcodeAt isBetween companionPresent successorsOf servesOf classOf companionOf
+    fallbackOf leads markOf within heaviest lengthOf most lowestFrom longest first lowestZero
+    refusesWeights lowestInvalid runOf choose constantOf plus eventOf constant arguments results
+    extendedIndex wrap loads arithmetic control calls recordBody before companionPc confidenceOf liftOf
+cases-hold = (
+  (refl, refl, refl),
+  (
+    refl,
+    (
+      refl,
+      (
+        refl,
+        (
+          refl,
+          (
+            (refl, refl),
+            (
+              (refl, refl),
+              (
+                (refl, refl),
+                (
+                  (refl, refl),
+                  (
+                    refl,
+                    (
+                      refl,
+                      (
+                        refl,
+                        (
+                          refl,
+                          (
+                            refl,
+                            (refl, (refl, (refl, (refl, (refl, (refl, (refl, (refl, (refl, (refl, tt)))))))))),
+                          ),
+                        ),
+                      ),
+                    ),
+                  ),
+                ),
+              ),
+            ),
+          ),
+        ),
+      ),
+    ),
+  ),
+)
 
 pub cases53-hold : Hold cases53
-unfolding unless one ordered two opcodeAt53 companionPresent53 successorsOf53 servesOf classOf53 companionOf53 leads markOf within heaviest lengthOf most lowestFrom longest first lowestZero refusesWeights weightsPlace lowestInvalid runOf
+unfolding unless one ordered two opcodeAt53 companionPresent53 successorsOf53 servesOf classOf53 companionOf53
+    leads markOf within heaviest lengthOf most lowestFrom longest first lowestZero refusesWeights
+    weightsPlace lowestInvalid runOf
 cases53-hold =
     (refl, (refl, (refl, (refl, (refl, (refl, (refl, (refl, (refl, (refl, (refl, (refl, (refl, (refl, (refl, (refl, (refl, (refl, tt))))))))))))))))))

@@ -37,7 +37,7 @@ use Rattle.values.specs.declared.ir.Confidence.{Confidence}
 use Rattle.values.specs.declared.ir.Confidence.the-variants.{Reviewed, Unverified}
 use Rattle.values.specs.declared.ir.SemanticInstruction.{SemanticInstruction}
 use Rattle.values.specs.declared.model.ConstantValue.the-variants.{Nil}
-use Rattle.families.specs.Shapes.{operandsOf, readsOf, writesOf}
+use Rattle.builders.specs.Shapes.{operandsOf, readsOf, writesOf}
 use Rattle.records.specs.Lift.{liftOf}
 
 pub data PCase : Type 0 where

@@ -26,7 +26,8 @@ module _ (words tags payloads names : List ℕ) where
   length-filled (suc n) ys =
       length-set (filledRecords words tags payloads names n ys) n (liftOf words tags payloads names n) ∙ length-filled n ys
 
-  past : (n : ℕ) (ys : List SemanticInstruction) (i : ℕ) (d : SemanticInstruction) → n ≤ i → getD (filledRecords words tags payloads names n ys) i d ≡ getD ys i d
+  past : (n : ℕ) (ys : List SemanticInstruction) (i : ℕ) (d : SemanticInstruction) → n ≤ i
+      → getD (filledRecords words tags payloads names n ys) i d ≡ getD ys i d
   past zero ys i d h = refl
   past (suc n) ys i d h =
       getD-set-other (filledRecords words tags payloads names n ys) n i (liftOf words tags payloads names n) d (λ e. omega (arith, h, e))

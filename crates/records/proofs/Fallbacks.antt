@@ -6,11 +6,13 @@ use mathlib.Core.Bool.{Bool, true, false, cond}
 use mathlib.Core.List.{List, [], _∷_}
 use native.Mathlib.Omega.{arith}
 use lib.Dec.{leb, lit<}
-use Rattle.fields.specs.Opcodes.{«OP_GETTABUP», «OP_GETFIELD», «OP_SETTABUP», «OP_SETFIELD», «OP_SELF», «OP_MMBIN», «OP_MMBINK», «OP_UNM», «OP_BNOT», «OP_LEN», «OP_CONCAT», «OP_TBC», «OP_CALL», «OP_TAILCALL»}
+use Rattle.fields.specs.Opcodes.{«OP_GETTABUP», «OP_GETFIELD», «OP_SETTABUP», «OP_SETFIELD», «OP_SELF»}
+use Rattle.fields.specs.Opcodes.{«OP_MMBIN», «OP_MMBINK», «OP_UNM», «OP_BNOT», «OP_LEN», «OP_CONCAT»}
+use Rattle.fields.specs.Opcodes.{«OP_TBC», «OP_CALL», «OP_TAILCALL»}
 use Rattle.fields.specs.Events.{«TM_INDEX», «TM_NEWINDEX», «TM_LEN», «TM_UNM», «TM_BNOT», «TM_CONCAT», «TM_CALL», «TM_CLOSE»}
 use Rattle.fields.specs.Table.{Row, row, lookup, FallbackRule, fixed, byC, noFallback, fallbackNumber, fallbackOf}
 use Rattle.values.specs.declared.ir.Fallback.the-variants.{NoFallback, Event}
-use Rattle.families.specs.Parts.{eventOf}
+use Rattle.builders.specs.Parts.{eventOf}
 use Rattle.records.specs.Lift.{fallbackBy}
 
 -- a rule whose event, if it has one, is below the numbers of the other rules
@@ -31,7 +33,8 @@ small-lookup : (rows : List (Row FallbackRule)) (others : FallbackRule) (o : ℕ
 small-lookup [] others o p q = q
 small-lookup (row first last r ∷ rows) others o p q =
     let rest = small-lookup rows others o (p .1) q in
-    small-pick (leb first o) (cond (leb o last) r (lookup rows others o)) (lookup rows others o) (small-pick (leb o last) r (lookup rows others o) (p .0) rest) rest
+    small-pick (leb first o) (cond (leb o last) r (lookup rows others o)) (lookup rows others o)
+    (small-pick (leb o last) r (lookup rows others o) (p .0) rest) rest
 
 -- the rows of `fallbackOf`
 abbrev rules : List (Row FallbackRule)

@@ -110,7 +110,8 @@ module _ {M : Type 1} (𝓤 : URA M) (H : Heap 𝓤) (A : Atoms 𝓤) (at-mem : 
   abbrev pub Planned : Contract 𝓤
   Planned = tripleOf 𝓤 H A pl.signature (pl.spec 𝓤 H A at-mem run)
 
-module _ {M : Type 1} (𝓤 : URA M) (H : Heap 𝓤) (A : Atoms 𝓤) (W : Given 𝓤 H A) (at-mem : Memory → SProp 𝓤) (run : Routine → Fun 𝓤) (κ : Lft) (q : Share) (wr tr pr nr br : RefT (List ℕ)) (m : ℕ) where
+module _ {M : Type 1} (𝓤 : URA M) (H : Heap 𝓤) (A : Atoms 𝓤) (W : Given 𝓤 H A) (at-mem : Memory → SProp 𝓤)
+    (run : Routine → Fun 𝓤) (κ : Lft) (q : Share) (wr tr pr nr br : RefT (List ℕ)) (m : ℕ) where
   abbrev S₁ : Val
   S₁ = s₁ κ wr tr pr nr br
 
@@ -134,9 +135,16 @@ module _ {M : Type 1} (𝓤 : URA M) (H : Heap 𝓤) (A : Atoms 𝓤) (W : Given
 
   twice : ent 𝓤 (sem 𝓤 H A All) (sep 𝓤 (sem 𝓤 H A All) (sem 𝓤 H A All))
   twice =
-      qed W (‵ All ∷ []) ∵ fsplit ! $ use1 W (‵ (O₁ κ wr tr pr nr br) ⊛ ‵ (O₁ κ wr tr pr nr br)) (shr-slice-copy 𝓤 H A W (named 0) κ u32 .twice wr (S₁ ∷ [])) $ split ! $ move ! (2 ∷ []) $ fsplit ! $
-      use1 W (‵ (O₂ κ wr tr pr nr br) ⊛ ‵ (O₂ κ wr tr pr nr br)) (shr-slice-copy 𝓤 H A W (named 0) κ u8 .twice tr (S₂ ∷ [])) $ split ! $ move ! (2 ∷ []) $ fsplit ! $
-      use1 W (‵ (O₃ κ wr tr pr nr br) ⊛ ‵ (O₃ κ wr tr pr nr br)) (shr-slice-copy 𝓤 H A W (named 0) κ u64 .twice pr (S₃ ∷ [])) $ split ! $ move ! (2 ∷ []) $ fsplit ! $
+      qed W (‵ All ∷ []) ∵ fsplit ! $
+      use1 W (‵ (O₁ κ wr tr pr nr br) ⊛ ‵ (O₁ κ wr tr pr nr br))
+      (shr-slice-copy 𝓤 H A W (named 0) κ u32 .twice wr (S₁ ∷ [])) $
+      split ! $ move ! (2 ∷ []) $ fsplit ! $
+      use1 W (‵ (O₂ κ wr tr pr nr br) ⊛ ‵ (O₂ κ wr tr pr nr br))
+      (shr-slice-copy 𝓤 H A W (named 0) κ u8 .twice tr (S₂ ∷ [])) $
+      split ! $ move ! (2 ∷ []) $ fsplit ! $
+      use1 W (‵ (O₃ κ wr tr pr nr br) ⊛ ‵ (O₃ κ wr tr pr nr br))
+      (shr-slice-copy 𝓤 H A W (named 0) κ u64 .twice pr (S₃ ∷ [])) $
+      split ! $ move ! (2 ∷ []) $ fsplit ! $
       use1 W (‵ (O₄ κ wr tr pr nr br) ⊛ ‵ (O₄ κ wr tr pr nr br)) (shr-slice-copy 𝓤 H A W (named 0) κ u64 .twice nr (S₄ ∷ [])) $ split ! $ move ! (2 ∷ []) $
       use1 W (‵ (O₅ κ wr tr pr nr br) ⊛ ‵ (O₅ κ wr tr pr nr br)) (shr-slice-copy 𝓤 H A W (named 0) κ u8 .twice br (S₅ ∷ [])) $ split ! $
       -- [O₅; O₅; O₄; O₄; O₃; O₃; O₂; O₂; O₁; O₁]
@@ -192,20 +200,31 @@ module _ {M : Type 1} (𝓤 : URA M) (H : Heap 𝓤) (A : Atoms 𝓤) (W : Given
 
   pub ask-plan : m < 2 ^ 64 → ent 𝓤 (sep 𝓤 (sem 𝓤 H A (flft κ q)) (sem 𝓤 H A All)) (sep 𝓤 (Planned 𝓤 H A at-mem run .pre to-plan) (sem 𝓤 H A All))
   ask-plan fits =
-      qed W (‵ (flft κ q) ∷ ‵ All ∷ []) ∵ use2 W ((‵ (flft κ q) ⊛ ‵ ftrue) ⊛ ‵ Asked ⊛ ‵ All) (gathers fits) $ split ! $ move ! (1 ∷ []) $ split ! $ move ! (2 ∷ 0 ∷ []) $
+      qed W (‵ (flft κ q) ∷ ‵ All ∷ []) ∵ use2 W ((‵ (flft κ q) ⊛ ‵ ftrue) ⊛ ‵ Asked ⊛ ‵ All) (gathers fits) $
+      split ! $ move ! (1 ∷ []) $ split ! $ move ! (2 ∷ 0 ∷ []) $
       use2 W (raw (Planned 𝓤 H A at-mem run .pre to-plan)) (qed W ((‵ (flft κ q) ⊛ ‵ ftrue) ∷ ‵ Asked ∷ []) ∵ join ! $ frame ! $ done !) $ done !
 
   abbrev pub to-one : ℕ → One 𝓤 H A at-mem run .Ghost
   to-one i = (((κ, tt), (q, tt), tt, y₁ i, passed₁ i), tt)
 
-  pub ask-one : (i : ℕ) → i < 2 ^ 64 → (i < length (now wr)) × (length (now wr) ≤ mostWords) → ent 𝓤 (sep 𝓤 (sem 𝓤 H A (flft κ q)) (sem 𝓤 H A All)) (sep 𝓤 (One 𝓤 H A at-mem run .pre (to-one i)) (sem 𝓤 H A All))
+  pub ask-one : (i : ℕ) → i < 2 ^ 64 → (i < length (now wr)) × (length (now wr) ≤ mostWords)
+      → ent 𝓤 (sep 𝓤 (sem 𝓤 H A (flft κ q)) (sem 𝓤 H A All))
+      (sep 𝓤 (One 𝓤 H A at-mem run .pre (to-one i)) (sem 𝓤 H A All))
   ask-one i fits required =
-      qed W (‵ (flft κ q) ∷ ‵ All ∷ []) ∵ use2 W ((‵ (flft κ q) ⊛ ‵ ftrue) ⊛ ‵ (Asked₁ i) ⊛ ‵ All) (gathers₁ i fits) $ split ! $ move ! (1 ∷ []) $ split ! $ move ! (2 ∷ 0 ∷ []) $
+      qed W (‵ (flft κ q) ∷ ‵ All ∷ []) ∵
+      use2 W ((‵ (flft κ q) ⊛ ‵ ftrue) ⊛ ‵ (Asked₁ i) ⊛ ‵ All) (gathers₁ i fits) $ split ! $
+      move ! (1 ∷ []) $ split ! $ move ! (2 ∷ 0 ∷ []) $
       use2 W (raw (One 𝓤 H A at-mem run .pre (to-one i))) (qed W ((‵ (flft κ q) ⊛ ‵ ftrue) ∷ ‵ (Asked₁ i) ∷ []) ∵ says ! required $ done !) $ done !
 
   -- of each callee's `ensured`, the clause alone
-  pub said-plan : (r : Plan) → ent 𝓤 (ensured 𝓤 H A pl.ended (pl.clauses 𝓤 H A at-mem run) (κ, tt) y tt r) (fact 𝓤 (r ≡ planOf (length (now wr)) (now tr) (now pr) (now nr) (length (now br)) m))
-  said-plan r = exE 𝓤 _ (λ ls. snd∗ 𝓤 (sem 𝓤 H A (lasts pl.ended (κ, tt) y ls)) (fact 𝓤 (r ≡ planOf (length (now wr)) (now tr) (now pr) (now nr) (length (now br)) m)))
+  pub said-plan : (r : Plan)
+      → ent 𝓤 (ensured 𝓤 H A pl.ended (pl.clauses 𝓤 H A at-mem run) (κ, tt) y tt r)
+      (fact 𝓤 (r ≡ planOf (length (now wr)) (now tr) (now pr) (now nr) (length (now br)) m))
+  said-plan r =
+      exE 𝓤 _ (λ ls. snd∗ 𝓤 (sem 𝓤 H A (lasts pl.ended (κ, tt) y ls))
+      (fact 𝓤 (r ≡ planOf (length (now wr)) (now tr) (now pr) (now nr) (length (now br)) m)))
 
-  pub said-one : (i : ℕ) (r : SemanticInstruction) → ent 𝓤 (ensured 𝓤 H A one.ended (one.clauses 𝓤 H A at-mem run) (κ, tt) (y₁ i) tt r) (fact 𝓤 (r ≡ liftOf (now wr) (now tr) (now pr) (now nr) i))
+  pub said-one : (i : ℕ) (r : SemanticInstruction)
+      → ent 𝓤 (ensured 𝓤 H A one.ended (one.clauses 𝓤 H A at-mem run) (κ, tt) (y₁ i) tt r)
+      (fact 𝓤 (r ≡ liftOf (now wr) (now tr) (now pr) (now nr) i))
   said-one i r = exE 𝓤 _ (λ ls. snd∗ 𝓤 (sem 𝓤 H A (lasts one.ended (κ, tt) (y₁ i) ls)) (fact 𝓤 (r ≡ liftOf (now wr) (now tr) (now pr) (now nr) i)))

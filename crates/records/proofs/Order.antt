@@ -79,7 +79,9 @@ module _ (tag : ℕ) where
       let e = left-over (eqb tag 19) _ (d .1) in
       let f = left-over (eqb tag 4) _ (e .1) in
       let g = left-over (eqb tag 20) _ (f .1) in
-      ⊎-elim (differs 0 (a .0)) (⊎-elim (differs 1 (b .0)) (⊎-elim (differs 17 (c .0)) (⊎-elim (differs 3 (d .0)) (⊎-elim (differs 19 (e .0)) (⊎-elim (differs 4 (f .0)) (differs 20 (g .0)))))))
+      ⊎-elim (differs 0 (a .0))
+      (⊎-elim (differs 1 (b .0)) (⊎-elim (differs 17 (c .0)) (⊎-elim (differs 3 (d .0))
+      (⊎-elim (differs 19 (e .0)) (⊎-elim (differs 4 (f .0)) (differs 20 (g .0)))))))
 
   of-unknown : (Known tag → ⊥) → unknownTag tag ≡ true
   unfolding unknownTag choose
@@ -119,14 +121,18 @@ module _ (tags payloads names : List ℕ) (bytes : ℕ) where
   string-says : (i : ℕ) → (stringPastAt tags payloads bytes i ≡ true) ↔ (((getD tags i 0 ≡ 4) ⊎ (getD tags i 0 ≡ 20)) × EndsPast bytes (getD payloads i 0))
   unfolding stringPastAt choose
   string-says i = (
-    λ h. let b = both-so (isString (getD tags i 0)) (past bytes (getD payloads i 0)) h in (string-of (getD tags i 0) (b .0), past-of bytes (getD payloads i 0) (b .1)),
+    λ h.
+        let b = both-so (isString (getD tags i 0)) (past bytes (getD payloads i 0)) h in
+        (string-of (getD tags i 0) (b .0), past-of bytes (getD payloads i 0) (b .1)),
     λ h. rw (of-string (getD tags i 0) (h .0), of-past bytes (getD payloads i 0) (h .1)),
   )
 
   name-says : (i : ℕ) → (namePastAt names bytes i ≡ true) ↔ ((getD names i 0 ≡ 2 ^ 64 - 1 → ⊥) × EndsPast bytes (getD names i 0))
   unfolding namePastAt choose
   name-says i = (
-    λ h. let b = left-over (eqb (getD names i 0) (2 ^ 64 - 1)) (past bytes (getD names i 0)) h in (eqb-false (getD names i 0) (2 ^ 64 - 1) (b .0), past-of bytes (getD names i 0) (b .1)),
+    λ h.
+        let b = left-over (eqb (getD names i 0) (2 ^ 64 - 1)) (past bytes (getD names i 0)) h in
+        (eqb-false (getD names i 0) (2 ^ 64 - 1) (b .0), past-of bytes (getD names i 0) (b .1)),
     λ h. rw (ne-eqb (getD names i 0) (2 ^ 64 - 1) (h .0), of-past bytes (getD names i 0) (h .1)),
   )
 
@@ -142,7 +148,8 @@ no f g = (λ h. absurd (f h), λ h. absurd (g h))
 module _ (x y z : ℕ) where
   abbrev chain : Bool → Bool → Bool → Bool → Bool → Bool → Bool → Bool → Answer
   chain a b c d e f g h =
-      cond a (answer 1 0) (cond b (answer 2 0) (cond c (answer 2 0) (cond d (answer 3 x) (cond e (answer 4 y) (cond f (answer 5 0) (cond g (answer 5 z) (cond h (answer 6 0) (answer 0 0))))))))
+      cond a (answer 1 0) (cond b (answer 2 0) (cond c (answer 2 0) (cond d (answer 3 x) (cond e (answer 4 y)
+      (cond f (answer 5 0) (cond g (answer 5 z) (cond h (answer 6 0) (answer 0 0))))))))
 
   abbrev number : Bool → Bool → Bool → Bool → Bool → Bool → Bool → Bool → ℕ
   number a b c d e f g h = chain a b c d e f g h .number
@@ -338,7 +345,10 @@ module _ (n : ℕ) (tags payloads names : List ℕ) (bytes room : ℕ) where
   no-unknown = none (unknownTagAt tags) (λ i. Known (getD tags i 0) → ⊥) unknown (length tags)
 
   no-string : ltb (firstStringPast tags payloads bytes) (length tags) ≡ false → (i : ℕ) → StringPastAt n tags payloads names bytes room i → ⊥
-  no-string = none (stringPastAt tags payloads bytes) (λ i. ((getD tags i 0 ≡ 4) ⊎ (getD tags i 0 ≡ 20)) × EndsPast bytes (getD payloads i 0)) strings (length tags)
+  no-string =
+      none (stringPastAt tags payloads bytes)
+      (λ i. ((getD tags i 0 ≡ 4) ⊎ (getD tags i 0 ≡ 20)) × EndsPast bytes (getD payloads i 0)) strings
+      (length tags)
 
   no-name : ltb (firstNamePast names bytes) (length names) ≡ false → (i : ℕ) → NamePastAt n tags payloads names bytes room i → ⊥
   no-name = none (namePastAt names bytes) (λ i. (getD names i 0 ≡ 2 ^ 64 - 1 → ⊥) × EndsPast bytes (getD names i 0)) named (length names)
@@ -347,7 +357,10 @@ module _ (n : ℕ) (tags payloads names : List ℕ) (bytes room : ℕ) where
   some-unknown = some (unknownTagAt tags) (λ i. Known (getD tags i 0) → ⊥) unknown (length tags)
 
   some-string : (i : ℕ) → StringPastAt n tags payloads names bytes room i → ltb (firstStringPast tags payloads bytes) (length tags) ≡ true
-  some-string = some (stringPastAt tags payloads bytes) (λ i. ((getD tags i 0 ≡ 4) ⊎ (getD tags i 0 ≡ 20)) × EndsPast bytes (getD payloads i 0)) strings (length tags)
+  some-string =
+      some (stringPastAt tags payloads bytes)
+      (λ i. ((getD tags i 0 ≡ 4) ⊎ (getD tags i 0 ≡ 20)) × EndsPast bytes (getD payloads i 0)) strings
+      (length tags)
 
   some-name : (i : ℕ) → NamePastAt n tags payloads names bytes room i → ltb (firstNamePast names bytes) (length names) ≡ true
   some-name = some (namePastAt names bytes) (λ i. (getD names i 0 ≡ 2 ^ 64 - 1 → ⊥) × EndsPast bytes (getD names i 0)) named (length names)
@@ -356,7 +369,10 @@ module _ (n : ℕ) (tags payloads names : List ℕ) (bytes room : ℕ) where
   unknown-none = nowhere (unknownTagAt tags) (λ i. Known (getD tags i 0) → ⊥) unknown (length tags)
 
   string-none : ((i : ℕ) → StringPastAt n tags payloads names bytes room i → ⊥) → ltb (firstStringPast tags payloads bytes) (length tags) ≡ false
-  string-none = nowhere (stringPastAt tags payloads bytes) (λ i. ((getD tags i 0 ≡ 4) ⊎ (getD tags i 0 ≡ 20)) × EndsPast bytes (getD payloads i 0)) strings (length tags)
+  string-none =
+      nowhere (stringPastAt tags payloads bytes)
+      (λ i. ((getD tags i 0 ≡ 4) ⊎ (getD tags i 0 ≡ 20)) × EndsPast bytes (getD payloads i 0)) strings
+      (length tags)
 
   name-none : ((i : ℕ) → NamePastAt n tags payloads names bytes room i → ⊥) → ltb (firstNamePast names bytes) (length names) ≡ false
   name-none = nowhere (namePastAt names bytes) (λ i. (getD names i 0 ≡ 2 ^ 64 - 1 → ⊥) × EndsPast bytes (getD names i 0)) named (length names)
@@ -364,26 +380,77 @@ module _ (n : ℕ) (tags payloads names : List ℕ) (bytes room : ℕ) where
   pub order-of : Order n tags payloads names bytes room
   unfolding answerOf
   order-of =
-      let b = by (firstUnknownTag tags) (firstStringPast tags payloads bytes) (firstNamePast names bytes) (ltb mostWords n) differ (ltb mostConstants (length tags))
-      (ltb (firstUnknownTag tags) (length tags)) (ltb (firstStringPast tags payloads bytes) (length tags)) (ltb mostNames (length names)) (ltb (firstNamePast names bytes) (length names)) (ltb room n) in
+      let b = by (firstUnknownTag tags) (firstStringPast tags payloads bytes) (firstNamePast names bytes)
+      (ltb mostWords n) differ (ltb mostConstants (length tags))
+      (ltb (firstUnknownTag tags) (length tags)) (ltb (firstStringPast tags payloads bytes) (length tags))
+      (ltb mostNames (length names)) (ltb (firstNamePast names bytes) (length names)) (ltb room n) in
       record {
         one = (λ h. ltb-true mostWords n (b .one .0 h), λ h. b .one .1 (lt-ltb mostWords n h));
         two = (
-          λ h. let t = b .two .0 h in (few (t .0), ⊎-elim (λ e. inl (eqb-false (length tags) (length payloads) (not-so (eqb (length tags) (length payloads)) e))) (λ e. inr (ltb-true mostConstants (length tags) e)) (t .1)),
-          λ h. b .two .1 (le-ltb mostWords n (h .0), ⊎-elim (λ d. inl (ap not (ne-eqb (length tags) (length payloads) d))) (λ d. inr (lt-ltb mostConstants (length tags) d)) (h .1)),
+          λ h.
+              let t = b .two .0 h in (
+                few (t .0),
+                ⊎-elim
+                    (λ e. inl (eqb-false (length tags) (length payloads)
+                    (not-so (eqb (length tags) (length payloads)) e)))
+                    (λ e. inr (ltb-true mostConstants (length tags) e)) (t .1),
+              ),
+          λ h.
+              b .two .1 (
+                le-ltb mostWords n (h .0),
+                ⊎-elim (λ d. inl (ap not (ne-eqb (length tags) (length payloads) d)))
+                    (λ d. inr (lt-ltb mostConstants (length tags) d)) (h .1),
+              ),
         );
         three = (
-          λ h. let t = b .three .0 h in (counted (t .0) (t .1) (t .2), (firstUnknownTag tags, there (unknownTagAt tags) (λ i. Known (getD tags i 0) → ⊥) unknown (length tags) (t .3))),
-          λ h. b .three .1 (le-ltb mostWords n (h .0 .0), of-same (h .0 .1 .0), le-ltb mostConstants (length tags) (h .0 .1 .1), some-unknown (h .1 .0) (h .1 .1)),
+          λ h.
+              let t = b .three .0 h in (
+                counted (t .0) (t .1) (t .2),
+                (
+                  firstUnknownTag tags,
+                  there (unknownTagAt tags) (λ i. Known (getD tags i 0) → ⊥) unknown (length tags) (t .3),
+                ),
+              ),
+          λ h.
+              b .three .1 (
+                le-ltb mostWords n (h .0 .0),
+                of-same (h .0 .1 .0),
+                le-ltb mostConstants (length tags) (h .0 .1 .1),
+                some-unknown (h .1 .0) (h .1 .1),
+              ),
         );
         four = (
-          λ h. let t = b .four .0 h in ((counted (t .0) (t .1) (t .2), no-unknown (t .3)), (firstStringPast tags payloads bytes, there (stringPastAt tags payloads bytes) (λ i. ((getD tags i 0 ≡ 4) ⊎ (getD tags i 0 ≡ 20)) × EndsPast bytes (getD payloads i 0)) strings (length tags) (t .4))),
-          λ h. let c = h .0 .0 in b .four .1 (le-ltb mostWords n (c .0), of-same (c .1 .0), le-ltb mostConstants (length tags) (c .1 .1), unknown-none (h .0 .1), some-string (h .1 .0) (h .1 .1)),
+          λ h.
+              let t = b .four .0 h in (
+                (counted (t .0) (t .1) (t .2), no-unknown (t .3)),
+                (
+                  firstStringPast tags payloads bytes,
+                  there (stringPastAt tags payloads bytes)
+                      (λ i. ((getD tags i 0 ≡ 4) ⊎ (getD tags i 0 ≡ 20)) × EndsPast bytes (getD payloads i 0))
+                      strings (length tags) (t .4),
+                ),
+              ),
+          λ h.
+              let c = h .0 .0 in
+              b .four .1 (
+                le-ltb mostWords n (c .0),
+                of-same (c .1 .0),
+                le-ltb mostConstants (length tags) (c .1 .1),
+                unknown-none (h .0 .1),
+                some-string (h .1 .0) (h .1 .1),
+              ),
         );
         five = (
           λ h. let t = b .five .0 h in (
             ((counted (t .0) (t .1) (t .2), no-unknown (t .3)), no-string (t .4)),
-            ⊎-elim (λ e. inl (ltb-true mostNames (length names) e)) (λ e. inr (firstNamePast names bytes, there (namePastAt names bytes) (λ i. (getD names i 0 ≡ 2 ^ 64 - 1 → ⊥) × EndsPast bytes (getD names i 0)) named (length names) e)) (t .5),
+            ⊎-elim (λ e. inl (ltb-true mostNames (length names) e))
+                (λ e. inr (
+                  firstNamePast names bytes,
+                  there (namePastAt names bytes)
+                      (λ i. (getD names i 0 ≡ 2 ^ 64 - 1 → ⊥) × EndsPast bytes (getD names i 0)) named
+                      (length names) e,
+                ))
+                (t .5),
           ),
           λ h. let c = h .0 .0 .0 in
               b .five .1 (
@@ -396,8 +463,13 @@ module _ (n : ℕ) (tags payloads names : List ℕ) (bytes room : ℕ) where
               ),
         );
         six = (
-          λ h. let t = b .six .0 h in
-              ((((counted (t .0) (t .1) (t .2), no-unknown (t .3)), no-string (t .4)), (ltb-false mostNames (length names) (t .5), no-name (t .6))), ltb-true room n (t .7)),
+          λ h. let t = b .six .0 h in (
+            (
+              ((counted (t .0) (t .1) (t .2), no-unknown (t .3)), no-string (t .4)),
+              (ltb-false mostNames (length names) (t .5), no-name (t .6)),
+            ),
+            ltb-true room n (t .7),
+          ),
           λ h. let p = h .0 .0 in let c = p .0 .0 in
               b .six .1 (
                 le-ltb mostWords n (c .0),
@@ -411,8 +483,13 @@ module _ (n : ℕ) (tags payloads names : List ℕ) (bytes room : ℕ) where
               ),
         );
         accepted = (
-          λ h. let t = b .accepted .0 h in
-              ((((counted (t .0) (t .1) (t .2), no-unknown (t .3)), no-string (t .4)), (ltb-false mostNames (length names) (t .5), no-name (t .6))), ltb-false room n (t .7)),
+          λ h. let t = b .accepted .0 h in (
+            (
+              ((counted (t .0) (t .1) (t .2), no-unknown (t .3)), no-string (t .4)),
+              (ltb-false mostNames (length names) (t .5), no-name (t .6)),
+            ),
+            ltb-false room n (t .7),
+          ),
           λ h. let p = h .0 .0 in let c = p .0 .0 in
               b .accepted .1 (
                 le-ltb mostWords n (c .0),
@@ -426,8 +503,16 @@ module _ (n : ℕ) (tags payloads names : List ℕ) (bytes room : ℕ) where
               ),
         );
         place-3 = λ h.
-            let e = sym (b .place-3 h) in
-            (subst (UnknownAt n tags payloads names bytes room) e (there (unknownTagAt tags) (λ i. Known (getD tags i 0) → ⊥) unknown (length tags) (b .three .0 h .3)), λ i u. omega (arith, b .place-3 h, least (unknownTagAt tags) (λ i. Known (getD tags i 0) → ⊥) unknown (length tags) i u));
+            let e = sym (b .place-3 h) in (
+              subst (UnknownAt n tags payloads names bytes room) e (there (unknownTagAt tags)
+                  (λ i. Known (getD tags i 0) → ⊥) unknown (length tags) (b .three .0 h .3)),
+              λ i u.
+                  omega (
+                    arith,
+                    b .place-3 h,
+                    least (unknownTagAt tags) (λ i. Known (getD tags i 0) → ⊥) unknown (length tags) i u,
+                  ),
+            );
         place-4 = λ h.
             let e = sym (b .place-4 h) in (
               subst (StringPastAt n tags payloads names bytes room) e (there (stringPastAt tags payloads bytes)
@@ -443,8 +528,20 @@ module _ (n : ℕ) (tags payloads names : List ℕ) (bytes room : ℕ) where
         place-5 = λ h l.
             let few-names = le-ltb mostNames (length names) l in
             let e = sym (b .place-5 h few-names) in
-            let t : ltb (firstNamePast names bytes) (length names) ≡ true = ⊎-elim (λ d. absurd (true≢false (sym d ∙ few-names))) (λ d. d) (b .five .0 h .5) in
-            (subst (NamePastAt n tags payloads names bytes room) e (there (namePastAt names bytes) (λ i. (getD names i 0 ≡ 2 ^ 64 - 1 → ⊥) × EndsPast bytes (getD names i 0)) named (length names) t), λ i u. omega (arith, b .place-5 h few-names, least (namePastAt names bytes) (λ i. (getD names i 0 ≡ 2 ^ 64 - 1 → ⊥) × EndsPast bytes (getD names i 0)) named (length names) i u));
+            let t : ltb (firstNamePast names bytes) (length names) ≡ true =
+            ⊎-elim (λ d. absurd (true≢false (sym d ∙ few-names))) (λ d. d) (b .five .0 h .5) in (
+              subst (NamePastAt n tags payloads names bytes room) e (there (namePastAt names bytes)
+                  (λ i. (getD names i 0 ≡ 2 ^ 64 - 1 → ⊥) × EndsPast bytes (getD names i 0)) named
+                  (length names) t),
+              λ i u.
+                  omega (
+                    arith,
+                    b .place-5 h few-names,
+                    least (namePastAt names bytes)
+                        (λ i. (getD names i 0 ≡ 2 ^ 64 - 1 → ⊥) × EndsPast bytes (getD names i 0)) named
+                        (length names) i u,
+                  ),
+            );
         many-names = λ h l. b .many-names h (lt-ltb mostNames (length names) l);
         no-place = b .no-place;
       }

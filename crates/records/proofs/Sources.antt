@@ -18,9 +18,9 @@ use Rattle.values.specs.declared.ir.ImplicitEffect.{ImplicitEffect}
 use Rattle.values.specs.declared.ir.OptionalPc.{OptionalPc}
 use Rattle.common.specs.Chain.{choose}
 use Rattle.values.specs.Values.{constantOf, nameOf}
-use Rattle.families.specs.declared.builders.Body.{Body}
-use Rattle.families.specs.Shapes.{operandsOf, readsOf, writesOf, body}
-use Rattle.families.specs.Parts.{constant, upvalue, upvalueTarget, rk, rkTarget, countLess, arguments, results}
+use Rattle.builders.specs.declared.builders.Body.{Body}
+use Rattle.builders.specs.Shapes.{operandsOf, readsOf, writesOf, body}
+use Rattle.builders.specs.Parts.{constant, upvalue, upvalueTarget, rk, rkTarget, countLess, arguments, results}
 use Rattle.families.specs.Families as F
 use Rattle.records.specs.Lift.{loads, tables, arithmetic, control, calls, recordBody, liftOf}
 use Rattle.records.specs.Sources.{operandIn, targetIn, immediateFloat, Sources}
@@ -349,7 +349,8 @@ module _ (tags payloads names : List ℕ) (float : Float) where
     in-body e = either _ _ _ (in-loads e) (either _ _ _ in-tables (either _ _ _ in-arithmetic (either _ _ _ in-control in-calls)))
 
 module _ (words tags payloads names : List ℕ) (pc : ℕ) where
-  abbrev all : From tags payloads names (immediateFloat words pc) (recordBody words tags payloads names pc (getD words pc 0) (fieldsOf (getD words pc 0)) (opcodeOf (getD words pc 0)))
+  abbrev all : From tags payloads names (immediateFloat words pc) (recordBody words tags payloads names pc
+      (getD words pc 0) (fieldsOf (getD words pc 0)) (opcodeOf (getD words pc 0)))
   all = in-body tags payloads names (immediateFloat words pc) words pc (getD words pc 0) (fieldsOf (getD words pc 0)) (opcodeOf (getD words pc 0)) refl
 
   pub sources : Sources words tags payloads names pc

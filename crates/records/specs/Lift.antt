@@ -25,8 +25,8 @@ use Rattle.values.specs.declared.ir.Confidence.{Confidence}
 use Rattle.values.specs.declared.ir.Confidence.the-variants.{Reviewed, Unverified}
 use Rattle.values.specs.declared.ir.SemanticInstruction.{SemanticInstruction}
 use Rattle.common.specs.Chain.{choose}
-use Rattle.families.specs.declared.builders.Body.{Body}
-use Rattle.families.specs.Parts.{eventOf}
+use Rattle.builders.specs.declared.builders.Body.{Body}
+use Rattle.builders.specs.Parts.{eventOf}
 use Rattle.families.specs.Families as F
 
 -- What arms work out from pc

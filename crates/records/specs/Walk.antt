@@ -15,7 +15,7 @@ use Rattle.values.specs.declared.ir.Confidence.the-variants.{Unverified}
 use Rattle.common.specs.Limits.{mostWords}
 use Rattle.common.specs.Numbers.{«ACCEPTED»}
 use Rattle.common.specs.Chain.{choose}
-use Rattle.families.specs.Shapes.{operandsOf, readsOf, writesOf}
+use Rattle.builders.specs.Shapes.{operandsOf, readsOf, writesOf}
 use Rattle.records.specs.declared.lift.Lifted.{Lifted}
 use Rattle.records.specs.declared.refusals.Plan.{Plan}
 use Rattle.records.specs.Lift.{liftOf}

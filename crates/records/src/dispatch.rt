@@ -14,15 +14,15 @@ ghost use Rattle.records.specs.Lift.{
   calls,
   recordBody,
 };
+use builders::builders::Body;
+use builders::parts::immediate;
+use builders::parts::immediate_field;
+use builders::parts::immediate_float;
+use builders::parts::less;
 use families::arithmetic::*;
-use families::builders::Body;
 use families::calls::*;
 use families::control::*;
 use families::loads::*;
-use families::parts::immediate;
-use families::parts::immediate_field;
-use families::parts::immediate_float;
-use families::parts::less;
 use families::tables::*;
 use fields::opcodes::*;
 use fields::word::RawInstruction54;

@@ -9,10 +9,10 @@ ghost use Rattle.records.specs.Lift.{fallbackBy, before, companionPc, co
 ghost use Rattle.records.specs.Walk.{blankRecord, liftedOf, recordOrBlank};
 use crate::dispatch::lift_body;
 use crate::refusals::planned;
+use builders::builders::*;
+use builders::parts::event_of;
 use common::Answer;
 use common::limits::MOST_WORDS;
-use families::builders::*;
-use families::parts::event_of;
 use fields::columns::*;
 use fields::lookup::fallback;
 use fields::opcodes::*;

@@ -21,7 +21,9 @@ use Rattle.rehearsal.specs.declared.machine.Queue.{Queue}
 use Rattle.rehearsal.specs.declared.machine.Stage.{Stage}
 use Rattle.rehearsal.specs.Machine.{Event, State, taskAt, moveOf, trace, tasksFrom, startOf}
 use Rattle.rehearsal.specs.Waits.{waitsSince, waitsOf, longestOfWaits, longestWait}
-use Rattle.rehearsal.specs.Running.{turned, turnOf, tallyAt, withTally, notedTally, notedTallies, queuedTasks, withoutFirst, toTheEnd, staged, firstTurn, nextStage, newTally, startStage, TasksListed, Fine}
+use Rattle.rehearsal.specs.Running.{turned, turnOf, tallyAt, withTally, notedTally, notedTallies}
+use Rattle.rehearsal.specs.Running.{queuedTasks, withoutFirst, toTheEnd, staged, firstTurn, nextStage}
+use Rattle.rehearsal.specs.Running.{newTally, startStage, TasksListed, Fine}
 use Rattle.rehearsal.proofs.Turns.{Count, counted, scan, ranOf, ran-least, ran-most, traceAfter, turn-scan, scan-none}
 
 -- the numbers that a tally stands for

@@ -25,7 +25,9 @@ abbrev pub chain : Bool → Bool → Bool → Bool → Bool → ℕ → ℕ → 
 chain a b c d e p q l f =
     cond a (Refused 1 0) (cond b (Refused 6 0) (cond c (Refused 18 p) (cond d (Refused 7 0) (cond e (Refused 8 q) (Accepted l f)))))
 
-module _ (P : Run → Type 0) (p q l f : ℕ) (one : P (Refused 1 0)) (six : P (Refused 6 0)) (eighteen : P (Refused 18 p)) (seven : P (Refused 7 0)) (eight : P (Refused 8 q)) (accepted : P (Accepted l f)) where
+module _ (P : Run → Type 0) (p q l f : ℕ) (one : P (Refused 1 0)) (six : P (Refused 6 0))
+    (eighteen : P (Refused 18 p)) (seven : P (Refused 7 0)) (eight : P (Refused 8 q))
+    (accepted : P (Accepted l f)) where
   each : (a b c d e : Bool) → P (chain a b c d e p q l f)
   each true b c d e = one
   each false true c d e = six
@@ -38,9 +40,11 @@ module _ (ws : Script) (weights : List ℕ) (marks lengths : ℕ) where
   pub never-given : numberOf (runOf ws weights marks lengths) ≡ 9 → ⊥
   unfolding runOf
   never-given =
-      each (λ r. numberOf r ≡ 9 → ⊥) (weightsPlace weights) (lowestInvalid ws) (longest (graphOf ws) (weightOf ws weights)) (first (graphOf ws) (weightOf ws weights))
+      each (λ r. numberOf r ≡ 9 → ⊥) (weightsPlace weights) (lowestInvalid ws)
+      (longest (graphOf ws) (weightOf ws weights)) (first (graphOf ws) (weightOf ws weights))
       (λ h. omega (arith, h)) (λ h. omega (arith, h)) (λ h. omega (arith, h)) (λ h. omega (arith, h)) (λ h. omega (arith, h)) (λ h. omega (arith, h))
-      (ltb mostWords (ws .size)) (ltb marks (ws .size) || ltb lengths (ws .size)) (refusesWeights weights) (eqb (ws .size) 0) (ltb (lowestInvalid ws) (ws .size))
+      (ltb mostWords (ws .size)) (ltb marks (ws .size) || ltb lengths (ws .size)) (refusesWeights weights)
+      (eqb (ws .size) 0) (ltb (lowestInvalid ws) (ws .size))
 
 module _ (ws : Script) (sound : Sound ws) where
   unit-small : longest (graphOf ws) unitWeight ≤ ws .size
@@ -52,7 +56,8 @@ module _ (ws : Script) (sound : Sound ws) where
   pub within-words : (marks lengths : ℕ) → longestOf (runOf ws ones marks lengths) ≤ ws .size
   unfolding runOf
   within-words marks lengths =
-      each (λ r. longestOf r ≤ ws .size) (weightsPlace ones) (lowestInvalid ws) (longest (graphOf ws) (weightOf ws ones)) (first (graphOf ws) (weightOf ws ones))
+      each (λ r. longestOf r ≤ ws .size) (weightsPlace ones) (lowestInvalid ws)
+      (longest (graphOf ws) (weightOf ws ones)) (first (graphOf ws) (weightOf ws ones))
       zero-le zero-le zero-le zero-le zero-le ones-small
       (ltb mostWords (ws .size)) (ltb marks (ws .size) || ltb lengths (ws .size)) (refusesWeights ones) (eqb (ws .size) 0) (ltb (lowestInvalid ws) (ws .size))
 

@@ -67,7 +67,8 @@ no f g = (λ h. absurd (f h), λ h. absurd (g h))
 module _ (x y z w : ℕ) (r : RunRange) (accepted : numberOf (lowRun r) ≡ 0) (placed : placeOf (lowRun r) ≡ 0) where
   abbrev run : Bool → Bool → Bool → Bool → Bool → Bool → Bool → Run
   run a b c d e f g =
-      lowRun (cond a (Refused 1 0) (cond b (Refused 6 0) (cond c (Refused 18 x) (cond d (Refused 18 y) (cond e (Refused 19 z) (cond f (Refused 7 0) (cond g (Refused 8 w) r)))))))
+      lowRun (cond a (Refused 1 0) (cond b (Refused 6 0) (cond c (Refused 18 x) (cond d (Refused 18 y)
+      (cond e (Refused 19 z) (cond f (Refused 7 0) (cond g (Refused 8 w) r)))))))
 
   record By (a b c d e f g : Bool) : Type 0 where
     one : (numberOf (run a b c d e f g) ≡ 1) ↔ (a ≡ true)
@@ -188,8 +189,11 @@ module _ (ws : Script) (low high : List ℕ) (marks lengths : ℕ) where
   unfolding runsOf
   range-order =
       let b = by (weightsPlace low) (weightsPlace high) (lowestAbove low high) (lowestInvalid ws)
-      (Accepted (longest (graphOf ws) (weightOf ws low)) (first (graphOf ws) (weightOf ws low)) (longest (graphOf ws) (weightOf ws high)) (first (graphOf ws) (weightOf ws high))) refl refl
-      (ltb mostWords n) (ltb marks n || ltb lengths n) (refusesWeights low) (refusesWeights high) (ltb (lowestAbove low high) 128) (eqb n 0) (ltb (lowestInvalid ws) n) in
+      (Accepted (longest (graphOf ws) (weightOf ws low)) (first (graphOf ws) (weightOf ws low))
+      (longest (graphOf ws) (weightOf ws high)) (first (graphOf ws) (weightOf ws high)))
+      refl refl
+      (ltb mostWords n) (ltb marks n || ltb lengths n) (refusesWeights low) (refusesWeights high)
+      (ltb (lowestAbove low high) 128) (eqb n 0) (ltb (lowestInvalid ws) n) in
       record {
         one = (λ h. ltb-true mostWords n (b .one .0 h), λ h. b .one .1 (lt-ltb mostWords n h));
         six = (
@@ -201,12 +205,31 @@ module _ (ws : Script) (low high : List ℕ) (marks lengths : ℕ) where
           λ h. b .eighteen .1 (le-ltb mostWords n (h .0 .0), longer ws low marks lengths (h .0 .1), h .1),
         );
         nineteen = (
-          λ h. let t = b .nineteen .0 h in ((few ws low marks lengths (t .0), long ws low marks lengths (t .1)), (t .2, t .3), (lowestAbove low high, above-there low high (t .4))),
+          λ h.
+              let t = b .nineteen .0 h in (
+                (few ws low marks lengths (t .0), long ws low marks lengths (t .1)),
+                (t .2, t .3),
+                (lowestAbove low high, above-there low high (t .4)),
+              ),
           λ h. b .nineteen .1 (le-ltb mostWords n (h .0 .0), longer ws low marks lengths (h .0 .1), h .1 .0, h .1 .1, above-some low high (h .2 .0) (h .2 .1)),
         );
         seven = (
-          λ h. let t = b .seven .0 h in ((few ws low marks lengths (t .0), long ws low marks lengths (t .1)), (t .2, t .3), above-none low high (t .4), eqb-true n 0 (t .5)),
-          λ h. b .seven .1 (le-ltb mostWords n (h .0 .0), longer ws low marks lengths (h .0 .1), h .1 .0, h .1 .1, none-above low high (h .2), eq-eqb n 0 (h .3)),
+          λ h.
+              let t = b .seven .0 h in (
+                (few ws low marks lengths (t .0), long ws low marks lengths (t .1)),
+                (t .2, t .3),
+                above-none low high (t .4),
+                eqb-true n 0 (t .5),
+              ),
+          λ h.
+              b .seven .1 (
+                le-ltb mostWords n (h .0 .0),
+                longer ws low marks lengths (h .0 .1),
+                h .1 .0,
+                h .1 .1,
+                none-above low high (h .2),
+                eq-eqb n 0 (h .3),
+              ),
         );
         place-low = b .place-low;
         place-high = b .place-high;
@@ -228,9 +251,11 @@ module _ (ws : Script) (sound : Sound ws) (low high marks lengths : List ℕ) wh
   abbrev number : ℕ
   number = numberOf (report ws low high (length marks) (length lengths))
 
-  untouched-high : refusesRange low high ≡ false → (number ≡ 0 → ⊥) → (number ≡ 8 → ⊥) → untouched (numberOf (runOf ws high (length marks) (length lengths))) ≡ true
+  untouched-high : refusesRange low high ≡ false → (number ≡ 0 → ⊥) → (number ≡ 8 → ⊥)
+      → untouched (numberOf (runOf ws high (length marks) (length lengths))) ≡ true
   untouched-high e a b =
-      ap untouched (ap numberOf (ends ws sound low high (length marks) (length lengths) e .high-reached) ∙ same-number (runsOf ws low high (length marks) (length lengths)))
+      ap untouched (ap numberOf (ends ws sound low high (length marks) (length lengths) e .high-reached)
+      ∙ same-number (runsOf ws low high (length marks) (length lengths)))
       ∙ untouched-by number a b
 
   of-marks : (t : Bool) → refusesRange low high ≡ t → (number ≡ 0 → ⊥) → (number ≡ 8 → ⊥) → cond t marks (marksAfter ws high marks lengths) ≡ marks

@@ -24,7 +24,8 @@ use Rattle.runs.proofs.Outcome.{decided-invalid, decided-accepted}
 use Rattle.runs.proofs.Searched.{measured-invalid, measured-accepted}
 use Rattle.runs.proofs.BothTables.{decided-both}
 
-module _ (version : Version) (words : List ℕ) {m l : List ℕ} (s : Searched (scriptOf version words) m l) (low high : List ℕ) {mask : ℕ} (mask-is : mask ≡ slotMask version) where
+module _ (version : Version) (words : List ℕ) {m l : List ℕ} (s : Searched (scriptOf version words) m l)
+    (low high : List ℕ) {mask : ℕ} (mask-is : mask ≡ slotMask version) where
   abbrev ws : Script
   ws = scriptOf version words
 
@@ -35,7 +36,9 @@ module _ (version : Version) (words : List ℕ) {m l : List ℕ} (s : Searched (
   low-is = ap (λ (x : ℕ). weightBy x words low) mask-is ∙ masked version words low
 
   -- both passes
-  module _ {i v a : ℕ} (m′ l′ : List ℕ) (t : Twice (weightBy mask words low) (weightBy mask words high) l i v a m′ l′) (m-kept : length m′ ≡ length m) (l-kept : length l′ ≡ length l) where
+  module _ {i v a : ℕ} (m′ l′ : List ℕ)
+      (t : Twice (weightBy mask words low) (weightBy mask words high) l i v a m′ l′)
+      (m-kept : length m′ ≡ length m) (l-kept : length l′ ≡ length l) where
     fills : Fills (weightOf ws high) l l′ i
     fills = filled-by version words high mask-is (record { lengths = t .lengths; lowest-invalid = t .lowest-invalid })
 
@@ -55,7 +58,8 @@ module _ (version : Version) (words : List ℕ) {m l : List ℕ} (s : Searched (
     pub twice-length : length l′ ≡ ws .size
     twice-length = l-kept ∙ s .lent .l-same
 
-    pub twice-invalid : {c : List ℕ} → i < ws .size → c ≡ replicate (ws .size) 0 ++ drop (ws .size) l′ → DecidedBoth ws low high (Refused «REACHES_INVALID» i) m′ c
+    pub twice-invalid : {c : List ℕ} → i < ws .size → c ≡ replicate (ws .size) 0 ++ drop (ws .size) l′
+        → DecidedBoth ws low high (Refused «REACHES_INVALID» i) m′ c
     twice-invalid {c} h e =
         let d : Decided ws high (One.Refused «REACHES_INVALID» i) m′ c = measured-invalid version words again high fills l-kept h e in
         let b : Decided ws low (One.Refused «REACHES_INVALID» i) m′ c = decided-invalid ws low (d .marks) lowest h (d .lengths) in

@@ -49,13 +49,18 @@ module _ (weights : List ℕ) where
       go true e =
           let f = z .found e in
           ⊎-elim
-          (λ d. absurd (eqb-false _ _ (lowest-laws .first (isZeroAt weights) 0 weightCount .not-before (f .0) (omega arith) (omega (arith, d, f .1, z .upto))) (f .2)))
+          (λ d. absurd (eqb-false _ _
+          (lowest-laws .first (isZeroAt weights) 0 weightCount .not-before (f .0) (omega arith)
+          (omega (arith, d, f .1, z .upto)))
+          (f .2)))
           (λ d. sym (lt-ltb _ _ d))
           (split weightCount (lowestFrom (isZeroAt weights) 0 weightCount))
       go false e =
           ⊎-elim
           (λ d. sym (le-ltb _ _ d))
-          (λ d. absurd (z .none e (lowestFrom (isZeroAt weights) 0 weightCount) (omega (arith, d, h)) (eqb-true _ _ (lowest-laws .first (isZeroAt weights) 0 weightCount .holds (omega (arith, d))))))
+          (λ d. absurd
+          (z .none e (lowestFrom (isZeroAt weights) 0 weightCount) (omega (arith, d, h)) (eqb-true _ _
+          (lowest-laws .first (isZeroAt weights) 0 weightCount .holds (omega (arith, d))))))
           (split weightCount (lowestFrom (isZeroAt weights) 0 weightCount))
 
   -- the two checks of number 18

@@ -53,7 +53,9 @@ module _ (d mark distance : ℕ) where
 
 module _ (ws : Script) (sound : Sound ws) (d : ℕ) (m l list : List ℕ) where
   -- past the checks of the words' number and of the list, all goes by the run
-  by-run : ws .size ≤ mostWords → ws .size ≤ length list → Listed ws d m l list (answerBy (unitRun ws (length m) (length l))) (marksAfter ws ones m l) (lengthsAfter ws ones m l) (listBy (unitRun ws (length m) (length l)) ws d list)
+  by-run : ws .size ≤ mostWords → ws .size ≤ length list
+      → Listed ws d m l list (answerBy (unitRun ws (length m) (length l))) (marksAfter ws ones m l)
+      (lengthsAfter ws ones m l) (listBy (unitRun ws (length m) (length l)) ws d list)
   by-run few long = listed-by ws d m l list few long refl (refl, refl) refl
 
   module _ (r : AcceptedRun ws (length m) (length l)) (long : ws .size ≤ length list) where
@@ -107,11 +109,15 @@ module _ (ws : Script) (sound : Sound ws) (d : ℕ) (m l list : List ℕ) where
               };
         }
 
-  refusal : ws .size ≤ length list → (n p : ℕ) → unitRun ws (length m) (length l) ≡ Run.Refused n p → withinOf ws (length m) (length l) (length list) ≡ answer n p
+  refusal : ws .size ≤ length list → (n p : ℕ) → unitRun ws (length m) (length l) ≡ Run.Refused n p
+      → withinOf ws (length m) (length l) (length list) ≡ answer n p
   refusal long n p e = ⊎-elim (λ few. sym (by-run few long .0) ∙ ap answerBy e) (λ h. of-many h) (split (ws .size) mostWords)
     where
       of-many : mostWords < ws .size → withinOf ws (length m) (length l) (length list) ≡ answer n p
-      of-many h = let z : Run.Refused «TOO_MANY_WORDS» 0 ≡ Run.Refused n p = sym (run-many ws (length m) (length l) h) ∙ e in sym (within-many ws d m l list h .0) ∙ (cc)
+      of-many h =
+          let z : Run.Refused «TOO_MANY_WORDS» 0
+          ≡ Run.Refused n p = sym (run-many ws (length m) (length l) h) ∙ e in
+          sym (within-many ws d m l list h .0) ∙ (cc)
 
   marks-run : ws .size ≤ length list → marksWithin ws m l list ≡ marksAfter ws ones m l
   unfolding marksWithin

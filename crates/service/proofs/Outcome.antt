@@ -35,7 +35,8 @@ use Rattle.service.specs.declared.distance.Nearest.{Nearest}
 use Rattle.service.specs.declared.distance.Nearest.the-variants as Nearest
 use Rattle.service.specs.declared.crossing.Crossed.{Crossed}
 use Rattle.service.specs.declared.crossing.Crossed.the-variants as Crossed
-use Rattle.service.specs.Questions.{fewestOf, nearestBy, nearestOf, crossedBy, crossedOf, listedAt, withinOf, marksWithin, lengthsWithin, listBy, listWithin}
+use Rattle.service.specs.Questions.{fewestOf, nearestBy, nearestOf, crossedBy, crossedOf, listedAt}
+use Rattle.service.specs.Questions.{withinOf, marksWithin, lengthsWithin, listBy, listWithin}
 use Rattle.service.specs.Pass.{Fits, Sizes, noted, Holds, Notes, fewestIn, answerBy}
 use Rattle.service.specs.Pairs.{«LENGTHS», distanceIn, lengthIn, pairOf, Pairs, listedBy, byLowest, answerIn, lengthsIn, listIn}
 use Rattle.service.proofs.Sizes.{run-many}
@@ -94,7 +95,8 @@ module _ (m l : List ℕ) (a : FillAsks m l) where
             omega (arith, k .each w (omega arith) (omega (arith, entering .as-long l, inside)), d, a .held .lent .few)
 
 -- the list, the lengths and the answer by pairs l′ of the entries in l, of which r is the lowest that is invalid
-module _ (m l : List ℕ) (a : FillAsks m l) (d : ℕ) (list : List ℕ) (long : length l ≤ length list) {l′ : List ℕ} {r : ℕ} (k : Pairs l l′ r) (same : length l′ ≡ length l) where
+module _ (m l : List ℕ) (a : FillAsks m l) (d : ℕ) (list : List ℕ) (long : length l ≤ length list)
+    {l′ : List ℕ} {r : ℕ} (k : Pairs l l′ r) (same : length l′ ≡ length l) where
   abbrev es : List ℕ
   es = entries l
 
@@ -107,7 +109,9 @@ module _ (m l : List ℕ) (a : FillAsks m l) (d : ℕ) (list : List ℕ) (long :
   -- a reachable word is bad
   module _ (h : r < length l) where
     refused : {A : Type 0} (x y : A) → x ≡ byLowest es x y
-    refused x y = let z : lowestBy (length es) (entrySteps es) < length es = omega (arith, n, k .lowest-invalid) in rw (lt-ltb (lowestBy (length es) (entrySteps es)) (length es) z)
+    refused x y =
+        let z : lowestBy (length es) (entrySteps es) < length es = omega (arith, n, k .lowest-invalid) in
+        rw (lt-ltb (lowestBy (length es) (entrySteps es)) (length es) z)
 
     pub listing-refused : {l″ : List ℕ} → l″ ≡ replicate (length l) 0 ++ drop (length l) l′ → Listing (answer «REACHES_INVALID» r) l″ list
     listing-refused {l″} e = (
@@ -126,7 +130,9 @@ module _ (m l : List ℕ) (a : FillAsks m l) (d : ℕ) (list : List ℕ) (long :
   -- none is
   module _ (h : length l ≤ r) where
     accepted : {A : Type 0} (x y : A) → y ≡ byLowest es x y
-    accepted x y = let z : length es ≤ lowestBy (length es) (entrySteps es) = omega (arith, n, k .lowest-invalid) in rw (le-ltb (lowestBy (length es) (entrySteps es)) (length es) z)
+    accepted x y =
+        let z : length es ≤ lowestBy (length es) (entrySteps es) = omega (arith, n, k .lowest-invalid) in
+        rw (le-ltb (lowestBy (length es) (entrySteps es)) (length es) z)
 
     pub listing-accepted : {e : ℕ} {l″ list′ : List ℕ} → e ≡ min d 65535 → l″ ≡ tabulate (lengthIn l′) 0 (length l′)
         → list′ ≡ over (λ p. listedBy e (distanceIn l′ p)) (length l′) list → Listing (answer «ACCEPTED» 0) l″ list′
@@ -141,7 +147,10 @@ module _ (m l : List ℕ) (a : FillAsks m l) (d : ℕ) (list : List ℕ) (long :
             ∙ ap (lengthIn l′) (omega arith) ∙ ap (λ (z : ℕ). z % «LENGTHS») (pair p h) ∙ pair-length (graphIn es) (a .held .law) (a .held .lent .few) p
 
         lengths : l″ ≡ tabulate (lengthOf (graphIn es) unitWeight) 0 (length es)
-        lengths = over-laws .whole (lengthOf (graphIn es) unitWeight) (length es) l″ (ap length x ∙ over-laws .length-tabulate (lengthIn l′) 0 (length l′) ∙ same ∙ sym n) length-at
+        lengths =
+            over-laws .whole (lengthOf (graphIn es) unitWeight) (length es) l″
+            (ap length x ∙ over-laws .length-tabulate (lengthIn l′) 0 (length l′) ∙ same ∙ sym n)
+            length-at
 
         by : ℕ → ℕ
         by p = listedBy e (distanceIn l′ p)
@@ -179,14 +188,16 @@ module _ (version : Version) (words m l : List ℕ) (s : Searched (scriptOf vers
     pub nearest-refused : (w : ℕ) {k p : ℕ} → r ≡ Run.Refused k p → Nearest.Refused k p ≡ nearestBy (decided script ones) script w
     nearest-refused w h = ap (λ (x : Run). nearestBy x script w) (sym h ∙ d .answer)
 
-    pub nearest-accepted : (w : ℕ) {a b : ℕ} {x : Nearest} → r ≡ Run.Accepted a b → x ≡ fewestIn (graphIn (entries l)) w → x ≡ nearestBy (decided script ones) script w
+    pub nearest-accepted : (w : ℕ) {a b : ℕ} {x : Nearest} → r ≡ Run.Accepted a b
+        → x ≡ fewestIn (graphIn (entries l)) w → x ≡ nearestBy (decided script ones) script w
     unfolding fewestOf
     nearest-accepted w h e = e ∙ ap (λ (g : Graph). fewestIn g w) graph-is ∙ ap (λ (x : Run). nearestBy x script w) (sym h ∙ d .answer)
 
     pub crossed-refused : (w : ℕ) {k p : ℕ} → r ≡ Run.Refused k p → Crossed.Refused k p ≡ crossedBy (decided script ones) script w
     crossed-refused w h = ap (λ (x : Run). crossedBy x script w) (sym h ∙ d .answer)
 
-    pub crossed-accepted : (w : ℕ) {a b x : ℕ} → r ≡ Run.Accepted a b → x ≡ crossingOf (graphIn (entries l)) w → Crossed.Count x ≡ crossedBy (decided script ones) script w
+    pub crossed-accepted : (w : ℕ) {a b x : ℕ} → r ≡ Run.Accepted a b → x ≡ crossingOf (graphIn (entries l)) w
+        → Crossed.Count x ≡ crossedBy (decided script ones) script w
     crossed-accepted w h e = ap Crossed.Count (e ∙ ap (λ (g : Graph). crossingOf g w) graph-is) ∙ ap (λ (x : Run). crossedBy x script w) (sym h ∙ d .answer)
 
   size-is : length (entries l) ≡ script .size
@@ -206,7 +217,9 @@ module _ (version : Version) (words m l : List ℕ) (s : Searched (scriptOf vers
     where
       go : (b : Bool)
           → cond b (answer «REACHES_INVALID» (lowestInvalid script)) (answer «ACCEPTED» 0)
-          ≡ answerBy (refuseIf b (Run.Refused «REACHES_INVALID» (lowestInvalid script)) (Run.Accepted (longest (graphOf script) (weightOf script ones)) (first (graphOf script) (weightOf script ones))))
+          ≡ answerBy (refuseIf b (Run.Refused «REACHES_INVALID» (lowestInvalid script))
+          (Run.Accepted (longest (graphOf script) (weightOf script ones))
+          (first (graphOf script) (weightOf script ones))))
       go true = refl
       go false = refl
 
@@ -221,8 +234,14 @@ module _ (version : Version) (words m l : List ℕ) (s : Searched (scriptOf vers
       zeros : ℕ → List ℕ
       zeros n = tabulate (λ p. 0) 0 n
 
-      a : lengthsIn (entries l) ≡ cond (ltb (lowestInvalid script) (length (entries l))) (zeros (length (entries l))) (tabulate (lengthOf (graphIn (entries l)) unitWeight) 0 (length (entries l)))
-      a = ap (λ (x : ℕ). cond (ltb x (length (entries l))) (zeros (length (entries l))) (tabulate (lengthOf (graphIn (entries l)) unitWeight) 0 (length (entries l)))) lowest-is
+      a : lengthsIn (entries l)
+          ≡ cond (ltb (lowestInvalid script) (length (entries l))) (zeros (length (entries l)))
+          (tabulate (lengthOf (graphIn (entries l)) unitWeight) 0 (length (entries l)))
+      a =
+          ap
+          (λ (x : ℕ). cond (ltb x (length (entries l))) (zeros (length (entries l)))
+          (tabulate (lengthOf (graphIn (entries l)) unitWeight) 0 (length (entries l))))
+          lowest-is
 
       by : Graph → (ℕ → ℕ) → ℕ → List ℕ
       by h v n = cond (ltb (lowestInvalid script) n) (zeros n) (tabulate (lengthOf h v) 0 n)
@@ -238,7 +257,11 @@ module _ (version : Version) (words m l : List ℕ) (s : Searched (scriptOf vers
 
       go : (b : Bool)
           → cond b (zeros (script .size)) (tabulate (lengthOf (graphOf script) (weightOf script ones)) 0 (script .size))
-          ≡ cond (eqb (numberOf (refuseIf b (Run.Refused «REACHES_INVALID» (lowestInvalid script)) (Run.Accepted (longest (graphOf script) (weightOf script ones)) (first (graphOf script) (weightOf script ones))))) «ACCEPTED»)
+          ≡ cond (eqb
+          (numberOf (refuseIf b (Run.Refused «REACHES_INVALID» (lowestInvalid script))
+          (Run.Accepted (longest (graphOf script) (weightOf script ones))
+          (first (graphOf script) (weightOf script ones)))))
+          «ACCEPTED»)
           (tabulate (lengthOf (graphOf script) (weightOf script ones)) 0 (script .size)) (zeros (script .size))
       go true = refl
       go false = refl
@@ -252,7 +275,11 @@ module _ (version : Version) (words m l : List ℕ) (s : Searched (scriptOf vers
     where
       go : (b : Bool)
           → cond b list (over (listedAt (graphOf script) d) (script .size) list)
-          ≡ listBy (refuseIf b (Run.Refused «REACHES_INVALID» (lowestInvalid script)) (Run.Accepted (longest (graphOf script) (weightOf script ones)) (first (graphOf script) (weightOf script ones)))) script d list
+          ≡ listBy
+          (refuseIf b (Run.Refused «REACHES_INVALID» (lowestInvalid script))
+          (Run.Accepted (longest (graphOf script) (weightOf script ones))
+          (first (graphOf script) (weightOf script ones))))
+          script d list
       go true = refl
       go false = refl
 
@@ -260,7 +287,8 @@ module _ (version : Version) (words m l : List ℕ) (s : Searched (scriptOf vers
 module _ (ws : Script) (d : ℕ) (m l list : List ℕ) where
   abbrev pub Listed : Answer → List ℕ → List ℕ → List ℕ → Type 0
   Listed x m′ l′ list′ =
-      (x ≡ withinOf ws (length m) (length l) (length list)) × ((m′ ≡ marksWithin ws m l list) × ((l′ ≡ lengthsWithin ws m l list) × (list′ ≡ listWithin ws d m l list)))
+      (x ≡ withinOf ws (length m) (length l) (length list)) × ((m′ ≡ marksWithin ws m l list)
+      × ((l′ ≡ lengthsWithin ws m l list) × (list′ ≡ listWithin ws d m l list)))
 
   pub within-many : mostWords < ws .size → Listed (answer «TOO_MANY_WORDS» 0) m l list
   unfolding withinOf marksWithin lengthsWithin listWithin

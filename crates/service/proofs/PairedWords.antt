@@ -60,7 +60,8 @@ module _ (l : List ℕ) (p : ℕ) where
     pair-next = pair-target (p + 1) (let e : beyondOf (p + 1) ≡ getD l (p + 1) 0 = rw (going p (p + 1) (omega arith)) in next ∙ sym e)
 
     -- two steps: r joins the pairs of both
-    module _ (t x r : ℕ) (e : x ≡ beyondOf t) (d : r / «LENGTHS» ≡ min (a / «LENGTHS») (x / «LENGTHS»)) (k : r % «LENGTHS» ≡ max (a % «LENGTHS») (x % «LENGTHS»)) (es : List ℕ) where
+    module _ (t x r : ℕ) (e : x ≡ beyondOf t) (d : r / «LENGTHS» ≡ min (a / «LENGTHS») (x / «LENGTHS»))
+        (k : r % «LENGTHS» ≡ max (a % «LENGTHS») (x % «LENGTHS»)) (es : List ℕ) where
       abbrev pub Joined : Successors → Type 0
       Joined s = r + 65537 ≡ pairBy es l p (listOf s)
 
@@ -95,7 +96,8 @@ module _ (m l : List ℕ) (p i : ℕ) where
   pub paired-none : getD m p 0 ≡ 0 → Paired m l p i 0 i
   paired-none e = record { pair-is = λ es. simp (eq-eqb (getD m p 0) 0 e); invalid-is = simp (eq-eqb (getD m p 0) 0 e) }
 
-  pub paired-by : (getD m p 0 ≡ 0 → ⊥) → {s : Successors} {v i′ : ℕ} → stepsIn l p ≡ s → ((es : List ℕ) → v ≡ pairBy es l p (listOf s)) → i′ ≡ cond (isInvalid s) p i
+  pub paired-by : (getD m p 0 ≡ 0 → ⊥) → {s : Successors} {v i′ : ℕ} → stepsIn l p ≡ s
+      → ((es : List ℕ) → v ≡ pairBy es l p (listOf s)) → i′ ≡ cond (isInvalid s) p i
       → Paired m l p i v i′
   paired-by n e k d = record { pair-is = λ es. simp (ne-eqb (getD m p 0) 0 n, e) (k es); invalid-is = simp (ne-eqb (getD m p 0) 0 n, e) d }
 
@@ -108,7 +110,9 @@ module _ (m l : List ℕ) (p i : ℕ) where
     beyond-few t {x} e =
         ⊎-elim
         (λ h. let z : x ≡ 0 = e ∙ ap (λ (b : Bool). cond b 0 (getD l t 0)) (entering .serving p t .1 h) in (omega (arith, z), omega (arith, z)))
-        (λ h. let z : x ≡ getD l t 0 = e ∙ ap (λ (b : Bool). cond b 0 (getD l t 0)) (going p t h) in (omega (arith, z, k .near t h), omega (arith, z, k .low t h)))
+        (λ h.
+        let z : x ≡ getD l t 0 = e ∙ ap (λ (b : Bool). cond b 0 (getD l t 0)) (going p t h) in
+        (omega (arith, z, k .near t h), omega (arith, z, k .low t h)))
         (split t p)
 
 -- the parts of a pair

@@ -259,7 +259,13 @@ read-enough : (room k more : ℕ) (text : List ℕ) → readFrom room k (take (1
 read-enough zero k more text = rw (empty (11 * 0 + (more + 1)) text (omega arith))
 read-enough (suc room) k more text =
     let e : 11 * suc room + (more + 1) ≡ 11 + (11 * room + (more + 1)) = omega arith in
-    rw (e, empty (11 + (11 * room + (more + 1))) text (omega arith), take-take 11 (11 + (11 * room + (more + 1))) text (omega arith), drop-take 11 (11 * room + (more + 1)) text, read-enough room (k + 1) more (drop 11 text))
+    rw (
+      e,
+      empty (11 + (11 * room + (more + 1))) text (omega arith),
+      take-take 11 (11 + (11 * room + (more + 1))) text (omega arith),
+      drop-take 11 (11 * room + (more + 1)) text,
+      read-enough room (k + 1) more (drop 11 text),
+    )
 
 enough : (room more : ℕ) (text : List ℕ) → sheetOf room (take (11 * room + (more + 1)) text) ≡ sheetOf room text
 unfolding sheetOf

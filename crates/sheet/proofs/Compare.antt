@@ -98,16 +98,31 @@ matches-is : (text : List ℕ) (at k v : ℕ) → at + k ≤ length text
 unfolding matches leading
 matches-is text at zero v h = refl
 matches-is text at (suc k) v h =
-    sym (rw (more text at k h, same-snoc (take k (drop at text)) (leading k (v / 10)) (getD text (at + k) 0) (glyphOf v) (part-length text at k (omega arith) ∙ sym (length-leading k (v / 10))))
+    sym
+    (rw (
+      more text at k h,
+      same-snoc (take k (drop at text)) (leading k (v / 10)) (getD text (at + k) 0)
+          (glyphOf v) (part-length text at k (omega arith) ∙ sym (length-leading k (v / 10))),
+    )
     (rw (matches-is text at k (v / 10) (omega arith)) refl))
 
 -- the three tests of a line
 module _ (text : List ℕ) (at v : ℕ) (h : at + 11 ≤ length text) where
-  shows-is : sameBytes (take 11 (drop at text)) (lineOf v) ≡ (eqb (getD text (at + 10) 0) 10 && (eqb (getD text (at + 9) 0) (digitOf v) && matches text at 9 (v / 10)))
+  shows-is : sameBytes (take 11 (drop at text)) (lineOf v) ≡ (eqb (getD text (at + 10) 0) 10
+      && (eqb (getD text (at + 9) 0) (digitOf v) && matches text at 9 (v / 10)))
   unfolding lineOf columns
   shows-is =
-      rw (more text at 10 h, same-snoc (take 10 (drop at text)) (columns 10 v) (getD text (at + 10) 0) 10 (part-length text at 10 (omega arith) ∙ sym (length-columns 10 v)))
-      (rw (more text at 9 (omega arith), same-snoc (take 9 (drop at text)) (leading 9 (v / 10)) (getD text (at + 9) 0) (digitOf v) (part-length text at 9 (omega arith) ∙ sym (length-leading 9 (v / 10))), matches-is text at 9 (v / 10) (omega arith)))
+      rw (
+        more text at 10 h,
+        same-snoc (take 10 (drop at text)) (columns 10 v) (getD text (at + 10) 0) 10
+            (part-length text at 10 (omega arith) ∙ sym (length-columns 10 v)),
+      )
+      (rw (
+        more text at 9 (omega arith),
+        same-snoc (take 9 (drop at text)) (leading 9 (v / 10)) (getD text (at + 9) 0) (digitOf v)
+            (part-length text at 9 (omega arith) ∙ sym (length-leading 9 (v / 10))),
+        matches-is text at 9 (v / 10) (omega arith),
+      ))
 
   pub no-newline : (getD text (at + 10) 0 ≡ 10 → ⊥) → false ≡ sameBytes (take 11 (drop at text)) (lineOf v)
   no-newline n = sym (shows-is ∙ rw (ne-eqb (getD text (at + 10) 0) 10 n))

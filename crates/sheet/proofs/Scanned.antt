@@ -62,7 +62,13 @@ pub words-more : (text : List ℕ) (k : ℕ) (table : List ℕ) → k < length t
     → set (sheetWords text k ++ drop k table) k (sheetWordAt text k) ≡ sheetWords text (k + 1) ++ drop (k + 1) table
 unfolding sheetWords
 words-more text k table h =
-    rw (add-one k, drop-cons table k 0 h, set-at (sheetWords text k) (getD table k 0) (drop (suc k) table) (sheetWordAt text k) k (length-words text k), append-snoc)
+    rw (
+      add-one k,
+      drop-cons table k 0 h,
+      set-at (sheetWords text k) (getD table k 0) (drop (suc k) table) (sheetWordAt text k) k
+          (length-words text k),
+      append-snoc,
+    )
 
 -- ---- the table
 

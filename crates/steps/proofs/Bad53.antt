@@ -11,7 +11,9 @@ use lib.ListN.{length, getD, List·getD-eq-default}
 use borrow.Author.Tests.{lt-ltb, ltb-false, eqb-true}
 use Rattle.fields.specs.Opcodes53.{«OP_JMP», «OP_TFORLOOP», «OP_EXTRAARG»}
 use Rattle.fields.specs.Word53.{opcodeOf, aOf, cOf, sbxOf}
-use Rattle.fields.specs.Table53.{StepClass, following, returning, branching, comparing, skipping, skippingIfC, skippingUnlessC, jumping, looping, invalid, classNumber, classOf, Companion, alone, jumpAfter, extraAfter, extraAfterUnlessC, loopAfter, companionOf}
+use Rattle.fields.specs.Table53.{StepClass, following, returning, branching, comparing, skipping, skippingIfC}
+use Rattle.fields.specs.Table53.{skippingUnlessC, jumping, looping, invalid, classNumber, classOf, Companion}
+use Rattle.fields.specs.Table53.{alone, jumpAfter, extraAfter, extraAfterUnlessC, loopAfter, companionOf}
 use Rattle.fields.specs.Laws.{all}
 use Rattle.fields.proofs.Laws.{laws}
 use Rattle.sweep.specs.declared.edges.Successors.{Successors}
@@ -20,7 +22,9 @@ use Rattle.steps.specs.Columns53.{classFrom}
 use Rattle.sweep.specs.Steps.{unless, isInvalid, listOf}
 use Rattle.steps.specs.Successors53.{opcodeAt, nextOf, standsAt, companionPresent, successorsOf}
 use Rattle.steps.specs.Ways.{integers}
-use Rattle.steps.specs.Bad53.{opcode, aboveOne, zeroC, sbx, between, nextIs, returns, skips, jumps, loops, tests, nextWords, anyOutside, unknown, lacksJump, lacksExtra, lacksLoop, isBad, ByNumber}
+use Rattle.steps.specs.Bad53.{opcode, aboveOne, zeroC, sbx, between, nextIs, returns, skips, jumps}
+use Rattle.steps.specs.Bad53.{loops, tests, nextWords, anyOutside, unknown, lacksJump, lacksExtra}
+use Rattle.steps.specs.Bad53.{lacksLoop, isBad, ByNumber}
 use Rattle.steps.proofs.Columns53.{class-back}
 use Rattle.sweep.proofs.Steps.{let-through}
 use Rattle.steps.proofs.NextWords.{Same, itself, one-by, two-same}
@@ -196,7 +200,8 @@ module _ (ws : List ℕ) (p : ℕ) where
   nexts : isNone (classOf (opcode w)) ≡ false → nextOf (classOf (opcode w)) n w p ≡ stepsTo n (nextWords w p)
   nexts e =
       class-steps n w p (classOf (opcode w)) e
-      ∙ ap (stepsTo n) (ap (listAt n w p) (place-is (opcode w) fits e (zeroC w) (aboveOne w)) ∙ list-is n w p (returns w) (skips w) (jumps w) (loops w) (tests w))
+      ∙ ap (stepsTo n) (ap (listAt n w p) (place-is (opcode w) fits e (zeroC w) (aboveOne w))
+      ∙ list-is n w p (returns w) (skips w) (jumps w) (loops w) (tests w))
 
   by-class : (t : Bool) → isNone (classOf (opcode w)) ≡ t
       → unless (standsAt (companionOf (opcode w)) ws p) (nextOf (classOf (opcode w)) n w p) ≡ unless (not wrong) (stepsTo n (nextWords w p))
@@ -238,7 +243,8 @@ steps :
     (ws : List ℕ) (p : ℕ) → p < length ws → isBad ws p ≡ false → Same (nextWords (getD ws p 0) p) (integers (listOf (successorsOf ws p)))
 steps ws p h e =
     let on = let-on (stepsTo (length ws) (nextWords (getD ws p 0) p)) (wrong ws p) _ e (some-outside (length ws) (getD ws p 0) p) in
-    subst (λ (s : Successors). Same (nextWords (getD ws p 0) p) (integers (listOf s))) (sym (by-number ws p h ∙ on .0)) (same-words (length ws) (getD ws p 0) p (on .1))
+    subst (λ (s : Successors). Same (nextWords (getD ws p 0) p) (integers (listOf s)))
+    (sym (by-number ws p h ∙ on .0)) (same-words (length ws) (getD ws p 0) p (on .1))
 
 pub by-numbers : ByNumber
 by-numbers = record { bad = bad; steps = steps }

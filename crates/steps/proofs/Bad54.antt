@@ -9,7 +9,10 @@ use lib.IntN.{ℤ, pos, _+ℤ_, _-ℤ_}
 use lib.ListN.{length, getD, List·getD-eq-default}
 use borrow.Author.Tests.{lt-ltb, ltb-false, eqb-true}
 use Rattle.fields.specs.Word.{opcodeOf, kOf, bxOf, sjOf}
-use Rattle.fields.specs.Table.{StepClass, following, returning, branching, skipping, skippingIfK, jumping, looping, preparing, entering, invalid, classNumber, classOf, Companion, alone, metamethodAfter, arithmeticBefore, jumpAfter, extraAfter, extraAfterIfK, callAtTarget, loopAfter, companionNumber, companionOf}
+use Rattle.fields.specs.Table.{StepClass, following, returning, branching, skipping, skippingIfK, jumping}
+use Rattle.fields.specs.Table.{looping, preparing, entering, invalid, classNumber, classOf, Companion, alone}
+use Rattle.fields.specs.Table.{metamethodAfter, arithmeticBefore, jumpAfter, extraAfter, extraAfterIfK}
+use Rattle.fields.specs.Table.{callAtTarget, loopAfter, companionNumber, companionOf}
 use Rattle.fields.specs.Laws.{all}
 use Rattle.fields.proofs.Laws.{laws}
 use Rattle.sweep.specs.declared.edges.Successors.{Successors}
@@ -30,7 +33,8 @@ module _ {A : Type 0} where
   abbrev firstOf : Bool → Bool → Bool → Bool → Bool → Bool → Bool → A → A → A → A → A → A → A → A → A
   firstOf s t u v w x y a b c d e f g h = cond s a (cond t b (cond u c (cond v d (cond w e (cond x f (cond y g h))))))
 
-  first-holds : (P : A → Type 0) (s t u v w x y : Bool) {a b c d e f g h : A} → P a → P b → P c → P d → P e → P f → P g → P h → P (firstOf s t u v w x y a b c d e f g h)
+  first-holds : (P : A → Type 0) (s t u v w x y : Bool) {a b c d e f g h : A} → P a → P b → P c → P d → P e
+      → P f → P g → P h → P (firstOf s t u v w x y a b c d e f g h)
   first-holds P true t u v w x y pa pb pc pd pe pf pg ph = pa
   first-holds P false true u v w x y pa pb pc pd pe pf pg ph = pb
   first-holds P false false true v w x y pa pb pc pd pe pf pg ph = pc
@@ -88,12 +92,19 @@ module _ (o : ℕ) (below : o < 128) where
   none-is = agreed _ _ (parts .0)
 
   unwanted : leb 82 o ≡ true → wanting o 1 1 1 1 1 1 1 0 ≡ 0
-  unwanted e = eqb→eq _ _ (subst (λ (t : Bool). T (cond t (eqb (wanting o 1 1 1 1 1 1 1 0) 0) (eqb (companionNumber (companionOf o)) (wanting o 1 2 3 4 5 6 7 0)))) e (parts .1))
+  unwanted e =
+      eqb→eq _ _ (subst
+      (λ (t : Bool). T (cond t (eqb (wanting o 1 1 1 1 1 1 1 0) 0)
+      (eqb (companionNumber (companionOf o)) (wanting o 1 2 3 4 5 6 7 0))))
+      e (parts .1))
 
   wanted : leb 82 o ≡ false → companionOf o ≡ companionFrom (wanting o 1 2 3 4 5 6 7 0)
   wanted e =
       sym (companion-back (companionOf o))
-      ∙ ap companionFrom (eqb→eq _ _ (subst (λ (t : Bool). T (cond t (eqb (wanting o 1 1 1 1 1 1 1 0) 0) (eqb (companionNumber (companionOf o)) (wanting o 1 2 3 4 5 6 7 0)))) e (parts .1)))
+      ∙ ap companionFrom (eqb→eq _ _ (subst
+      (λ (t : Bool). T (cond t (eqb (wanting o 1 1 1 1 1 1 1 0) 0)
+      (eqb (companionNumber (companionOf o)) (wanting o 1 2 3 4 5 6 7 0))))
+      e (parts .1)))
 
 twice : (t : Bool) → t ≡ not (not t)
 twice true = refl
@@ -308,7 +319,8 @@ module _ (n w p : ℕ) where
 
   same-words : isInvalid (stepsTo n (nextWords w p)) ≡ false → Same (nextWords w p) (integers (listOf (stepsTo n (nextWords w p))))
   same-words =
-      every (λ zs. isInvalid (stepsTo n zs) ≡ false → Same zs (integers (listOf (stepsTo n zs)))) (λ e. itself []) (λ z. one-by n z z refl) (λ z y. two-same n z y)
+      every (λ zs. isInvalid (stepsTo n zs) ≡ false → Same zs (integers (listOf (stepsTo n zs))))
+      (λ e. itself []) (λ z. one-by n z z refl) (λ z y. two-same n z y)
 
 bad : (ws : List ℕ) (p : ℕ) → p < length ws → isInvalid (successorsOf ws p) ≡ isBad ws p
 bad ws p h =
@@ -320,7 +332,8 @@ steps :
     (ws : List ℕ) (p : ℕ) → p < length ws → isBad ws p ≡ false → Same (nextWords (getD ws p 0) p) (integers (listOf (successorsOf ws p)))
 steps ws p h e =
     let on = let-on (stepsTo (length ws) (nextWords (getD ws p 0) p)) (lacks ws p) _ e (some-outside (length ws) (getD ws p 0) p) in
-    subst (λ (s : Successors). Same (nextWords (getD ws p 0) p) (integers (listOf s))) (sym (by-number ws p h ∙ on .0)) (same-words (length ws) (getD ws p 0) p (on .1))
+    subst (λ (s : Successors). Same (nextWords (getD ws p 0) p) (integers (listOf s)))
+    (sym (by-number ws p h ∙ on .0)) (same-words (length ws) (getD ws p 0) p (on .1))
 
 pub by-numbers : ByNumber
 by-numbers = record { bad = bad; steps = steps }

@@ -6,7 +6,10 @@ use mathlib.Core.List.{List}
 use native.Mathlib.Omega.{arith}
 use lib.ListN.{getD, List·getD-eq-default}
 use Rattle.fields.specs.Word.{opcodeOf}
-use Rattle.fields.specs.Table.{StepClass, following, returning, branching, skipping, skippingIfK, jumping, looping, preparing, entering, invalid, classNumber, classOf, Companion, alone, metamethodAfter, arithmeticBefore, jumpAfter, extraAfter, extraAfterIfK, callAtTarget, loopAfter, companionNumber, companionOf, opcodeTable}
+use Rattle.fields.specs.Table.{StepClass, following, returning, branching, skipping, skippingIfK, jumping}
+use Rattle.fields.specs.Table.{looping, preparing, entering, invalid, classNumber, classOf, Companion, alone}
+use Rattle.fields.specs.Table.{metamethodAfter, arithmeticBefore, jumpAfter, extraAfter, extraAfterIfK}
+use Rattle.fields.specs.Table.{callAtTarget, loopAfter, companionNumber, companionOf, opcodeTable}
 use Rattle.fields.specs.Packed.{companionAndClass}
 use Rattle.fields.proofs.Laws.{laws}
 use Rattle.steps.specs.Successors.{opcodeAt}

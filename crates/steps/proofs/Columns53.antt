@@ -5,7 +5,10 @@ use mathlib.Core.Path.{_≡_, refl, ap, _∙_}
 use mathlib.Core.List.{List}
 use lib.ListN.{getD, List·getD-eq-default}
 use Rattle.fields.specs.Word53.{opcodeOf}
-use Rattle.fields.specs.Table53.{StepClass, following, returning, branching, comparing, skipping, skippingIfC, skippingUnlessC, jumping, looping, invalid, classNumber, classOf, Companion, alone, jumpAfter, extraAfter, extraAfterUnlessC, loopAfter, companionNumber, companionOf, companionAndClass}
+use Rattle.fields.specs.Table53.{StepClass, following, returning, branching, comparing, skipping, skippingIfC}
+use Rattle.fields.specs.Table53.{skippingUnlessC, jumping, looping, invalid, classNumber, classOf, Companion}
+use Rattle.fields.specs.Table53.{alone, jumpAfter, extraAfter, extraAfterUnlessC, loopAfter, companionNumber}
+use Rattle.fields.specs.Table53.{companionOf, companionAndClass}
 use Rattle.fields.proofs.Laws.{laws}
 use Rattle.steps.specs.Successors53.{opcodeAt}
 use Rattle.steps.specs.Columns53.{classes, classFrom, companions, companionFrom}

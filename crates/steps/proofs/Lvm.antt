@@ -15,14 +15,18 @@ use Rattle.fields.specs.declared.word.RawInstruction54.{RawInstruction54}
 use Rattle.fields.specs.Opcodes.{«OP_JMP», «OP_TFORCALL», «OP_TFORLOOP»}
 use Rattle.fields.specs.Word.{opcodeOf, kOf, bxOf, sjOf}
 use Rattle.fields.specs.Lopcodes.{«GET_OPCODE», «GETARG_Bx», «GETARG_sJ», «TESTARG_k»}
-use Rattle.fields.specs.Table.{StepClass, following, returning, branching, skipping, skippingIfK, jumping, looping, preparing, entering, invalid, classNumber, classOf, Companion, alone, jumpAfter, callAtTarget, loopAfter, companionNumber, companionOf}
+use Rattle.fields.specs.Table.{StepClass, following, returning, branching, skipping, skippingIfK, jumping}
+use Rattle.fields.specs.Table.{looping, preparing, entering, invalid, classNumber, classOf, Companion, alone}
+use Rattle.fields.specs.Table.{jumpAfter, callAtTarget, loopAfter, companionNumber, companionOf}
 use Rattle.fields.specs.Laws.{all}
 use Rattle.fields.proofs.Laws.{laws}
 use Rattle.steps.specs.Columns.{classFrom, companionFrom}
 use Rattle.sweep.specs.Steps.{one, isInvalid, listOf}
 use Rattle.steps.specs.Successors.{opcodeAt, nextOf, standsAt, companionPresent, successorsOf}
 use Rattle.steps.specs.Executions.{gosOf, leading}
-use Rattle.steps.specs.Lvm.{Go, vmbreak, «pc++», «pc++-if-k», jump, donextjump, «pc-=Bx», «pc+=Bx+1», «goto-l_tforcall», «goto-l_tforloop», leave, Body, bodyOf, l_tforcall, jmp, dojump, onward, bodyAt, waysAt, goesOn, Agreement}
+use Rattle.steps.specs.Lvm.{Go, vmbreak, «pc++», «pc++-if-k», jump, donextjump, «pc-=Bx», «pc+=Bx+1»}
+use Rattle.steps.specs.Lvm.{«goto-l_tforcall», «goto-l_tforloop», leave, Body, bodyOf, l_tforcall, jmp}
+use Rattle.steps.specs.Lvm.{dojump, onward, bodyAt, waysAt, goesOn, Agreement}
 use Rattle.steps.specs.Ways.{Way, fetch, targetsOf, integers, Alike}
 use Rattle.steps.proofs.Columns.{class-back, companion-back}
 use Rattle.steps.proofs.NextWords.{Same, itself, one-by, two-by, two-back}
@@ -198,7 +202,9 @@ present ws p e = second-held (ltb p (length ws)) (companionPresent ws p) (nextOf
 -- and so is the one that its case leans on
 lean : (ws : List ℕ) (p : ℕ) → isInvalid (successorsOf ws p) ≡ false → standsAt (wantedBy (shapeAt (opcodeAt ws p))) ws p ≡ true
 lean ws p e =
-    leans-below companionNumber companionFrom companion-back (λ c. standsAt c ws p) alone refl refl (λ o. wantedBy (shapeAt o)) companionOf 128 wants-below (opcodeAt ws p) (opcode-fits ws p) (present ws p e)
+    leans-below companionNumber companionFrom companion-back (λ c. standsAt c ws p) alone refl refl
+    (λ o. wantedBy (shapeAt o)) companionOf 128 wants-below (opcodeAt ws p) (opcode-fits ws p)
+    (present ws p e)
 
 -- where the case of a JMP leads
 jump-ways : (ws : List ℕ) (q : ℕ) → bodyAt ws q ≡ jmp → waysAt ws q ≡ fetch (dojump (pos (q + 1)) (getD ws q 0) (pos 0)) ∷ []

@@ -14,14 +14,19 @@ use Rattle.fields.specs.declared.word53.RawInstruction53.{RawInstruction53}
 use Rattle.fields.specs.Opcodes53.{«OP_JMP», «OP_TFORLOOP»}
 use Rattle.fields.specs.Word53.{opcodeOf, aOf, cOf, sbxOf}
 use Rattle.fields.specs.Lopcodes53.{«GET_OPCODE», «GETARG_A», «GETARG_C», «GETARG_sBx»}
-use Rattle.fields.specs.Table53.{StepClass, following, returning, branching, comparing, skipping, skippingIfC, skippingUnlessC, jumping, looping, invalid, classNumber, classOf, Companion, alone, jumpAfter, loopAfter, companionNumber, companionOf}
+use Rattle.fields.specs.Table53.{StepClass, following, returning, branching, comparing, skipping, skippingIfC}
+use Rattle.fields.specs.Table53.{skippingUnlessC, jumping, looping, invalid, classNumber, classOf, Companion}
+use Rattle.fields.specs.Table53.{alone, jumpAfter, loopAfter, companionNumber, companionOf}
 use Rattle.fields.specs.Laws.{all}
 use Rattle.fields.proofs.Laws.{laws}
 use Rattle.steps.specs.Columns53.{classFrom, companionFrom}
 use Rattle.sweep.specs.Steps.{one, two, isInvalid, listOf}
 use Rattle.steps.specs.Successors53.{opcodeAt, nextOf, standsAt, companionPresent, successorsOf}
 use Rattle.steps.specs.Executions.{gosOf, leading}
-use Rattle.steps.specs.Lvm53.{Go, vmbreak, «pc++», «pc++-if-C», «pc++-if-not-C», jump, donextjump, compared-0, compared-1, «pc+=sBx», «goto-l_tforloop», leave, Body, bodyOf, jmp, dojump, nextjump, compared, onward, bodyAt, waysAt, goesOn, Agreement}
+use Rattle.steps.specs.Lvm53.{Go, vmbreak, «pc++», «pc++-if-C», «pc++-if-not-C», jump, donextjump}
+use Rattle.steps.specs.Lvm53.{compared-0, compared-1, «pc+=sBx», «goto-l_tforloop», leave, Body, bodyOf}
+use Rattle.steps.specs.Lvm53.{jmp, dojump, nextjump, compared, onward, bodyAt, waysAt, goesOn}
+use Rattle.steps.specs.Lvm53.{Agreement}
 use Rattle.steps.specs.Ways.{Way, fetch, targetsOf, integers, Alike}
 use Rattle.steps.proofs.Columns53.{class-back, companion-back}
 use Rattle.steps.proofs.NextWords.{Same, itself, one-by, twice-by, two-by, two-back}
@@ -217,7 +222,9 @@ present ws p e = second-held (ltb p (length ws)) (companionPresent ws p) (nextOf
 -- and so is the one that its case leans on
 lean : (ws : List ℕ) (p : ℕ) → isInvalid (successorsOf ws p) ≡ false → standsAt (wantedBy (shapeAt (opcodeAt ws p))) ws p ≡ true
 lean ws p e =
-    leans-below companionNumber companionFrom companion-back (λ c. standsAt c ws p) alone refl refl (λ o. wantedBy (shapeAt o)) companionOf 64 wants-below (opcodeAt ws p) (opcode-fits ws p) (present ws p e)
+    leans-below companionNumber companionFrom companion-back (λ c. standsAt c ws p) alone refl refl
+    (λ o. wantedBy (shapeAt o)) companionOf 64 wants-below (opcodeAt ws p) (opcode-fits ws p)
+    (present ws p e)
 
 -- where the case of a JMP leads
 jump-ways : (ws : List ℕ) (q : ℕ) → bodyAt ws q ≡ jmp → waysAt ws q ≡ fetch (dojump (pos (q + 1)) (getD ws q 0) (pos 0)) ∷ []

@@ -33,7 +33,8 @@ module _ {Go : Type 0} (from : ℕ → Go) (numbered : (go : Go) → (k : ℕ) �
   by-test (x ∷ xs) [] t = absurd t
   by-test (x ∷ xs) (y ∷ ys) t =
       let n : number x ≡ number y = eqb→eq (number x) (number y) (left-of (eqb (number x) (number y)) (same xs ys) t) in
-      ap₂ (λ (z : Go) (zs : List Go). z ∷ zs) (sym (numbered x .1) ∙ (ap from n ∙ numbered y .1)) (by-test xs ys (right-of (eqb (number x) (number y)) (same xs ys) t))
+      ap₂ (λ (z : Go) (zs : List Go). z ∷ zs) (sym (numbered x .1) ∙ (ap from n ∙ numbered y .1))
+      (by-test xs ys (right-of (eqb (number x) (number y)) (same xs ys) t))
 
   -- the first of some shapes that has a case's ways on
   module _ {Shape : Type 0} (gosBy : Shape → List Go) (none : Shape) (shapes : List Shape) where

@@ -9,7 +9,8 @@ use lib.ListN.{length, getD}
 use borrow.Author.Tests.{lt-ltb, le-ltb}
 use Rattle.common.specs.Limits.{mostWords}
 use Rattle.fields.specs.Word.{kOf}
-use Rattle.fields.specs.Table.{StepClass, following, returning, branching, skipping, skippingIfK, jumping, looping, preparing, entering, invalid, classOf, companionOf}
+use Rattle.fields.specs.Table.{StepClass, following, returning, branching, skipping, skippingIfK, jumping}
+use Rattle.fields.specs.Table.{looping, preparing, entering, invalid, classOf, companionOf}
 use Rattle.sweep.specs.declared.edges.Successors.the-variants.{Invalid}
 use Rattle.steps.specs.Columns.{classFrom, companionFrom}
 use Rattle.sweep.specs.Steps.{unless, one, Below}
@@ -25,7 +26,9 @@ module _ (ws : List ℕ) (p : ℕ) where
   outside h = rw (le-ltb p (length ws) h)
 
   -- within the words, by the numbers of the two columns
-  module _ (companion class : ℕ) (inside : p < length ws) (d : companionFrom companion ≡ companionOf (opcodeAt ws p)) (e : classFrom class ≡ classOf (opcodeAt ws p)) where
+  module _ (companion class : ℕ) (inside : p < length ws)
+      (d : companionFrom companion ≡ companionOf (opcodeAt ws p))
+      (e : classFrom class ≡ classOf (opcodeAt ws p)) where
     pub by-columns : unless (standsAt (companionFrom companion) ws p) (nextOf (classFrom class) (length ws) (getD ws p 0) p) ≡ successorsOf ws p
     unfolding successorsOf companionPresent
     by-columns = rw (d, e) (let-through (ltb p (length ws)) _ (lt-ltb p (length ws) inside))

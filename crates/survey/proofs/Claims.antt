@@ -11,12 +11,12 @@ use borrow.Author.Tests.{ltb-true, ltb-false}
 use Rattle.common.specs.Lists.{put, Counted}
 use Rattle.common.proofs.Put.{put-laws}
 use Rattle.common.specs.Limits.{mostBytes}
-use Rattle.chunk.specs.declared.reading.Refusal.{Refusal}
-use Rattle.chunk.specs.declared.reading.Refusal.the-variants.{Malformed}
-use Rattle.chunk.specs.Numbers.{refusalNumber, refusalPlace}
-use Rattle.chunk.specs.Reading.{Result, done, refused}
-use Rattle.chunk.specs.Lundump.{Function, undump}
-use Rattle.chunk.specs.Chunk.{chosen, countsOf}
+use Rattle.lundump.specs.declared.reading.Refusal.{Refusal}
+use Rattle.lundump.specs.declared.reading.Refusal.the-variants.{Malformed}
+use Rattle.lundump.specs.Numbers.{refusalNumber, refusalPlace}
+use Rattle.lundump.specs.Reading.{Result, done, refused}
+use Rattle.lundump.specs.Lundump.{Function, undump}
+use Rattle.lundump.specs.Chunk.{chosen, countsOf}
 use Rattle.chunk.specs.Laws.{Numbered}
 use Rattle.chunk.proofs.Laws.{laws}
 use Rattle.survey.specs.Lines.{lineHead, tailOf, onlyOf, functionText, runIn, functionLine}
@@ -26,7 +26,8 @@ use Rattle.survey.proofs.Columns.{length-head, length-tail, length-only
 length-done : (k : ℕ) (f : Function) (at : ℕ) → length (functionText k (done f at)) ≡ 24 + length (tailOf (runIn (f .words)))
 unfolding functionText
 length-done k f at =
-    length-append (lineHead k (countsOf (done f at))) (tailOf (runIn (f .words))) ∙ ap (λ (n : ℕ). n + length (tailOf (runIn (f .words)))) (length-head k (countsOf (done f at)))
+    length-append (lineHead k (countsOf (done f at))) (tailOf (runIn (f .words)))
+    ∙ ap (λ (n : ℕ). n + length (tailOf (runIn (f .words)))) (length-head k (countsOf (done f at)))
 
 length-refusal : (k : ℕ) (e : Refusal) → length (functionText k (refused e)) ≤ lineLength
 unfolding functionText

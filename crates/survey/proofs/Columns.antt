@@ -13,12 +13,12 @@ use Rattle.sheet.specs.declared.writing.Cell.{Cell}
 use Rattle.sheet.specs.declared.writing.Cell.the-variants.{Number, Dash}
 use Rattle.sheet.specs.Rows.{cellOf, pairOf}
 use Rattle.sheet.proofs.Laws.{laws as sheet-laws}
-use Rattle.chunk.specs.declared.counts.Counts.{Counts}
-use Rattle.chunk.specs.declared.reading.Refusal.{Refusal}
-use Rattle.chunk.specs.declared.reading.Refusal.the-variants.{Header, Malformed, TooDeep, UnknownTag, Short}
-use Rattle.chunk.specs.Reading.{Result, done, refused}
-use Rattle.chunk.specs.Lundump.{Function}
-use Rattle.chunk.specs.Chunk.{chosen, countsOf, wordsOf, wordsRoom, filled, after}
+use Rattle.lundump.specs.declared.counts.Counts.{Counts}
+use Rattle.lundump.specs.declared.reading.Refusal.{Refusal}
+use Rattle.lundump.specs.declared.reading.Refusal.the-variants.{Header, Malformed, TooDeep, UnknownTag, Short}
+use Rattle.lundump.specs.Reading.{Result, done, refused}
+use Rattle.lundump.specs.Lundump.{Function}
+use Rattle.lundump.specs.Chunk.{chosen, countsOf, wordsOf, wordsRoom, filled, after}
 use Rattle.chunk.specs.Laws.{CountsWithin}
 use Rattle.chunk.proofs.Laws.{laws}
 use Rattle.survey.specs.Lines.{lineHead, tailOf, onlyOf, functionText, runIn, functionLine}
@@ -156,7 +156,11 @@ module _ (k : ℕ) (bytes : List ℕ) (table words : List ℕ) (c : Counts)
       ap (λ (x : Counts). lineHead k x ++ tailOf run) (g .counts)
       ∙ ap (λ (x : Run). lineHead k (countsOf (done (g .function) (g .at))) ++ tailOf x) (er ∙ ap runIn t)
       ∙ ap (functionText k) (sym (g .is)) in
-      let s : length (lineHead k c ++ tailOf run) ≡ 24 + length (tailOf run) = length-both (lineHead k c) (tailOf run) 24 (length (tailOf run)) (24 + length (tailOf run)) (length-head k c) refl refl in
+      let s : length (lineHead k c ++ tailOf run) ≡ 24 + length (tailOf run) =
+      length-both (lineHead k c) (tailOf run) 24 (length (tailOf run)) (24 + length (tailOf run))
+      (length-head k c) refl refl in
       let v = length-tail run in
-      let p : o′ ≡ put page 0 (lineHead k c ++ tailOf run) = put-laws .and-then page o o′ 0 24 (lineHead k c) (tailOf run) eo (length-head k c) (omega arith) eo′ in
+      let p : o′ ≡ put page 0 (lineHead k c ++ tailOf run) =
+      put-laws .and-then page o o′ 0 24 (lineHead k c) (tailOf run) eo (length-head k c) (omega arith)
+      eo′ in
       (ek ∙ sym s ∙ ap length m, p ∙ ap (put page 0) m)

@@ -7,10 +7,10 @@ use lib.ListN.{length, take, getD}
 use Rattle.common.specs.Numbers.{«MALFORMED_CHUNK»}
 use Rattle.common.specs.Limits.{mostBytes}
 use Rattle.sheet.specs.Rows.{refusalLineOf}
-use Rattle.chunk.specs.declared.reading.Refusal.{Refusal}
-use Rattle.chunk.specs.Numbers.{refusalNumber, refusalPlace}
-use Rattle.chunk.specs.Reading.{done, refused}
-use Rattle.chunk.specs.Lundump.{Function, undump}
+use Rattle.lundump.specs.declared.reading.Refusal.{Refusal}
+use Rattle.lundump.specs.Numbers.{refusalNumber, refusalPlace}
+use Rattle.lundump.specs.Reading.{done, refused}
+use Rattle.lundump.specs.Lundump.{Function, undump}
 use Rattle.survey.specs.Lines.{functionText, functionLine}
 
 -- the longest line: eight columns of 6, and a newline

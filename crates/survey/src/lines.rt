@@ -9,7 +9,7 @@ ghost use Rattle.survey.specs.Claims.{lineLength};
 use crate::paper;
 use crate::paper::LINE;
 use crate::run::run_of;
-use chunk::Counts;
+use lundump::Counts;
 use runs::Run;
 use sheet::Cell;
 use sheet::inner::put_text;

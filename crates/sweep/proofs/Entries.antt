@@ -130,7 +130,11 @@ ordered-among q r = go (ltb q r) refl (ltb r q) refl
     go : (b : Bool) → ltb q r ≡ b → (d : Bool) → ltb r q ≡ d → Among q r (listOf (cond b (Two q r) (cond d (Two r q) (One q))))
     go true e d f = record { one = inl refl; other = inr (inl refl); only = λ x i. ⊎-elim (λ a. inl a) (λ j. inr (in-one j)) i }
     go false e true f = record { one = inr (inl refl); other = inl refl; only = λ x i. ⊎-elim (λ a. inr a) (λ j. inl (in-one j)) i }
-    go false e false f = let a = ltb-false q r e in let b = ltb-false r q f in let z : r ≡ q = omega arith in record { one = inl refl; other = inl z; only = λ x i. inl (in-one i) }
+    go false e false f =
+        let a = ltb-false q r e in
+        let b = ltb-false r q f in
+        let z : r ≡ q = omega arith in
+        record { one = inl refl; other = inl z; only = λ x i. inl (in-one i) }
 
 pub both-in-graph : (l : List ℕ) (p : ℕ) {q r : ℕ} → entryAt (getD l p 0 % «ENTRIES») p ≡ ordered q r → Both (graphIn (entries l)) p q r
 both-in-graph l p {q} {r} e =
@@ -151,15 +155,27 @@ module _ (p : ℕ) where
 
     module _ (l : a < 32768) where
       pub says-target : Says (65536 + a) p (One a)
-      says-target = let t : (65536 + a) % «TARGETS» ≡ a = omega arith in record { small = omega arith; steps = entry-target (65536 + a) p (omega arith) ∙ ap One t }
+      says-target =
+          let t : (65536 + a) % «TARGETS» ≡ a = omega arith in
+          record { small = omega arith; steps = entry-target (65536 + a) p (omega arith) ∙ ap One t }
 
       both-is : entryAt (98304 + a) p ≡ ordered (p + 1) a
-      both-is = let t : (98304 + a) % «TARGETS» ≡ a = omega arith in entry-both (98304 + a) p (λ z. omega arith) (λ z. omega arith) (λ z. omega arith) ∙ ap (ordered (p + 1)) t
+      both-is =
+          let t : (98304 + a) % «TARGETS» ≡ a = omega arith in
+          entry-both (98304 + a) p (λ z. omega arith) (λ z. omega arith) (λ z. omega arith)
+          ∙ ap (ordered (p + 1)) t
 
       pub says-up : {q : ℕ} → q ≡ p + 1 → q < a → Says (98304 + a) p (Two q a)
       unfolding ordered
-      says-up {q} e h = let k : p + 1 < a = omega arith in let o : ordered (p + 1) a ≡ Two (p + 1) a = simp (lt-ltb (p + 1) a k) in record { small = omega arith; steps = both-is ∙ o ∙ ap (λ (x : ℕ). Two x a) (sym e) }
+      says-up {q} e h =
+          let k : p + 1 < a = omega arith in
+          let o : ordered (p + 1) a ≡ Two (p + 1) a = simp (lt-ltb (p + 1) a k) in
+          record { small = omega arith; steps = both-is ∙ o ∙ ap (λ (x : ℕ). Two x a) (sym e) }
 
       pub says-down : {q : ℕ} → q ≡ p + 1 → a < q → Says (98304 + a) p (Two a q)
       unfolding ordered
-      says-down {q} e h = let k : a < p + 1 = omega arith in let j : a ≤ p + 1 = omega arith in let o : ordered (p + 1) a ≡ Two a (p + 1) = simp (le-ltb (p + 1) a j, lt-ltb a (p + 1) k) in record { small = omega arith; steps = both-is ∙ o ∙ ap (Two a) (sym e) }
+      says-down {q} e h =
+          let k : a < p + 1 = omega arith in
+          let j : a ≤ p + 1 = omega arith in
+          let o : ordered (p + 1) a ≡ Two a (p + 1) = simp (le-ltb (p + 1) a j, lt-ltb a (p + 1) k) in
+          record { small = omega arith; steps = both-is ∙ o ∙ ap (Two a) (sym e) }

@@ -20,7 +20,13 @@ held-on {m₀} {l₀} {m} {l} k e s =
     let n = ap length e in
     let a = k .lent in
     record {
-      lent = record { some = omega (arith, a .some); few = omega (arith, a .few); m-same = s ∙ a .m-same ∙ sym n; l-same = same-length l l₀ e ∙ a .l-same ∙ sym n };
+      lent =
+          record {
+            some = omega (arith, a .some);
+            few = omega (arith, a .few);
+            m-same = s ∙ a .m-same ∙ sym n;
+            l-same = same-length l l₀ e ∙ a .l-same ∙ sym n;
+          };
       law = subst (λ (es : List ℕ). Lawful (graphIn es)) (sym e) (k .law);
     }
 
@@ -51,13 +57,16 @@ module _ (m₀ l₀ : List ℕ) (h : ℕ) (held : Held m₀ l₀) {m l : List �
       pub following-in : length m′ ≡ length m → FollowingIn m₀ l₀ h m′ l′ more′ word′ t′
       following-in s = record { following = following-on (graphIn (entries l₀)) m₀ h (f .following) e turned s; kept = v .kept ∙ f .kept }
 
-      pub fewer-in : FollowingIn m₀ l₀ h m′ l′ more′ word′ t′ → let n = length (entries l₀) in (n - markedCount n m′) + cond more′ 1 0 < (n - markedCount n m) + cond more 1 0
+      pub fewer-in : FollowingIn m₀ l₀ h m′ l′ more′ word′ t′ → let n = length (entries l₀) in
+          (n - markedCount n m′) + cond more′ 1 0 < (n - markedCount n m) + cond more 1 0
       fewer-in u = fewer (graphIn (entries l₀)) m₀ h e turned (u .following)
 
 pub following-first : (m l : List ℕ) (h t : ℕ) → Visiting (graphIn (entries l)) m (queueOf l) h t → FollowingIn m l h m l true (getD l h 0 / «ENTRIES») t
 following-first m l h t v =
     record {
-      following = subst (λ (x : ℕ). Following (graphIn (entries l)) m h m (queueOf l) true x t) (queue-is l h) (following-none (graphIn (entries l)) m (queueOf l) h t v);
+      following =
+          subst (λ (x : ℕ). Following (graphIn (entries l)) m h m (queueOf l) true x t) (queue-is l h)
+          (following-none (graphIn (entries l)) m (queueOf l) h t v);
       kept = refl;
     }
 
@@ -71,20 +80,33 @@ module _ (m₀ l₀ : List ℕ) (held : Held m₀ l₀) {m l : List ℕ} {h t : 
   follow-asks d =
       record {
         held = held-on held (s .kept) (s .searching .m-same);
-        visiting = subst (λ (es : List ℕ). Visiting (graphIn es) m (queueOf l) h t) (sym (s .kept)) (record { few = held .lent .few; some = d; under = s .searching .under });
+        visiting =
+            subst (λ (es : List ℕ). Visiting (graphIn es) m (queueOf l) h t) (sym (s .kept))
+            (record { few = held .lent .few; some = d; under = s .searching .under });
       }
 
   pub searching-in : {m′ l′ : List ℕ} {t′ : ℕ} → Follows m l h m′ l′ t′ → length m′ ≡ length m → SearchingIn m₀ l₀ m′ l′ (h + 1) t′
   searching-in {m′} {l′} {t′} v e =
       record {
-        searching = searching-on (graphIn (entries l₀)) (s .searching) (subst (λ (es : List ℕ). Visited (graphIn es) m (queueOf l) h m′ (queueOf l′) t′) (s .kept) (v .visited)) e;
+        searching =
+            searching-on (graphIn (entries l₀)) (s .searching)
+            (subst (λ (es : List ℕ). Visited (graphIn es) m (queueOf l) h m′ (queueOf l′) t′) (s .kept)
+            (v .visited))
+            e;
         kept = v .kept ∙ s .kept;
       }
 
 -- settled entries are held
-pub held-of : (n : ℕ) (steps : ℕ → Successors) (m l₀ l : List ℕ) → Lawful (graphBy n steps) → Lent n m l₀ → Settled n steps (entries l) → length l ≡ length l₀ → Held m l
+pub held-of : (n : ℕ) (steps : ℕ → Successors) (m l₀ l : List ℕ) → Lawful (graphBy n steps) → Lent n m l₀
+    → Settled n steps (entries l) → length l ≡ length l₀ → Held m l
 held-of n steps m l₀ l law k s e =
     record {
-      lent = record { some = omega (arith, s .same, k .some); few = omega (arith, s .same, k .few); m-same = k .m-same ∙ sym (s .same); l-same = e ∙ k .l-same ∙ sym (s .same) };
+      lent =
+          record {
+            some = omega (arith, s .same, k .some);
+            few = omega (arith, s .same, k .few);
+            m-same = k .m-same ∙ sym (s .same);
+            l-same = e ∙ k .l-same ∙ sym (s .same);
+          };
       law = subst (λ (g : Graph). Lawful g) (sym (settled-graph n steps (entries l) s)) law;
     }

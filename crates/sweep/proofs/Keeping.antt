@@ -23,10 +23,13 @@ use Rattle.graph.proofs.Ceiling.{ceiling}
 use Rattle.sweep.specs.declared.edges.Successors.{Successors}
 use Rattle.sweep.specs.declared.edges.Successors.the-variants.{One, Two}
 use Rattle.sweep.specs.Steps.{ordered, listOf, isInvalid, servesOf}
-use Rattle.sweep.specs.Entries.{«TARGETS», «ENTRIES», «KIND_NONE», «KIND_NEXT», «KIND_TARGET», «RETURNS», entryAt, entries, entrySteps, graphIn, invalidBy}
+use Rattle.sweep.specs.Entries.{«TARGETS», «ENTRIES», «KIND_NONE», «KIND_NEXT», «KIND_TARGET»}
+use Rattle.sweep.specs.Entries.{«RETURNS», entryAt, entries, entrySteps, graphIn, invalidBy}
 use Rattle.sweep.specs.SearchInvariants.{Marked}
 use Rattle.sweep.specs.PassInvariants.{mostWeight, FillAsks, Lengths, stepsIn, at}
-use Rattle.sweep.specs.TwiceInvariants.{«SHARE», lowAt, keptEntry, keptIn, lengthBy, KeptAs, KeepAsks, KeepsWord, KeptWords, KeepsAll, RaiseAsks, Raises, Restored, Twice}
+use Rattle.sweep.specs.TwiceInvariants.{«SHARE», lowAt, keptEntry, keptIn, lengthBy, KeptAs, KeepAsks}
+use Rattle.sweep.specs.TwiceInvariants.{KeepsWord, KeptWords, KeepsAll, RaiseAsks, Raises, Restored}
+use Rattle.sweep.specs.TwiceInvariants.{Twice}
 use Rattle.sweep.proofs.Entries.{ordered-among, entries-length, entry-is, entry-next, entry-target, entry-stop, entry-invalid, entry-both, entry-none}
 use Rattle.sweep.proofs.Measures.{next-unserved, best-in, both-valid, lowest-none-here, lowest-by}
 
@@ -97,7 +100,9 @@ steps-in : (l : List ℕ) (p e : ℕ) → ((q : ℕ) → In q (listOf (entryAt e
 steps-in l p e k h =
     ⊎-elim
     (λ d. k (e % «TARGETS») (subst (λ (s : Successors). In (e % «TARGETS») (listOf s)) (sym (entry-target e p d)) (inl refl)))
-    (λ d. k (e % «TARGETS») (subst (λ (s : Successors). In (e % «TARGETS») (listOf s)) (sym (entry-both e p (λ z. omega arith) (λ z. omega arith) d)) (ordered-among (p + 1) (e % «TARGETS») .other)))
+    (λ d. k (e % «TARGETS») (subst (λ (s : Successors). In (e % «TARGETS») (listOf s))
+    (sym (entry-both e p (λ z. omega arith) (λ z. omega arith) d))
+    (ordered-among (p + 1) (e % «TARGETS») .other)))
     (same-or-not (e / «TARGETS») «KIND_TARGET»)
 
 -- the arms of the first pass, at word p
@@ -136,10 +141,14 @@ module _ (m l : List ℕ) (p a x i : ℕ) (k : KeepAsks m l p a) where
         (ap listOf (entry-next (keptEntry 64 (a + x * «SHARE»)) p (omega arith)))
 
     pub keeps-stop : entry / «TARGETS» ≡ «KIND_NONE» → entry % «TARGETS» ≡ «RETURNS» → KeepsWord x m l p i (x * «SHARE») 1 i
-    keeps-stop d r = keeps-by (entry-stop entry p d r) (x * «SHARE») 1 (omega arith) refl (λ z. omega arith) (sym (entry-none (keptEntry 1 (x * «SHARE»)) p (omega arith)))
+    keeps-stop d r =
+        keeps-by (entry-stop entry p d r) (x * «SHARE») 1 (omega arith) refl (λ z. omega arith)
+        (sym (entry-none (keptEntry 1 (x * «SHARE»)) p (omega arith)))
 
     pub keeps-invalid : entry / «TARGETS» ≡ «KIND_NONE» → (entry % «TARGETS» ≡ «RETURNS» → ⊥) → KeepsWord x m l p i (x * «SHARE») 1 p
-    keeps-invalid d r = keeps-by (entry-invalid entry p d r) (x * «SHARE») 1 (omega arith) refl (λ z. omega arith) (sym (entry-none (keptEntry 1 (x * «SHARE»)) p (omega arith)))
+    keeps-invalid d r =
+        keeps-by (entry-invalid entry p d r) (x * «SHARE») 1 (omega arith) refl (λ z. omega arith)
+        (sym (entry-none (keptEntry 1 (x * «SHARE»)) p (omega arith)))
 
     -- with a target, of which y is added
     module _ (h : «KIND_TARGET» ≤ entry / «TARGETS») (y : ℕ) (e : y / «SHARE» ≡ beyondBy (lowAt l) p (entry % «TARGETS»)) where
@@ -151,13 +160,17 @@ module _ (m l : List ℕ) (p a x i : ℕ) (k : KeepAsks m l p a) where
 
       pub keeps-target : entry / «TARGETS» ≡ «KIND_TARGET» → KeepsWord x m l p i (y / «SHARE» * «SHARE» + (x * «SHARE» + entry % «SHARE»)) (entry / «SHARE») i
       keeps-target d =
-          keeps-by (entry-target entry p d) (element y) (entry / «SHARE») (omega (arith, best-one (lowAt l) p (entry % «TARGETS») (y / «SHARE») e)) refl (λ z. omega arith)
+          keeps-by (entry-target entry p d) (element y) (entry / «SHARE»)
+          (omega (arith, best-one (lowAt l) p (entry % «TARGETS») (y / «SHARE») e)) refl
+          (λ z. omega arith)
           (as-was y (entry-target entry p d))
 
       two : (entry / «TARGETS» ≡ «KIND_TARGET» → ⊥) → stepsIn l p ≡ ordered (p + 1) (entry % «TARGETS»)
       two o = entry-both entry p (λ z. omega arith) (λ z. omega arith) o
 
-      pub keeps-both : (entry / «TARGETS» ≡ «KIND_TARGET» → ⊥) → {v : ℕ} → v ≡ max a y → KeepsWord x m l p i (v / «SHARE» * «SHARE» + (x * «SHARE» + entry % «SHARE»)) (entry / «SHARE») i
+      pub keeps-both : (entry / «TARGETS» ≡ «KIND_TARGET» → ⊥) → {v : ℕ} → v ≡ max a y
+          → KeepsWord x m l p i (v / «SHARE» * «SHARE» + (x * «SHARE» + entry % «SHARE»))
+          (entry / «SHARE») i
       keeps-both o {v} q =
           keeps-by (two o) (element v) (entry / «SHARE»)
           (omega (arith, best-two (lowAt l) p (entry % «TARGETS») (y / «SHARE») e, k .next)) (both-valid _ _ p i) (λ z. omega arith)
@@ -222,7 +235,8 @@ module _ (m l : List ℕ) (p a x : ℕ) (k : RaiseAsks m l p a) where
   raised-target-in h = omega (arith, target-is, steps-in l p told (k .steps (λ z. omega arith)) (omega arith))
 
 -- a word's length, where f are those of the words above it
-module _ (es : List ℕ) (law : Lawful (graphIn es)) (w : ℕ → ℕ) (f : ℕ → ℕ) (p : ℕ) (h : p < length es) (k : (q : ℕ) → p < q → q < length es → f q ≡ lengthOf (graphIn es) w q) where
+module _ (es : List ℕ) (law : Lawful (graphIn es)) (w : ℕ → ℕ) (f : ℕ → ℕ) (p : ℕ) (h : p < length es)
+    (k : (q : ℕ) → p < q → q < length es → f q ≡ lengthOf (graphIn es) w q) where
   abbrev g : Graph
   g = graphIn es
 
@@ -352,7 +366,9 @@ module _ (w : ℕ → ℕ) (light : (q : ℕ) → w q ≤ heaviestWeight) (es m 
               (λ n. kept-other q (λ z. n z) (k .kept q (omega (arith, past x n)) i))
               (same-or-not q p);
           above = sym (getD-set-same l p e 0 (omega (arith, inside, k .l-same)));
-          lowest = lowest-here ∙ ap (λ (z : ℕ). cond (invalidBy (length es) (entrySteps es) p) p z) (k .lowest) ∙ sym (lowest-laws .turn (invalidBy (length es) (entrySteps es)) (length es) p inside);
+          lowest =
+              lowest-here ∙ ap (λ (z : ℕ). cond (invalidBy (length es) (entrySteps es) p) p z) (k .lowest)
+              ∙ sym (lowest-laws .turn (invalidBy (length es) (entrySteps es)) (length es) p inside);
         }
       where
         kept-by : (q : ℕ) {b₁ b₂ e₁ e₂ : ℕ} → b₁ ≡ b₂ → e₁ ≡ e₂ → KeptAs (graphIn es) q b₂ e₂ → KeptAs (graphIn es) q b₁ e₁
@@ -364,7 +380,8 @@ module _ (w : ℕ → ℕ) (light : (q : ℕ) → w q ≤ heaviestWeight) (es m 
             subst (λ (x : ℕ). KeptAs (graphIn es) x (getD (set m p b) x 0) (getD (set l p e) x 0)) (sym z)
             (kept-by p (getD-set-same m p b 0 (omega (arith, inside, k .m-same))) (getD-set-same l p e 0 (omega (arith, inside, k .l-same))) kept-here)
 
-        kept-other : (q : ℕ) → (q ≡ p → ⊥) → KeptAs (graphIn es) q (getD m q 0) (getD l q 0) → KeptAs (graphIn es) q (getD (set m p b) q 0) (getD (set l p e) q 0)
+        kept-other : (q : ℕ) → (q ≡ p → ⊥) → KeptAs (graphIn es) q (getD m q 0) (getD l q 0)
+            → KeptAs (graphIn es) q (getD (set m p b) q 0) (getD (set l p e) q 0)
         kept-other q n u = kept-by q (getD-set-other m p q b 0 n) (getD-set-other l p q e 0 n) u
 
 pub keeping-done : {w : ℕ → ℕ} (l₀ : List ℕ) {m l : List ℕ} {i a v : ℕ} → Keeping w (entries l₀) m l i a v → i ≤ 0 → KeepsAll w l₀ m l v
@@ -503,7 +520,8 @@ module _ (m₀ : List ℕ) where
   restoring-done r h p d = r .done p (omega arith)
 
 -- both passes
-pub twice : {low high : ℕ → ℕ} (l m₁ l₁ m′ l′ : List ℕ) (n : ℕ) {i v a : ℕ} → length (entries l) ≡ n → KeepsAll low l m₁ l₁ i → Raises high m₁ l₁ l′ → Restored m₁ m′
+pub twice : {low high : ℕ → ℕ} (l m₁ l₁ m′ l′ : List ℕ) (n : ℕ) {i v a : ℕ} → length (entries l) ≡ n
+    → KeepsAll low l m₁ l₁ i → Raises high m₁ l₁ l′ → Restored m₁ m′
     → v ≡ most (at l₁) n / «SHARE» → a ≡ lowestFrom (λ p. eqb (lowAt l₁ p) v) 0 n → Twice low high l i v a m′ l′
 twice {low} {high} l m₁ l₁ m′ l′ n {i} {v} {a} s k r b e d =
     let g = graphIn (entries l) in
@@ -514,5 +532,8 @@ twice {low} {high} l m₁ l₁ m′ l′ n {i} {v} {a} s k r b e d =
       lengths = r (entries l) (k .kept);
       lowest-invalid = k .lowest-invalid;
       longest-is = found;
-      first-is = d ∙ ap (λ (x : ℕ). lowestFrom (λ p. eqb (lowAt l₁ p) v) 0 x) (sym s) ∙ ap (λ (x : ℕ). lowestFrom (λ p. eqb (lowAt l₁ p) x) 0 (length (entries l))) found ∙ passing .first-found (lowAt l₁) (k .lows);
+      first-is =
+          d ∙ ap (λ (x : ℕ). lowestFrom (λ p. eqb (lowAt l₁ p) v) 0 x) (sym s)
+          ∙ ap (λ (x : ℕ). lowestFrom (λ p. eqb (lowAt l₁ p) x) 0 (length (entries l))) found
+          ∙ passing .first-found (lowAt l₁) (k .lows);
     }

@@ -49,7 +49,9 @@ best-ordered : (l : List ℕ) (p q r : ℕ) → best (graphIn l) p (at l) (listO
 unfolding ordered
 best-ordered l p q r = go (ltb q r) refl (ltb r q) refl
   where
-    go : (b : Bool) → ltb q r ≡ b → (d : Bool) → ltb r q ≡ d → best (graphIn l) p (at l) (listOf (cond b (Two q r) (cond d (Two r q) (One q)))) ≡ max (beyondOf l p q) (beyondOf l p r)
+    go : (b : Bool) → ltb q r ≡ b → (d : Bool) → ltb r q ≡ d
+        → best (graphIn l) p (at l) (listOf (cond b (Two q r) (cond d (Two r q) (One q))))
+        ≡ max (beyondOf l p q) (beyondOf l p r)
     go true e d f = omega arith
     go false e true f = omega arith
     go false e false f = let x = ltb-false q r e in let y = ltb-false r q f in let z : q ≡ r = omega arith in let w = ap (beyondOf l p) z in omega arith
@@ -108,7 +110,8 @@ module _ (m l : List ℕ) (p : ℕ) where
         let e = getD l p 0 % «ENTRIES» in
         ⊎-elim
         (λ d. k .steps (e % «TARGETS») (subst (λ (s : Successors). In (e % «TARGETS») (listOf s)) (sym (entry-target e p d)) (inl refl)))
-        (λ d. k .steps (e % «TARGETS») (subst (λ (s : Successors). In (e % «TARGETS») (listOf s)) (sym (entry-both e p none-not next-not d)) (ordered-among (p + 1) (e % «TARGETS») .other)))
+        (λ d. k .steps (e % «TARGETS») (subst (λ (s : Successors). In (e % «TARGETS») (listOf s))
+        (sym (entry-both e p none-not next-not d)) (ordered-among (p + 1) (e % «TARGETS») .other)))
         (same-or-not (e / «TARGETS») «KIND_TARGET»)
 
 -- only the word's own weight counts
@@ -139,7 +142,8 @@ module _ (es : List ℕ) (w : ℕ → ℕ) (m l : List ℕ) (p : ℕ) (h : p < l
   measured : (getD m p 0 ≡ 0 → ⊥) → lengthOf g w p ≡ w p + best (graphIn l) p (at l) (listOf (stepsIn l p))
   measured n =
       laws .passing g (k .law) w .marked (at l) p h (marked n) (λ q d i. k .from q (omega arith) i)
-      ∙ ap (λ (x : ℕ). w p + x) (best-in es l p (at l) (listOf (entrySteps es p)) ∙ ap (λ (s : Successors). best (graphIn l) p (at l) (listOf s)) (sym entry-here))
+      ∙ ap (λ (x : ℕ). w p + x) (best-in es l p (at l) (listOf (entrySteps es p))
+      ∙ ap (λ (s : Successors). best (graphIn l) p (at l) (listOf s)) (sym entry-here))
 
   length-found : lengthIn w m l p ≡ lengthOf g w p
   length-found =
@@ -170,7 +174,11 @@ module _ (es : List ℕ) (w : ℕ → ℕ) (m l : List ℕ) (p : ℕ) (h : p < l
         m-same = k .m-same;
         l-same = simp length-set (k .l-same);
         marks = k .marks;
-        from = λ q d i. ⊎-elim (λ x. x .1 ∙ e ∙ ap (lengthOf g w) (sym (x .0))) (λ x. x .1 ∙ k .from q (omega (arith, past d (x .0))) i) (at-set l p v q (omega (arith, k .l-same)));
+        from =
+            λ q d i.
+            ⊎-elim (λ x. x .1 ∙ e ∙ ap (lengthOf g w) (sym (x .0)))
+            (λ x. x .1 ∙ k .from q (omega (arith, past d (x .0))) i)
+            (at-set l p v q (omega (arith, k .l-same)));
         below = λ q d. ap (λ (x : ℕ). x % «ENTRIES») (getD-set-other l p q v 0 (λ x. omega arith)) ∙ k .below q (omega arith);
       }
 
@@ -216,7 +224,12 @@ module _ (w : ℕ → ℕ) (heaviest : ℕ) (bound : (q : ℕ) → w q ≤ heavi
         steps = λ q i. omega (arith, k .l-same, k .law .inside p q (subst (λ (x : ℕ). In q (listOf (entryAt x p))) (k .below p (omega arith)) i));
         low = λ q d. ⊎-elim
             (λ o. omega (arith, List·getD-eq-default l 0 {n = q} (omega (arith, k .l-same))))
-            (λ i. omega (arith, k .from q (omega arith) i, le-trans (ceiling .lengths (graphIn es) (k .law) w heaviest bound q) (mul-le-mul-left heaviest (k .few))))
+            (λ i. omega (
+              arith,
+              k .from q (omega arith) i,
+              le-trans (ceiling .lengths (graphIn es) (k .law) w heaviest bound q)
+                  (mul-le-mul-left heaviest (k .few)),
+            ))
             (split (length es) q);
         next = f .above;
       }
@@ -227,7 +240,10 @@ module _ (w : ℕ → ℕ) (heaviest : ℕ) (bound : (q : ℕ) → w q ≤ heavi
         filled = filled-more es w m l p inside (f .filled) x (d .length-is ∙ length-found es w m l p inside (f .filled));
         upto = omega (arith, inside);
         above = sym (getD-set-same l p x 0 (omega (arith, inside, f .filled .l-same)));
-        lowest = d .invalid-is ∙ lowest-found es w m l p inside (f .filled) v ∙ ap (λ (z : ℕ). cond (invalidBy (length es) (entrySteps es) p) p z) (f .lowest) ∙ sym (lowest-laws .turn (invalidBy (length es) (entrySteps es)) (length es) p inside);
+        lowest =
+            d .invalid-is ∙ lowest-found es w m l p inside (f .filled) v
+            ∙ ap (λ (z : ℕ). cond (invalidBy (length es) (entrySteps es) p) p z) (f .lowest)
+            ∙ sym (lowest-laws .turn (invalidBy (length es) (entrySteps es)) (length es) p inside);
       }
 
 pub filling-done : {w : ℕ → ℕ} {l₀ m l : List ℕ} {i a v : ℕ} → Filling w l₀ m l i a v → i ≤ 0 → Fills w l₀ l v

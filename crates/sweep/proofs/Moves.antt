@@ -47,7 +47,13 @@ module _ (g : Graph) where
       room-hold = record { m-long = simp length-set (r .m-long); qu-long = r .qu-long; bits = bits-set; count = omega (arith, count-set, r .count) }
 
       pub room-push : Room g (set m q 1) (set qu t q) (t + 1)
-      room-push = record { m-long = simp length-set (r .m-long); qu-long = simp length-set (r .qu-long); bits = bits-set; count = omega (arith, count-set, r .count) }
+      room-push =
+          record {
+            m-long = simp length-set (r .m-long);
+            qu-long = simp length-set (r .qu-long);
+            bits = bits-set;
+            count = omega (arith, count-set, r .count);
+          }
 
   pub marking-none : (m qu : List ℕ) → g .size ≤ length m → g .size ≤ length qu → ((p : ℕ) → p < g .size → getD m p 0 ≡ 0) → Marking g [] m qu 0 0
   marking-none m qu lm lq z = record {
@@ -109,7 +115,11 @@ module _ (g : Graph) where
         sound = sound-set;
         queued = λ i l. ⊎-elim
             (λ w. (omega arith, ap (λ (x : ℕ). getD (set m q 1) x 0) (w .1) ∙ getD-set-same m q 1 0 inside))
-            (λ w. let o = k .queued i (past (omega arith) (λ e. w .0 (sym e))) in (omega arith, ap (λ (x : ℕ). getD (set m q 1) x 0) (w .1) ∙ stays m q 1 (getD qu i 0) inside (o .1)))
+            (λ w.
+            let o = k .queued i (past (omega arith) (λ e. w .0 (sym e))) in (
+              omega arith,
+              ap (λ (x : ℕ). getD (set m q 1) x 0) (w .1) ∙ stays m q 1 (getD qu i 0) inside (o .1),
+            ))
             (at-set qu t q i in-qu);
         held = held-set;
         todo = λ p l e. ⊎-elim
@@ -153,4 +163,5 @@ module _ (g : Graph) where
   pub marking-done : Lawful g → (m qu : List ℕ) (h t : ℕ) → Marking g [] m qu h t → t ≤ h → getD m 0 0 ≡ 1 → (p : ℕ) → Reachable g p → getD m p 0 ≡ 1
   marking-done law m qu h t k d root =
       laws .reaching g law .induction (λ (p : ℕ). getD m p 0 ≡ 1) root
-      (λ p q r e i. ⊎-elim (λ u. absurd (omega (arith, u .1, u .2))) (λ u. ⊎-elim (λ c. c q i) (λ n. absurd n) u) (k .todo p (laws .reaching g law .below p r) e))
+      (λ p q r e i. ⊎-elim (λ u. absurd (omega (arith, u .1, u .2)))
+      (λ u. ⊎-elim (λ c. c q i) (λ n. absurd n) u) (k .todo p (laws .reaching g law .below p r) e))

@@ -51,7 +51,9 @@ module _ (n : ℕ) (steps : ℕ → Successors) where
       record {
         same = entries-length l ∙ s .same;
         each = λ p. ap (λ (e : ℕ). entryAt e p) (entry-is l p) ∙ ⊎-elim
-            (λ o. let z : getD l p 0 ≡ 0 = List·getD-eq-default l 0 (omega (arith, s .same)) in ap (λ (e : ℕ). entryAt (e % «ENTRIES») p) z ∙ no-entry p ∙ sym (none p o))
+            (λ o.
+            let z : getD l p 0 ≡ 0 = List·getD-eq-default l 0 (omega (arith, s .same)) in
+            ap (λ (e : ℕ). entryAt (e % «ENTRIES») p) z ∙ no-entry p ∙ sym (none p o))
             (λ d. let y = s .each p (omega arith) in ap (λ (e : ℕ). entryAt e p) (mod-eq-of-lt (y .small)) ∙ y .steps)
             (split n p);
       }

@@ -16,7 +16,9 @@ use Rattle.graph.specs.Marks.{markOf}
 use Rattle.graph.specs.Laws.{markedCount}
 use Rattle.graph.proofs.Laws.{laws}
 use Rattle.sweep.specs.SearchInvariants.{Closed, Room, Marking, inHand, Reaches, fresh, seen, Turned, Queued, entered, there, PushAsks, Visiting, Visited}
-use Rattle.sweep.proofs.Moves.{in-one, Pushed, count-set, tail-lt, tail-le, room-push, pushed-old, pushed-new, marking-none, marking-take, marking-hand, marking-hold, marking-done}
+use Rattle.sweep.proofs.Moves.{in-one, Pushed, count-set, tail-lt, tail-le, room-push, pushed-old}
+use Rattle.sweep.proofs.Moves.{pushed-new, marking-none, marking-take, marking-hand, marking-hold}
+use Rattle.sweep.proofs.Moves.{marking-done}
 
 -- what a push leaves, whatever the search
 pub record Kept (g : Graph) (m qu : List ℕ) (t : ℕ) (m′ qu′ : List ℕ) (t′ : ℕ) : Type 0 where
@@ -37,7 +39,8 @@ module _ (g : Graph) (m qu : List ℕ) (t : ℕ) (r : Room g m qu t) (q : ℕ) (
       }
   push-keeps (there h) = record { room = r; keeps = λ x o. o; grows = le-refl (markedCount (g .size) m) }
 
-  pub push-gives : {m′ qu′ : List ℕ} {t′ : ℕ} → Queued m qu t q m′ qu′ t′ → (hand : List ℕ) (h : ℕ) → Marking g hand m qu h t → Reachable g q → Pushed g hand m qu h t (q ∷ []) m′ qu′ t′
+  pub push-gives : {m′ qu′ : List ℕ} {t′ : ℕ} → Queued m qu t q m′ qu′ t′ → (hand : List ℕ) (h : ℕ)
+      → Marking g hand m qu h t → Reachable g q → Pushed g hand m qu h t (q ∷ []) m′ qu′ t′
   push-gives (entered e) hand h k w = pushed-new g hand m qu h t k q l e w
   push-gives (there e) hand h k w = pushed-old g hand m qu h t k q (one-of (r .bits q l) e)
 
@@ -174,7 +177,9 @@ module _ (g : Graph) (m₀ : List ℕ) (h : ℕ) where
   pub in-hand : {m qu : List ℕ} {more : Bool} {word t : ℕ} → Following g m₀ h m qu more word t → more ≡ true → Marking g (word ∷ []) m qu (h + 1) t
   in-hand {m} {qu} {more} {word} {t} f e = subst (λ (b : Bool). Marking g (inHand b word) m qu (h + 1) t) e (f .under)
 
-  pub following-on : {m qu m′ qu′ : List ℕ} {more more′ : Bool} {word word′ t t′ : ℕ} → Following g m₀ h m qu more word t → more ≡ true → Turned g m qu word t m′ qu′ more′ word′ t′ → length m′ ≡ length m → Following g m₀ h m′ qu′ more′ word′ t′
+  pub following-on : {m qu m′ qu′ : List ℕ} {more more′ : Bool} {word word′ t t′ : ℕ}
+      → Following g m₀ h m qu more word t → more ≡ true → Turned g m qu word t m′ qu′ more′ word′ t′
+      → length m′ ≡ length m → Following g m₀ h m′ qu′ more′ word′ t′
   following-on f e u lm =
       record {
         under = u .under (h + 1) (in-hand f e);
@@ -190,13 +195,19 @@ module _ (g : Graph) (m₀ : List ℕ) (h : ℕ) where
       }
 
   -- each visit marks a word, or is the last
-  pub fewer : {m qu m′ qu′ : List ℕ} {more more′ : Bool} {word word′ t t′ : ℕ} → more ≡ true → Turned g m qu word t m′ qu′ more′ word′ t′ → Following g m₀ h m′ qu′ more′ word′ t′ → (g .size - markedCount (g .size) m′) + cond more′ 1 0 < (g .size - markedCount (g .size) m) + cond more 1 0
+  pub fewer : {m qu m′ qu′ : List ℕ} {more more′ : Bool} {word word′ t t′ : ℕ} → more ≡ true
+      → Turned g m qu word t m′ qu′ more′ word′ t′ → Following g m₀ h m′ qu′ more′ word′ t′
+      → (g .size - markedCount (g .size) m′) + cond more′ 1 0 < (g .size - markedCount (g .size) m)
+      + cond more 1 0
   fewer {m} {qu} {m′} {qu′} {more} {more′} {t′ = t′} e u f =
       let one : _≡_ {A = ℕ} (cond more 1 0) 1 = ap (λ (b : Bool). cond b 1 0) e in
       let le = laws .counting .few (g .size) m′ (f .under .room .bits) in
       go more′ (u .grows) le one
     where
-      go : (b : Bool) → markedCount (g .size) m + cond b 1 0 ≤ markedCount (g .size) m′ → markedCount (g .size) m′ ≤ g .size → _≡_ {A = ℕ} (cond more 1 0) 1 → (g .size - markedCount (g .size) m′) + cond b 1 0 < (g .size - markedCount (g .size) m) + cond more 1 0
+      go : (b : Bool) → markedCount (g .size) m + cond b 1 0 ≤ markedCount (g .size) m′
+          → markedCount (g .size) m′ ≤ g .size → _≡_ {A = ℕ} (cond more 1 0) 1
+          → (g .size - markedCount (g .size) m′) + cond b 1 0 < (g .size - markedCount (g .size) m)
+          + cond more 1 0
       go true gr le one = omega arith
       go false gr le one = omega arith
 
@@ -211,14 +222,16 @@ module _ (g : Graph) where
   cleared-length m l = simp (length-append, length-replicate, length-drop) (omega arith)
 
   -- cleared marks are a search that has not begun
-  pub cleared : (m₀ : List ℕ) {m qu : List ℕ} → g .size ≤ length m₀ → g .size ≤ length qu → m ≡ replicate (g .size) 0 ++ drop (g .size) m₀ → Marking g [] m qu 0 0
+  pub cleared : (m₀ : List ℕ) {m qu : List ℕ} → g .size ≤ length m₀ → g .size ≤ length qu
+      → m ≡ replicate (g .size) 0 ++ drop (g .size) m₀ → Marking g [] m qu 0 0
   cleared m₀ {m} {qu} lm lq e =
       marking-none g m qu (omega (arith, ap length e, cleared-length m₀ lm)) lq
       (λ p h. ap (λ (x : List ℕ). getD x p 0) e
       ∙ List·getD-append (replicate (g .size) 0) (drop (g .size) m₀) 0 p (omega (arith, length-replicate (g .size) zero))
       ∙ getD-replicate (g .size) p 0 0 h)
 
-  pub searching-on : {m₀ m qu m′ qu′ : List ℕ} {h t t′ : ℕ} → Searching g m₀ m qu h t → Visited g m qu h m′ qu′ t′ → length m′ ≡ length m → Searching g m₀ m′ qu′ (h + 1) t′
+  pub searching-on : {m₀ m qu m′ qu′ : List ℕ} {h t t′ : ℕ} → Searching g m₀ m qu h t
+      → Visited g m qu h m′ qu′ t′ → length m′ ≡ length m → Searching g m₀ m′ qu′ (h + 1) t′
   searching-on s v lm =
       record {
         under = v .under;
@@ -230,6 +243,12 @@ module _ (g : Graph) where
   pub searched : Lawful g → {m₀ m qu : List ℕ} {h t : ℕ} → Searching g m₀ m qu h t → t ≤ h → (p : ℕ) → p < g .size → getD m p 0 ≡ markOf g p
   searched law {m = m} {qu = qu} {h = h} {t = t} s d p l =
       ⊎-elim
-      (λ z. ⊎-elim (λ y. z ∙ sym y) (λ y. absurd (omega (arith, z, marking-done g law m qu h t (s .under) d (s .root) p (laws .marking g law .reachable p l y)))) (bit (laws .marking g law .bit p)))
+      (λ z. ⊎-elim (λ y. z ∙ sym y)
+      (λ y. absurd (omega (
+        arith,
+        z,
+        marking-done g law m qu h t (s .under) d (s .root) p (laws .marking g law .reachable p l y),
+      )))
+      (bit (laws .marking g law .bit p)))
       (λ o. o ∙ sym (laws .marking g law .one p (s .under .sound p l o)))
       (bit (s .under .room .bits p l))

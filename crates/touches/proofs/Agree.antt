@@ -12,7 +12,7 @@ use Rattle.touches.specs.declared.arguments.Arguments.{Arguments}
 use Rattle.fields.specs.Laws.{all}
 use Rattle.fields.proofs.Laws.{laws}
 use Rattle.touches.specs.Operands.{Operand, «R[A]», «R[A+1]», «R[A+2]», «R[A+3]», «R[A+1…A+B-1]», «R[A+1…A+B]», locationOf}
-use Rattle.touches.specs.Cases.{Edge, noEdge, «p+1», «p+2», «p+1-Bx», «p+1+sBx», Accesses}
+use Rattle.touches.specs.Cases.{OwnEdge, noEdge, «p+1», «p+2», «p+1-Bx», «p+1+sBx», Accesses}
 use Rattle.touches.specs.Table.{operandNumber, operandFrom, edgeNumber, opcodesOf}
 use Rattle.steps.specs.Executions.{Access, Arm, goOf}
 use Rattle.touches.specs.Cells.{Cell, register, upToTop, names}
@@ -261,7 +261,8 @@ module _ (i pi ni : Arguments) (c : Cell) where
         (λ w s k. every-any Is (isApart x) (stores w) s (from-accesses (wayStores w) k) (λ y u g. apart x y u h g)))
 
     -- a store is listed
-    listed : (w : Way v) → T (every (listedStore v a w) (stores w)) → StoredOn w → Any Is (a .writes) ⊎ (T (leads v (a .edge) (goOf w)) × Any Is (a .«edge-writes»))
+    listed : (w : Way v) → T (every (listedStore v a w) (stores w)) → StoredOn w
+        → Any Is (a .writes) ⊎ (T (leads v (a .edge) (goOf w)) × Any Is (a .«edge-writes»))
     listed w t k =
         every-any Is (listedStore v a w) (stores w) t (from-accesses (wayStores w) k)
         (λ x s h.
@@ -300,7 +301,10 @@ module _ (i pi ni : Arguments) (c : Cell) where
           ((w : Way v) → T (leads v (a .edge) (goOf w)) → Leads w) → Any Is (a .«edge-writes») →
           Any (λ (w : Way v). Leads w × StoredOn w) ways × (All StoredOn ways → ⊥)
       edge-into over r = (
-        every-any Is (λ (x : Operand). some (λ (w : Way v). cond (leads v (a .edge) (goOf w)) (has (stores w) x) false) ways) (a .«edge-writes») (agrees .written-over-edge) r
+        every-any Is
+            (λ (x : Operand).
+            some (λ (w : Way v). cond (leads v (a .edge) (goOf w)) (has (stores w) x) false) ways)
+            (a .«edge-writes») (agrees .written-over-edge) r
             (λ x t h.
             some-any (λ (w : Way v). Leads w × StoredOn w) (λ (w : Way v). cond (leads v (a .edge) (goOf w)) (has (stores w) x) false) ways t
             (λ w s. (
@@ -324,7 +328,7 @@ module _ (i pi ni : Arguments) (c : Cell) where
         (λ (h : T (leads v (a .edge) (goOf w)) × Any Is (a .«edge-writes»)). absurd (never 3 (a .«edge-writes») (agrees .no-edge-tops) e (h .1)))
         (listed w t k))
 
-edge-is : (e : Edge) → edgeNumber e ≡ 0 → e ≡ noEdge
+edge-is : (e : OwnEdge) → edgeNumber e ≡ 0 → e ≡ noEdge
 edge-is noEdge h = refl
 edge-is «p+1» h = absurd (omega (arith, h))
 edge-is «p+2» h = absurd (omega (arith, h))
@@ -338,8 +342,10 @@ module _ (i pi ni : Arguments) where
       ⊎-elim (λ u. edge-is (a .edge) (eqb→eq (edgeNumber (a .edge)) 0 u))
       (λ u.
       ⊎-elim
-      (λ v. absurd (none (i .a) (found i pi ni (register (i .a)) «R[A]» (a .«edge-writes») v (one-register (i .a) (i .a + 1) (omega arith) (register (i .a)) .0 refl))))
-      (λ v. absurd (none (i .a + 2) (found i pi ni (register (i .a + 2)) «R[A+2]» (a .«edge-writes») v (one-register (i .a + 2) (i .a + 3) (omega arith) (register (i .a + 2)) .0 refl))))
+      (λ v. absurd (none (i .a) (found i pi ni (register (i .a)) «R[A]» (a .«edge-writes») v
+      (one-register (i .a) (i .a + 1) (omega arith) (register (i .a)) .0 refl))))
+      (λ v. absurd (none (i .a + 2) (found i pi ni (register (i .a + 2)) «R[A+2]» (a .«edge-writes») v
+      (one-register (i .a + 2) (i .a + 3) (omega arith) (register (i .a + 2)) .0 refl))))
       (one-of (has (a .«edge-writes») «R[A]») _ u))
       (one-of (eqb (edgeNumber (a .edge)) 0) _ t)
 

@@ -11,6 +11,8 @@ use Rattle.touches.specs.Touches.{touchesBy, touchesIn, touchesFor}
 use Rattle.touches.specs.Examples53.{ExamplesHold, examples}
 
 pub examples-hold : ExamplesHold examples
-unfolding classOf companionOf unless one ordered two opcodeAt companionPresent successorsOf accessesOf join insert add addAll insertRegister putAll gather rangesOf indicesOf firstTop touchesBy touchesIn touchesFor
+unfolding classOf companionOf unless one ordered two opcodeAt companionPresent successorsOf accessesOf join
+    insert add addAll insertRegister putAll gather rangesOf indicesOf firstTop touchesBy touchesIn
+    touchesFor
 examples-hold =
     (refl, (refl, (refl, (refl, (refl, (refl, (refl, (refl, (refl, (refl, (refl, (refl, (refl, (refl, (refl, (refl, (refl, (refl, (refl, (refl, (refl, (refl, (refl, (refl, (refl, (refl, (refl, (refl, (refl, (refl, (refl, (refl, (refl, (refl, (refl, (refl, (refl, (refl, (refl, (refl, (refl, (refl, (refl, (refl, (refl, (refl, (refl, (refl, (refl, (refl, (refl, (refl, (refl, (refl, (refl, (refl, (refl, (refl, (refl, (refl, (refl, (refl, (refl, (refl, (refl, (refl, (refl, (refl, (refl, (refl, (refl, (refl, (refl, (refl, (refl, (refl, (refl, (refl, (refl, (refl, (refl, (refl, (refl, (refl, (refl, (refl, (refl, (refl, (refl, (refl, (refl, (refl, (refl, (refl, (refl, (refl, (refl, (refl, (refl, (refl, (refl, (refl, (refl, (refl, (refl, (refl, (refl, (refl, (refl, (refl, (refl, (refl, (refl, (refl, (refl, (refl, (refl, (refl, (refl, (refl, (refl, (refl, (refl, (refl, (refl, tt)))))))))))))))))))))))))))))))))))))))))))))))))))))))))))))))))))))))))))))))))))))))))))))))))))))))))))))))))))))))))))))

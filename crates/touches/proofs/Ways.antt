@@ -28,7 +28,7 @@ use Rattle.fields.specs.declared.version.Version.the-variants.{Lua54, Lua53}
 use Rattle.touches.specs.Words.{opcodeBy, «GET_OPCODE-of», taken}
 use Rattle.touches.specs.Versions.{isStep, Go, Way, waysOf, next}
 use Rattle.touches.specs.Touched.{waysAt, Any, LeadsTo}
-use Rattle.touches.specs.Cases.{Edge, noEdge, «p+1», «p+2», «p+1-Bx», «p+1+sBx», edgeOf}
+use Rattle.touches.specs.Cases.{OwnEdge, noEdge, «p+1», «p+2», «p+1-Bx», «p+1+sBx», edgeOf}
 use Rattle.touches.specs.Table.{edgeFrom, edgeNumber, opcodesOf}
 use Rattle.touches.proofs.Order.{split}
 use Rattle.touches.proofs.Choices.{left-of, right-of}
@@ -134,14 +134,14 @@ away m a b = sym (+ℤ-assoc (pos m) (pos a) (negℤ (pos b)))
 -- The edge of a case, and the way on that leads over it
 
 -- where lvm.c leaves pc then
-abbrev pub landing : Version → Edge → ℕ → ℕ → ℤ
+abbrev pub landing : Version → OwnEdge → ℕ → ℕ → ℤ
 landing v noEdge p w = pos 0
 landing v «p+1» p w = pos (p + 1)
 landing v «p+2» p w = pos (p + 1) +ℤ pos 1
 landing v «p+1-Bx» p w = pos (p + 1) -ℤ pos (taken v w .bx)
 landing v «p+1+sBx» p w = pos (p + 1) +ℤ (pos (taken v w .bx) -ℤ pos 131071)
 
-abbrev isEdge : Edge → Bool
+abbrev isEdge : OwnEdge → Bool
 isEdge noEdge = false
 isEdge «p+1» = true
 isEdge «p+2» = true
@@ -151,7 +151,7 @@ isEdge «p+1+sBx» = true
 -- the edge over which a way leads, of those that a case can have
 abbrev crossing :
     (v : Version) (go : Go v) →
-    (edge : Edge) × ((ws : List ℕ) (p w : ℕ) → T (isEdge edge) → next v ws (pos (p + 1)) w go ≡ landing v edge p w ∷ [])
+    (edge : OwnEdge) × ((ws : List ℕ) (p w : ℕ) → T (isEdge edge) → next v ws (pos (p + 1)) w go ≡ landing v edge p w ∷ [])
 crossing Lua54 lvm54.vmbreak = («p+1», λ ws p w t. refl)
 crossing Lua54 lvm54.«pc++» = («p+2», λ ws p w t. refl)
 crossing Lua54 lvm54.«pc++-if-k» = (noEdge, λ ws p w t. absurd t)
@@ -174,21 +174,21 @@ crossing Lua53 lvm53.«pc+=sBx» = («p+1+sBx», λ ws p w t. refl)
 crossing Lua53 lvm53.«goto-l_tforloop» = (noEdge, λ ws p w t. absurd t)
 crossing Lua53 lvm53.leave = (noEdge, λ ws p w t. absurd t)
 
-abbrev pub leads : (v : Version) → Edge → Go v → Bool
+abbrev pub leads : (v : Version) → OwnEdge → Go v → Bool
 leads v edge go = cond (isEdge edge) (eqb (edgeNumber (crossing v go .0)) (edgeNumber edge)) false
 
 pub next-landing :
-    (v : Version) (ws : List ℕ) (p w : ℕ) (edge : Edge) (go : Go v) → T (leads v edge go) →
+    (v : Version) (ws : List ℕ) (p w : ℕ) (edge : OwnEdge) (go : Go v) → T (leads v edge go) →
     next v ws (pos (p + 1)) w go ≡ landing v edge p w ∷ []
 next-landing v ws p w edge go t =
-    let own : Edge = crossing v go .0 in
+    let own : OwnEdge = crossing v go .0 in
     let n : edgeNumber own ≡ edgeNumber edge = eqb→eq (edgeNumber own) (edgeNumber edge) (right-of (isEdge edge) _ t) in
     let e : own ≡ edge = sym (edge-back own) ∙ (ap edgeFrom n ∙ edge-back edge) in
-    subst (λ (x : Edge). next v ws (pos (p + 1)) w go ≡ landing v x p w ∷ []) e
-    (crossing v go .1 ws p w (subst (λ (x : Edge). T (isEdge x)) (sym e) (left-of (isEdge edge) _ t)))
+    subst (λ (x : OwnEdge). next v ws (pos (p + 1)) w go ≡ landing v x p w ∷ []) e
+    (crossing v go .1 ws p w (subst (λ (x : OwnEdge). T (isEdge x)) (sym e) (left-of (isEdge edge) _ t)))
 
 pub landing-is :
-    (v : Version) (ws : List ℕ) (p : ℕ) → isInvalid (stepsOf v ws p) ≡ false → (edge : Edge) →
+    (v : Version) (ws : List ℕ) (p : ℕ) → isInvalid (stepsOf v ws p) ≡ false → (edge : OwnEdge) →
     Any (LeadsTo v ws p (landing v edge p (getD ws p 0))) (waysAt v ws p) → landing v edge p (getD ws p 0) ≡ pos (edgeOf edge p (taken v (getD ws p 0) .bx))
 landing-is v ws p valid noEdge a = refl
 landing-is v ws p valid «p+1» a = refl

@@ -25,9 +25,10 @@ use Rattle.touches.specs.Operands.{
   «R[B…C]»,
   «R[A+3…A+2+C]»,
 }
-use Rattle.touches.specs.Cases.{«p+1», «p+1+sBx», always, onEdge, Case, vmcase}
+use Rattle.steps.specs.Ways.{Case, vmcase}
+use Rattle.touches.specs.Cases.{«p+1», «p+1+sBx», Accesses, always, onEdge}
 
-abbrev pub switch : List Case
+abbrev pub switch : List (Case Accesses)
 switch =
     -- R(A) := R(B)
     vmcase op.«OP_MOVE» (always («R[B]» ∷ []) («R[A]» ∷ []))

@@ -40,10 +40,16 @@ module _ (ws : Script) (sound : Sound ws) (weights : List ℕ) (a b l f : ℕ) (
   -- no check refused
   answer : (eqb (ws .size) 0 ≡ false) × (L ≡ Run.Accepted l f)
   unfolding runOf
-  answer = go (ltb mostWords (ws .size)) (ltb a (ws .size) || ltb b (ws .size)) (refusesWeights weights) (eqb (ws .size) 0) (ltb (lowestInvalid ws) (ws .size)) refl e
+  answer =
+      go (ltb mostWords (ws .size)) (ltb a (ws .size) || ltb b (ws .size)) (refusesWeights weights)
+      (eqb (ws .size) 0) (ltb (lowestInvalid ws) (ws .size)) refl e
     where
       go : (s t u v x : Bool) → eqb (ws .size) 0 ≡ v
-          → refuseIf s (Run.Refused «TOO_MANY_WORDS» 0) (refuseIf t (Run.Refused «SHORT_SLICE» 0) (refuseIf u (Run.Refused «WEIGHTS_REFUSED» (weightsPlace weights)) (refuseIf v (Run.Refused «NO_WORDS» 0) (refuseIf x (Run.Refused «REACHES_INVALID» (lowestInvalid ws)) L)))) ≡ Run.Accepted l f
+          → refuseIf s (Run.Refused «TOO_MANY_WORDS» 0) (refuseIf t (Run.Refused «SHORT_SLICE» 0)
+          (refuseIf u (Run.Refused «WEIGHTS_REFUSED» (weightsPlace weights))
+          (refuseIf v (Run.Refused «NO_WORDS» 0)
+          (refuseIf x (Run.Refused «REACHES_INVALID» (lowestInvalid ws)) L))))
+          ≡ Run.Accepted l f
           → (eqb (ws .size) 0 ≡ false) × (L ≡ Run.Accepted l f)
       go true t u v x h d = absurd (false≢true (ap isAccepted d))
       go false true u v x h d = absurd (false≢true (ap isAccepted d))
@@ -62,10 +68,15 @@ module _ (ws : Script) (sound : Sound ws) (weights : List ℕ) (a b l f : ℕ) (
   some = let n = eqb-false (ws .size) 0 (answer .0) in omega arith
 
   means : Meaning (graphOf ws) (weightOf ws weights)
-  means = meaning (graphOf ws) (laws .lawful ws sound) (weightOf ws weights) (laws .weights weights (laws .enough ws weights a b (ap numberOf e) .weighed) .some ws sound)
+  means =
+      meaning (graphOf ws) (laws .lawful ws sound) (weightOf ws weights)
+      (laws .weights weights (laws .enough ws weights a b (ap numberOf e) .weighed) .some ws sound)
 
   reached : Reachable (graphOf ws) (first (graphOf ws) (weightOf ws weights))
-  reached = let s = means .first-some some in graph.laws .reaching (graphOf ws) (laws .lawful ws sound) .segment (first (graphOf ws) (weightOf ws weights)) (s .0) (s .1)
+  reached =
+      let s = means .first-some some in
+      graph.laws .reaching (graphOf ws) (laws .lawful ws sound) .segment
+      (first (graphOf ws) (weightOf ws weights)) (s .0) (s .1)
 
   pub first-reached : Reachable (graphOf ws) f
   first-reached = rw first-is reached
@@ -95,5 +106,7 @@ module _ (ws : Script) (sound : Sound ws) (weights m l : List ℕ) (accepted : n
   unfolding pathOf
   walked-is {l′} {f} e k =
       follow-same (graphOf ws) (laws .lawful ws sound) (at l′) (lengthOf (graphOf ws) (weightOf ws weights))
-      (λ q h. ap (λ (x : List ℕ). getD x q 0) (e ∙ accepted-lengths) ∙ over-laws .at (lengthOf (graphOf ws) (weightOf ws weights)) (ws .size) l q h) (ws .size) f
+      (λ q h. ap (λ (x : List ℕ). getD x q 0) (e ∙ accepted-lengths)
+      ∙ over-laws .at (lengthOf (graphOf ws) (weightOf ws weights)) (ws .size) l q h)
+      (ws .size) f
       ∙ ap (follow (graphOf ws) (lengthOf (graphOf ws) (weightOf ws weights)) (ws .size)) k

@@ -60,7 +60,8 @@ module _ (ws : Script) (weights m l path : List ℕ) where
       (rw (le-ltb mostWords (ws .size) few, s), (rw s, (rw s, rw s)))
 
   module _ (few : ws .size ≤ mostWords) (long : ws .size ≤ length path) {r : Run} (e : r ≡ runOf ws weights (length m) (length l)) where
-    pub path-refused : {k p : ℕ} {m′ l′ : List ℕ} → r ≡ Run.Refused k p → m′ ≡ marksAfter ws weights m l → l′ ≡ lengthsAfter ws weights m l → Whole (PathRun.Refused k p) m′ l′ path
+    pub path-refused : {k p : ℕ} {m′ l′ : List ℕ} → r ≡ Run.Refused k p → m′ ≡ marksAfter ws weights m l
+        → l′ ≡ lengthsAfter ws weights m l → Whole (PathRun.Refused k p) m′ l′ path
     unfolding pathRunOf marksWitnessed lengthsWitnessed pathWitnessed
     path-refused {k} {p} h em el =
         let z : runOf ws weights (length m) (length l) ≡ Run.Refused k p = sym e ∙ h in

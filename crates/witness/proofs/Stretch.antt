@@ -42,11 +42,14 @@ ascending n (Two a c) b = (λ r i. ⊎-elim (λ e. above r e) (λ j. absurd j) i
 
 module _ (ws : Script) (sound : Sound ws) (weights : List ℕ) (a b l f : ℕ) (e : runOf ws weights a b ≡ Run.Accepted l f) where
   abbrev rest : List ℕ
-  rest = restOf (graphOf ws) (laws .lawful ws sound) (lengthOf (graphOf ws) (weightOf ws weights)) (λ p. ascending (ws .size) (ws .steps p) (sound .below p)) (ws .size - 1) f
+  rest =
+      restOf (graphOf ws) (laws .lawful ws sound) (lengthOf (graphOf ws) (weightOf ws weights))
+      (λ p. ascending (ws .size) (ws .steps p) (sound .below p)) (ws .size - 1) f
 
   followed : FollowsLengths (graphOf ws) (lengthOf (graphOf ws) (weightOf ws weights)) f rest
   followed =
-      follows (graphOf ws) (laws .lawful ws sound) (lengthOf (graphOf ws) (weightOf ws weights)) (λ p. ascending (ws .size) (ws .steps p) (sound .below p)) (ws .size - 1) f
+      follows (graphOf ws) (laws .lawful ws sound) (lengthOf (graphOf ws) (weightOf ws weights))
+      (λ p. ascending (ws .size) (ws .steps p) (sound .below p)) (ws .size - 1) f
       (omega arith)
 
   starts-with : pathOf ws weights ≡ f ∷ rest
@@ -58,7 +61,9 @@ module _ (ws : Script) (sound : Sound ws) (weights : List ℕ) (a b l f : ℕ) (
 
   few-words : length (pathOf ws weights) ≤ ws .size
   unfolding pathOf
-  few-words = follow-few (graphOf ws) (laws .lawful ws sound) (lengthOf (graphOf ws) (weightOf ws weights)) (ws .size) (first (graphOf ws) (weightOf ws weights))
+  few-words =
+      follow-few (graphOf ws) (laws .lawful ws sound) (lengthOf (graphOf ws) (weightOf ws weights))
+      (ws .size) (first (graphOf ws) (weightOf ws weights))
 
   longest-stretch : LongestStretch ws weights l f (pathOf ws weights)
   longest-stretch =
@@ -105,12 +110,15 @@ module _ (ws : Script) (sound : Sound ws) (weights m l path : List ℕ) where
       either true = refl
       either false = refl
 
-  as-run : (n p : ℕ) → runOf ws weights (length m) (length l) ≡ Run.Refused n p → mostWords < ws .size → pathRunOf ws weights (length m) (length l) (length path) ≡ PathRun.Refused n p
+  as-run : (n p : ℕ) → runOf ws weights (length m) (length l) ≡ Run.Refused n p → mostWords < ws .size
+      → pathRunOf ws weights (length m) (length l) (length path) ≡ PathRun.Refused n p
   as-run n p e h =
       sym (path-many ws weights m l path h .0)
       ∙ ap (λ (r : Run). pathAnswerBy r []) (sym (run-many ws weights (length m) (length l) h) ∙ e)
 
-  short-kept : length path < ws .size → (pathWitnessed ws weights m l path ≡ path) × (marksWitnessed ws weights m l path ≡ m) × (lengthsWitnessed ws weights m l path ≡ l)
+  short-kept : length path < ws .size
+      → (pathWitnessed ws weights m l path ≡ path) × (marksWitnessed ws weights m l path ≡ m)
+      × (lengthsWitnessed ws weights m l path ≡ l)
   unfolding pathWitnessed marksWitnessed lengthsWitnessed
   short-kept h = let s = lt-ltb (length path) (ws .size) h in (rw s, rw s, rw s)
 

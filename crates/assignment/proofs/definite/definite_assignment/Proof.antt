@@ -12,10 +12,12 @@ use Rattle.assignment.proofs.definite.definite_assignment.Tie as tie
 returns : tie.Need-returns
 returns c =
     let s = c .before .before .before .before .args in
+    let words = s .words .now in
+    let marks = s .marks .now in
     let e = c .before .size-refusal .ensures in
-    let n : sizesNumber (length (s .words .now)) (length (s .marks .now)) ≡ «ACCEPTED» → ⊥ = λ z. c .if1 .taken (e ∙ z) in
-    rw e (outcome-kept (s .words .now) (s .parameters) (s .marks .now) (sizesNumber (length (s .words .now)) (length (s .marks .now)))
-    (assigned-refused (s .words .now) (s .parameters) (length (s .marks .now)) n) (refusal-untouched (s .words .now) (s .parameters) (length (s .marks .now)) n))
+    let n : sizesNumber (length words) (length marks) ≡ «ACCEPTED» → ⊥ = λ z. c .if1 .taken (e ∙ z) in
+    rw e (outcome-kept words (s .parameters) marks (sizesNumber (length words) (length marks))
+    (assigned-refused words (s .parameters) (length marks) n) (refusal-untouched words (s .parameters) (length marks) n))
 
 pub definite-assignment-spec : {M : Type 1} → statement M
 definite-assignment-spec =
@@ -28,8 +30,8 @@ definite-assignment-spec =
     (λ c κs. let d = c .before in let p = sizes-pass _ _ (sym (d .before .size-refusal .ensures) ∙ d .if1 .left) in (p .2, p .0, length-take-le _ _ (p .1)))
     (λ c. search needs)
     (λ c.
-    let a = c .before .before .assign .ensures in
     let d = c .before .before .before .before in
+    let a = c .before .before .assign .ensures in
     let s = d .before .before .before .before .args in
     outcome-words (s .words .now) (s .parameters) (s .marks .now)
     (assigned-passed (s .words .now) (s .parameters) (length (s .marks .now)) (sym (d .before .size-refusal .ensures) ∙ d .if1 .left)) (a .0) (a .1)))

@@ -28,8 +28,10 @@ mark-words-spec =
     Inv-loop
     μ-loop
     (λ c. writing-none _ _ _ (omega arith))
-    (λ c. omega (arith, c .loop-test .taken, c .before .before .before .before .pre))
-    (λ c. omega (arith, c .before .loop-test .taken, c .before .before .before .before .before .pre))
+    (λ c. let entry = c .before .before .before .before in omega (arith, c .loop-test .taken, entry .pre))
+    (λ c.
+    let entry = c .before .before .before .before .before in
+    omega (arith, c .before .loop-test .taken, entry .pre))
     (λ c κs. search needs)
     (λ c. let v = c .before .before .before .loop .inv in omega (arith, c .before .before .loop-test .taken, v .same))
     (λ c. omega (arith, c .before .before .loop-test .taken))

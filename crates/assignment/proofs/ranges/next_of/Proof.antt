@@ -7,15 +7,17 @@ use Rattle.assignment.proofs.ranges.next_of.Tie as tie
 
 returns : tie.Need-returns
 returns c =
-    let x = c .before .before .before .before .args .x in
-    let r = c .before .before .before .before .args .r in
+    let entry = c .before .before .before .before in
+    let x = entry .args .x in
+    let r = entry .args .r in
     let e = c .before .before .larger-size .ensures in
     (rw (le-leb (max (x .first) r) (x .last) (omega (arith, e, c .if1 .taken))) e, search needs)
 
 returns-2 : tie.Need-returns-2
 returns-2 c =
-    let x = c .before .before .before .before .args .x in
-    let r = c .before .before .before .before .args .r in
+    let entry = c .before .before .before .before in
+    let x = entry .args .x in
+    let r = entry .args .r in
     let e = c .before .before .larger-size .ensures in
     (rw (lt-leb (max (x .first) r) (x .last) (omega (arith, e, c .if1 .left))), search needs)
 

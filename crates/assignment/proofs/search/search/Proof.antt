@@ -17,11 +17,16 @@ module _ (c : tie.After-visit Inv-loop μ-loop) where
   turn = c .before .before .before .before
 
   abbrev entry : tie.Start Inv-loop μ-loop
-  entry = turn .before .before .before .before .before .before .before .before .before .before .before .before .before .before .before .before
+  entry =
+      let at-pages = turn .before .before .before in
+      let at-unset = at-pages .before .before .before .before in
+      let at-start-arg = at-unset .before .before .before .before in
+      at-start-arg .before .before .before .before .before
 
 next-waiting-requires : tie.Need-next-waiting-requires Inv-loop μ-loop
 next-waiting-requires c κs =
-    let v = c .before .before .before .before .before .before .before .before in
+    let at-pages2 = c .before .before .before in
+    let v = at-pages2 .before .before .before .before .before in
     let s = entry v in
     let t = turn v in
     let u = going-visited (s .args .words .now) (s .args .r) (s .pre .1 .few) (t .before .loop .inv) (t .loop-test .taken) (v .visit .ensures) in
@@ -29,17 +34,21 @@ next-waiting-requires c κs =
 
 loop-less : tie.Need-loop-less Inv-loop μ-loop
 loop-less c =
-    let v = c .before .before .before .before .before .before .before .before .before .before .before in
+    let at-next-waiting = c .before .before in
+    let at-pages2 = at-next-waiting .before .before .before .before in
+    let v = at-pages2 .before .before .before .before .before in
     let s = entry v in
     let t = turn v in
     going-less (s .args .words .now) (s .args .r) (s .pre .1 .few) (t .before .loop .inv) (t .loop-test .taken) (v .visit .ensures)
 
 loop-again : tie.Need-loop-again Inv-loop μ-loop
 loop-again c =
-    let v = c .before .before .before .before .before .before .before .before .before .before .before in
+    let at-next-waiting = c .before .before in
+    let at-pages2 = at-next-waiting .before .before .before .before in
+    let v = at-pages2 .before .before .before .before .before in
     let s = entry v in
     let t = turn v in
-    let w = c .before .before .next-waiting in
+    let w = at-next-waiting .next-waiting in
     going-more (s .args .words .now) (s .args .r) (s .pre .1 .few) (t .before .loop .inv) (t .loop-test .taken) (v .visit .ensures)
     (v .visit .kept .1 .1 .1 .0) (v .visit .kept .1 .1 .1 .1 .0) (v .visit .kept .1 .1 .1 .1 .1 .0) (w .kept .1 .0) (w .ensures .0) (w .ensures .1)
 
@@ -49,14 +58,50 @@ search-spec =
     (tie.spec
     Inv-loop
     μ-loop
-    (λ c κs. c .before .before .before .before .before .before .before .pre .1)
-    (λ c. let s = c .before .before .before .before .before .before .before .before .before .before .before .before .before .before in going-first (s .args .words .now) (s .args .r) (s .pre .1 .some) (s .pre .2) (c .before .before .before .before .before .before .start .ensures))
-    (λ c κs. let s = c .before .before .before .before .before .before .before .before .before .before .before .before .before .before .before .before .before .before .before in (s .pre .0, going-room (s .args .words .now) (s .args .r) (s .pre .1 .some) (s .pre .1 .few) (c .before .before .before .before .loop .inv), c .before .before .before .loop-test .taken, s .pre .3))
-    (λ c. let v = c .before .before .before .before .before .before .before .before in omega (arith, turn v .loop-test .taken, entry v .pre .1 .few))
+    (λ c κs.
+    let at-start-arg = c .before .before in
+    let start = at-start-arg .before .before .before .before .before in
+    start .pre .1)
+    (λ c.
+    let at-waiting = c .before .before .before in
+    let at-start = at-waiting .before .before .before in
+    let at-start-arg = at-start .before .before .before in
+    let s = at-start-arg .before .before .before .before .before in
+    going-first (s .args .words .now) (s .args .r) (s .pre .1 .some) (s .pre .2) (at-start .start .ensures))
+    (λ c κs.
+    let round = c .before .before .before .before in
+    let at-waiting = round .before .before .before .before in
+    let at-start = at-waiting .before .before .before in
+    let at-start-arg = at-start .before .before .before in
+    let s = at-start-arg .before .before .before .before .before in (
+      s .pre .0,
+      going-room (s .args .words .now) (s .args .r) (s .pre .1 .some) (s .pre .1 .few)
+          (round .loop .inv),
+      c .before .before .before .loop-test .taken,
+      s .pre .3,
+    ))
+    (λ c.
+    let at-pages2 = c .before .before .before in
+    let v = at-pages2 .before .before .before .before .before in
+    omega (arith, turn v .loop-test .taken, entry v .pre .1 .few))
     next-waiting-requires
     loop-less
     loop-again
-    (λ c. c .before .loop .inv .unset-same ∙ c .before .before .before .before .before .before .before .before .start .kept .1 .0)
-    (λ c. c .before .loop .inv .waiting-same ∙ c .before .before .before .before .before .before .before .before .start .kept .1 .1 .0)
-    (λ c. c .before .loop .inv .pages-same ∙ c .before .before .before .before .before .before .before .before .start .kept .1 .1 .1 .0)
-    (λ c. let s = c .before .before .before .before .before .before .before .before .before .before .before .before .before .before .before .before in going-done (s .args .words .now) (s .args .r) (c .before .loop .inv) (c .loop-test .left)))
+    (λ c.
+    let at-pages = c .before .before .before in
+    let at-start = at-pages .before .before .before .before .before in
+    c .before .loop .inv .unset-same ∙ at-start .start .kept .1 .0)
+    (λ c.
+    let at-pages = c .before .before .before in
+    let at-start = at-pages .before .before .before .before .before in
+    c .before .loop .inv .waiting-same ∙ at-start .start .kept .1 .1 .0)
+    (λ c.
+    let at-pages = c .before .before .before in
+    let at-start = at-pages .before .before .before .before .before in
+    c .before .loop .inv .pages-same ∙ at-start .start .kept .1 .1 .1 .0)
+    (λ c.
+    let at-pages = c .before .before .before in
+    let at-unset = at-pages .before .before .before .before in
+    let at-start-arg = at-unset .before .before .before .before in
+    let s = at-start-arg .before .before .before .before .before in
+    going-done (s .args .words .now) (s .args .r) (c .before .loop .inv) (c .loop-test .left)))

@@ -9,7 +9,8 @@ use Rattle.assignment.proofs.search.spread.Tie as tie
 -- nothing is done where there is no step
 abbrev Still : tie.Start → Successors → Type 0
 Still s x =
-    Spreads (s .args .r) (s .args .t) (s .args .at) x (s .args .unset .now) (s .args .waiting .now) (s .args .pages .now) (s .args .unset .now) (s .args .waiting .now) (s .args .pages .now)
+    Spreads (s .args .r) (s .args .t) (s .args .at) x (s .args .unset .now) (s .args .waiting .now)
+    (s .args .pages .now) (s .args .unset .now) (s .args .waiting .now) (s .args .pages .now)
 
 returns : tie.Need-returns
 returns c = subst (λ (x : Successors). Still (c .before .before .before .before .before) x) (sym (c .enum-told .given .1)) (refl, refl, refl)
@@ -19,23 +20,40 @@ returns-2 c = subst (λ (x : Successors). Still (c .before .before .before .befo
 
 returns-3 : tie.Need-returns-3
 returns-3 c =
-    let s = c .before .before .before .before .before .before .before .before .before .before .before .before .before .before .before .before .before in
-    let j = c .before .before .before .before .before .before .join in
-    subst (λ (x : Successors). Spreads (s .args .r) (s .args .t) (s .args .at) x (s .args .unset .now) (s .args .waiting .now) (s .args .pages .now) (j .last .0) (j .last .1 .0) (j .last .1 .1 .0)) (sym (c .before .before .before .before .before .before .before .before .before .before .before .before .s .given .1))
-    (record { sets = c .before .before .before .before .before .before .before .before .before .before .set-by .result; holds = c .before .before .before .before .before .before .before .before .before .before .set-by .ensures; joins = j .ensures })
+    let at-waiting = c .before .before .before in
+    let at-join = at-waiting .before .before .before in
+    let at-set-by = at-join .before .before .before .before in
+    let at-s = at-set-by .before .before in
+    let s = at-s .before .before .before .before .before in
+    let j = at-join .join in
+    subst
+    (λ (x : Successors). Spreads (s .args .r) (s .args .t) (s .args .at) x (s .args .unset .now)
+    (s .args .waiting .now) (s .args .pages .now) (j .last .0) (j .last .1 .0) (j .last .1 .1 .0))
+    (sym (at-s .s .given .1))
+    (record { sets = at-set-by .set-by .result; holds = at-set-by .set-by .ensures; joins = j .ensures })
 
 returns-4 : tie.Need-returns-4
 returns-4 c =
-    let s = c .before .before .before .before .before .before .before .before .before .before .before .before .before .before .before .before .before .before .before .before .before .before .before .before .before .before .before .before in
-    let i = c .before .before .before .before .before .before .before .before .before .before .before .before .before .before .before .before .before .join2 in
-    let j = c .before .before .before .before .before .before .join3 in
-    subst (λ (x : Successors). Spreads (s .args .r) (s .args .t) (s .args .at) x (s .args .unset .now) (s .args .waiting .now) (s .args .pages .now) (j .last .0) (j .last .1 .0) (j .last .1 .1 .0)) (sym (c .before .before .before .before .before .before .before .before .before .before .before .before .before .before .before .before .before .before .before .before .before .before .before .s2 .given .1))
+    let at-waiting3 = c .before .before .before in
+    let at-join3 = at-waiting3 .before .before .before in
+    let at-set-by3 = at-join3 .before .before .before .before in
+    let at-waiting2 = at-set-by3 .before .before .before .before in
+    let at-join2 = at-waiting2 .before .before .before in
+    let at-set-by2 = at-join2 .before .before .before .before in
+    let at-s2 = at-set-by2 .before .before in
+    let s = at-s2 .before .before .before .before .before in
+    let i = at-join2 .join2 in
+    let j = at-join3 .join3 in
+    subst
+    (λ (x : Successors). Spreads (s .args .r) (s .args .t) (s .args .at) x (s .args .unset .now)
+    (s .args .waiting .now) (s .args .pages .now) (j .last .0) (j .last .1 .0) (j .last .1 .1 .0))
+    (sym (at-s2 .s2 .given .1))
     (record {
       unset₁ = i .last .0;
       waiting₁ = i .last .1 .0;
       pages₁ = i .last .1 .1 .0;
-      first = record { sets = c .before .before .before .before .before .before .before .before .before .before .before .before .before .before .before .before .before .before .before .before .before .set-by2 .result; holds = c .before .before .before .before .before .before .before .before .before .before .before .before .before .before .before .before .before .before .before .before .before .set-by2 .ensures; joins = i .ensures };
-      second = record { sets = c .before .before .before .before .before .before .before .before .before .before .set-by3 .result; holds = c .before .before .before .before .before .before .before .before .before .before .set-by3 .ensures; joins = j .ensures };
+      first = record { sets = at-set-by2 .set-by2 .result; holds = at-set-by2 .set-by2 .ensures; joins = i .ensures };
+      second = record { sets = at-set-by3 .set-by3 .result; holds = at-set-by3 .set-by3 .ensures; joins = j .ensures };
     })
 
 pub spread-spec : {M : Type 1} → statement M
@@ -47,22 +65,53 @@ spread-spec =
     (λ c. search needs)
     returns-2
     (λ c. search needs)
-    (λ c κs. c .before .before .before .before .before .before .pre .0)
-    (λ c. search needs)
-    (λ c κs. asks-one (c .before .before .before .before .before .s .given .0 .0) (c .before .before .before .before .before .before .before .before .before .before .pre .1) (c .before .before .before .before .before .s .given .1))
-    (λ c. c .before .before .before .before .before .before .join .kept .0)
-    (λ c. c .before .before .before .before .before .before .join .kept .1 .0)
-    (λ c. c .before .before .before .before .before .before .join .kept .1 .1 .0)
-    returns-3
-    (λ c. search needs)
-    (λ c κs. c .before .before .before .before .before .before .pre .0)
-    (λ c. search needs)
-    (λ c κs. asks-first (c .before .before .before .before .before .s2 .given .0 .0) (c .before .before .before .before .before .s2 .given .0 .1 .0) (c .before .before .before .before .before .before .before .before .before .before .pre .1) (c .before .before .before .before .before .s2 .given .1))
-    (λ c κs. c .before .before .before .before .before .before .before .before .before .before .before .before .before .before .before .before .before .pre .0)
+    (λ c κs.
+    let at-s = c .before in
+    let entry = at-s .before .before .before .before .before in
+    entry .pre .0)
     (λ c. search needs)
     (λ c κs.
-    let i = c .before .before .before .before .before .before .before .before .before .before .join2 in
-    asks-second (c .before .before .before .before .before .before .before .before .before .before .before .before .before .before .before .before .s2 .given .0 .0) (c .before .before .before .before .before .before .before .before .before .before .before .before .before .before .before .before .s2 .given .0 .1 .0) (c .before .before .before .before .before .before .before .before .before .before .before .before .before .before .before .before .before .before .before .before .before .pre .1) (c .before .before .before .before .before .before .before .before .before .before .before .before .before .before .before .before .s2 .given .1) (i .kept .0) (i .kept .1 .0) (i .kept .1 .1 .0))
+    let at-s = c .before .before .before .before .before in
+    let entry = at-s .before .before .before .before .before in
+    asks-one (at-s .s .given .0 .0) (entry .pre .1) (at-s .s .given .1))
+    (λ c.
+    let at-waiting = c .before .before .before in
+    let at-join = at-waiting .before .before .before in
+    at-join .join .kept .0)
+    (λ c.
+    let at-waiting = c .before .before .before in
+    let at-join = at-waiting .before .before .before in
+    at-join .join .kept .1 .0)
+    (λ c.
+    let at-waiting = c .before .before .before in
+    let at-join = at-waiting .before .before .before in
+    at-join .join .kept .1 .1 .0)
+    returns-3
+    (λ c. search needs)
+    (λ c κs.
+    let at-s2 = c .before in
+    let entry = at-s2 .before .before .before .before .before in
+    entry .pre .0)
+    (λ c. search needs)
+    (λ c κs.
+    let at-s2 = c .before .before .before .before .before in
+    let entry = at-s2 .before .before .before .before .before in
+    asks-first (at-s2 .s2 .given .0 .0) (at-s2 .s2 .given .0 .1 .0) (entry .pre .1) (at-s2 .s2 .given .1))
+    (λ c κs.
+    let at-unset2 = c .before .before .before .before .before in
+    let at-set-by2 = at-unset2 .before .before .before .before .before in
+    let at-s2 = at-set-by2 .before .before in
+    let entry = at-s2 .before .before .before .before .before in
+    entry .pre .0)
+    (λ c. search needs)
+    (λ c κs.
+    let at-pages2 = c .before .before .before .before .before in
+    let at-join2 = at-pages2 .before .before .before .before .before in
+    let at-set-by2 = at-join2 .before .before .before .before in
+    let at-s2 = at-set-by2 .before .before in
+    let entry = at-s2 .before .before .before .before .before in
+    let i = at-join2 .join2 in
+    asks-second (at-s2 .s2 .given .0 .0) (at-s2 .s2 .given .0 .1 .0) (entry .pre .1) (at-s2 .s2 .given .1) (i .kept .0) (i .kept .1 .0) (i .kept .1 .1 .0))
     (λ c. search needs)
     (λ c. search needs)
     (λ c. search needs)

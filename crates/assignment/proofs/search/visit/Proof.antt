@@ -7,13 +7,23 @@ use Rattle.assignment.proofs.search.visit.Tie as tie
 
 spread-requires : tie.Need-spread-requires
 spread-requires c κs =
-    let s = c .before .before .before .before .before .before .before .before .before .before in
-    (touches-listed (s .args .words .now) (s .args .p) (s .pre .0) (c .before .before .before .before .touches-in .ensures), asks-words (s .args .words .now) (s .args .p) (s .pre .1) (c .before .before .before .successors .ensures))
+    let at-touches-in = c .before .before .before .before in
+    let s = at-touches-in .before .before .before .before .before .before in (
+      touches-listed (s .args .words .now) (s .args .p) (s .pre .0) (at-touches-in .touches-in .ensures),
+      asks-words (s .args .words .now) (s .args .p) (s .pre .1)
+          (c .before .before .before .successors .ensures),
+    )
 
 returns : tie.Need-returns
 returns c =
-    let s = c .before .before .before .before .before .before .before .before .before .before .before .before .before .before .before .before .before .before in
-    visits-by (s .args .words .now) (s .args .r) (s .args .p) (touches-is (s .args .words .now) (s .args .p) (s .pre .0) (c .before .before .before .before .before .before .before .before .before .before .before .before .touches-in .ensures)) (c .before .before .before .before .before .before .before .before .before .before .before .successors .ensures) (c .before .before .before .before .before .before .before .spread .ensures) (c .note .ensures)
+    let at-waiting = c .before .before .before .before in
+    let at-spread = at-waiting .before .before .before in
+    let at-successors = at-spread .before .before .before .before in
+    let at-touches-in = at-successors .before in
+    let s = at-touches-in .before .before .before .before .before .before in
+    visits-by (s .args .words .now) (s .args .r) (s .args .p)
+    (touches-is (s .args .words .now) (s .args .p) (s .pre .0) (at-touches-in .touches-in .ensures))
+    (at-successors .successors .ensures) (at-spread .spread .ensures) (c .note .ensures)
 
 pub visit-spec : {M : Type 1} → statement M
 visit-spec =
@@ -25,8 +35,24 @@ visit-spec =
     (λ c κs. search needs)
     (λ c κs. search needs)
     spread-requires
-    (λ c κs. let s = c .before .before .before .before .before .before .before .before .before .before .before .before .before .before .before .before .before in (touches-listed (s .args .words .now) (s .args .p) (s .pre .0) (c .before .before .before .before .before .before .before .before .before .before .before .touches-in .ensures), s .pre .3))
-    (λ c. c .before .before .before .before .before .before .before .spread .kept .0)
-    (λ c. let s = c .before .before .before .before .before .before .before .before .before .before .before .before .before .before .before .before .before .before in kept-set (s .args .waiting .now) (c .before .before .before .before .before .before .before .spread .last .1 .0) (s .args .p) 0 (c .before .before .before .before .before .before .before .spread .kept .1 .0))
-    (λ c. c .before .before .before .before .before .before .before .spread .kept .1 .1 .0)
+    (λ c κs.
+    let at-waiting = c .before .before .before in
+    let at-spread = at-waiting .before .before .before in
+    let at-touches-in = at-spread .before .before .before .before .before in
+    let s = at-touches-in .before .before .before .before .before .before in
+    (touches-listed (s .args .words .now) (s .args .p) (s .pre .0) (at-touches-in .touches-in .ensures), s .pre .3))
+    (λ c.
+    let at-waiting = c .before .before .before .before in
+    let at-spread = at-waiting .before .before .before in
+    at-spread .spread .kept .0)
+    (λ c.
+    let at-waiting = c .before .before .before .before in
+    let at-spread = at-waiting .before .before .before in
+    let at-touches-in = at-spread .before .before .before .before .before in
+    let s = at-touches-in .before .before .before .before .before .before in
+    kept-set (s .args .waiting .now) (at-spread .spread .last .1 .0) (s .args .p) 0 (at-spread .spread .kept .1 .0))
+    (λ c.
+    let at-waiting = c .before .before .before .before in
+    let at-spread = at-waiting .before .before .before in
+    at-spread .spread .kept .1 .1 .0)
     returns)

@@ -21,5 +21,10 @@ find-waiting-spec =
     (λ c. let l = c .before .before .before in record { upto = l .loop .inv .0; none = l .loop .inv .1; waits = λ h. c .if1 .taken })
     (λ c. omega (arith, c .before .before .loop-test .taken))
     (λ c. omega (arith, c .before .before .loop-test .taken))
-    (λ c. let l = c .before .before .before in (omega (arith, c .before .before .loop-test .taken), none-more (l .before .args .waiting .now) (l .before .args .i) (l .loop .p) (l .loop .inv .1) (c .if1 .left)))
+    (λ c.
+    let l = c .before .before .before in (
+      omega (arith, c .before .before .loop-test .taken),
+      none-more (l .before .args .waiting .now)
+          (l .before .args .i) (l .loop .p) (l .loop .inv .1) (c .if1 .left),
+    ))
     (λ c. let l = c .before in record { upto = l .loop .inv .0; none = l .loop .inv .1; waits = λ h. absurd (omega (arith, c .loop-test .left, h)) }))

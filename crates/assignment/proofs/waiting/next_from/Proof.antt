@@ -15,17 +15,19 @@ abbrev μ-loop : tie.MeasureT-loop
 
 next-in-page-requires : tie.Need-next-in-page-requires Inv-loop μ-loop
 next-in-page-requires c κs =
-    let s = c .before .before .before .before .before .before in
-    let v = c .before .before .before .loop .inv in
+    let turn = c .before .before .before in
+    let s = turn .before .before .before in
+    let v = turn .loop .inv in
     (c .before .before .loop-test .taken, s .pre .1, s .pre .2, v .3 ∙ s .pre .3, c .before .page-end .ensures, v .2)
 
 returns : tie.Need-returns Inv-loop μ-loop
 returns c =
-    let s = c .before .before .before .before .before .before .before .before .before .before in
-    let l = c .before .before .before .before .before .before .before .loop in
+    let at-page-end = c .before .before .before .before .before in
+    let s = at-page-end .before .before .before .before .before in
+    let l = at-page-end .before .before .loop in
     let f = c .before .before .before .next-in-page .ensures in (
       record {
-        upto = omega (arith, c .if1 .taken, c .before .before .before .before .before .page-end .ensures);
+        upto = omega (arith, c .if1 .taken, at-page-end .page-end .ensures);
         none = none-both (s .args .waiting .now) (s .args .i) (l .at) (c .before .before .before .next-in-page .result) (l .inv .1) (f .0 .none);
         waits = λ h. f .0 .waits (c .if1 .taken);
       },
@@ -34,11 +36,13 @@ returns c =
 
 loop-again : tie.Need-loop-again Inv-loop μ-loop
 loop-again c =
-    let s = c .before .before .before .before .before .before .before .before .before .before in
-    let l = c .before .before .before .before .before .before .before .loop in
+    let at-page-end = c .before .before .before .before .before in
+    let s = at-page-end .before .before .before .before .before in
+    let l = at-page-end .before .before .loop in
     let f = c .before .before .before .next-in-page .ensures in (
-      omega (arith, c .before .before .before .before .before .page-end .ensures),
-      none-both (s .args .waiting .now) (s .args .i) (l .at) (c .before .before .before .before .before .page-end .result) (l .inv .1) (λ q a b w. f .0 .none q a (omega (arith, b, c .if1 .left)) w),
+      omega (arith, at-page-end .page-end .ensures),
+      none-both (s .args .waiting .now) (s .args .i) (l .at) (at-page-end .page-end .result) (l .inv .1)
+          (λ q a b w. f .0 .none q a (omega (arith, b, c .if1 .left)) w),
       f .1,
       c .before .before .before .next-in-page .kept .1 .0 ∙ l .inv .3,
     )
@@ -57,11 +61,17 @@ next-from-spec =
     Inv-loop
     μ-loop
     (λ c. let s = c .before .before in (s .pre .0, λ q a b w. absurd (omega arith), s .pre .4, refl))
-    (λ c κs. (c .loop-test .taken, c .before .before .before .before .pre .1))
+    (λ c κs. let entry = c .before .before .before .before in (c .loop-test .taken, entry .pre .1))
     next-in-page-requires
-    (λ c. c .before .before .before .next-in-page .kept .1 .0 ∙ c .before .before .before .before .before .before .before .loop .inv .3)
+    (λ c.
+    let at-next-in-page = c .before .before .before in
+    let turn = at-next-in-page .before .before .before .before in
+    at-next-in-page .next-in-page .kept .1 .0 ∙ turn .loop .inv .3)
     returns
-    (λ c. omega (arith, c .before .before .before .before .before .page-end .ensures, c .before .before .before .before .before .before .loop-test .taken))
+    (λ c.
+    let at-page-end = c .before .before .before .before .before in
+    let at-loop-test = at-page-end .before in
+    omega (arith, at-page-end .page-end .ensures, at-loop-test .loop-test .taken))
     loop-again
     (λ c. c .before .loop .inv .3)
     returns-2)

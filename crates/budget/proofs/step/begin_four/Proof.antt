@@ -10,7 +10,13 @@ returns c = rw (c .refused .ensures, lt-ltb 3 _ (c .before .if1 .taken))
 
 returns-2 : tie.Need-returns-2
 unfolding beginFourOf
-returns-2 c = rw (le-ltb 3 _ (c .before .before .before .if1 .left), c .with-meter .ensures, c .before .begin-step .ensures, c .before .before .meter-of .ensures)
+returns-2 c =
+    rw (
+      le-ltb 3 _ (c .before .before .before .if1 .left),
+      c .with-meter .ensures,
+      c .before .begin-step .ensures,
+      c .before .before .meter-of .ensures,
+    )
 
 pub begin-four-spec : {M : Type 1} → statement M
 begin-four-spec =

@@ -24,7 +24,14 @@ unfolding feedFourOf
 returns-3 c =
     let e = c .before .before .before in
     let r = e .before in
-    rw (e .if1 .left, ← r .is-out-of-range .ensures, c .before .before .if2 .left, c .settle .ensures, c .before .feed-script .ensures, r .before .meter-of .ensures)
+    rw (
+      e .if1 .left,
+      ← r .is-out-of-range .ensures,
+      c .before .before .if2 .left,
+      c .settle .ensures,
+      c .before .feed-script .ensures,
+      r .before .meter-of .ensures,
+    )
 
 pub feed-own-script-spec : {M : Type 1} → statement M
 feed-own-script-spec =

@@ -16,7 +16,15 @@ returns-2 c =
     let a = w .before in
     let n = a .before in
     let e = n .before .before in
-    rw (c .turned-back .ensures, eq-eqb _ 0 (e .if1 .left), ← n .with-meter .ensures, ← a .sum .ensures, ← w .wide .ensures, lt-ltb _ _ (c .before .if2 .taken), e .before .before .before .pre .1)
+    rw (
+      c .turned-back .ensures,
+      eq-eqb _ 0 (e .if1 .left),
+      ← n .with-meter .ensures,
+      ← a .sum .ensures,
+      ← w .wide .ensures,
+      lt-ltb _ _ (c .before .if2 .taken),
+      e .before .before .before .pre .1,
+    )
 
 returns-3 : tie.Need-returns-3
 unfolding settleFour
@@ -25,7 +33,15 @@ returns-3 c =
     let a = w .before in
     let n = a .before in
     let e = n .before .before in
-    rw (eq-eqb _ 0 (e .if1 .left), ← n .with-meter .ensures, ← a .sum .ensures, ← w .wide .ensures, le-ltb _ _ (c .if2 .left), n .with-meter .ensures, own-after _ _ _ (e .before .before .before .pre .0))
+    rw (
+      eq-eqb _ 0 (e .if1 .left),
+      ← n .with-meter .ensures,
+      ← a .sum .ensures,
+      ← w .wide .ensures,
+      le-ltb _ _ (c .if2 .left),
+      n .with-meter .ensures,
+      own-after _ _ _ (e .before .before .before .pre .0),
+    )
 
 pub settle-spec : {M : Type 1} → statement M
 settle-spec =

@@ -1,4 +1,5 @@
--- `budget53::lawendeb_feed_four_53` meets its contract: by the walk that the feeds of four of both versions share. All that the proof knows of `feed_own_53` is that it meets its contract.
+-- `budget53::lawendeb_feed_four_53` meets its contract: by the walk that the feeds of four of both
+-- versions share. All that the proof knows of `feed_own_53` is that it meets its contract.
 -- Assumes nothing.
 use contract.Running.{givenOf, tables, tablesOf}
 use denote.Triple.Spec.{tripleOf}
@@ -20,4 +21,5 @@ lawendeb-feed-four-53-spec 𝓤 H 𝓜 𝓖 𝓡 =
     entered 𝓤 H (tripleOf 𝓤 H (𝓖 .A) f.signature (f.spec 𝓤 H (𝓖 .A) (𝓜 .mem) (𝓡 .run)))
     (tables 𝓤 H 𝓜 𝓡 code.env .C) (tables 𝓤 H 𝓜 𝓡 code.env .Λ) #budget53·lawendeb-feed-four-53 code.function (code.unfolded 𝓤 H 𝓜 𝓡)
     (feed-meets (scriptOf Lua53) #budget53·feed-own 𝓤 H (𝓖 .A) (givenOf 𝓤 H 𝓜 𝓖) (tablesOf 𝓤 H 𝓜 (tables 𝓤 H 𝓜 𝓡 code.env))
-    (cited 𝓤 H (Stepped (scriptOf Lua53) #budget53·feed-own 𝓤 H (𝓖 .A)) 𝓜 𝓡 code.env #budget53·feed-own step-def.routine code.calls-budget53·c·feed-own-53 (step-thm.met 𝓤 H 𝓜 𝓖 𝓡)))
+    (cited 𝓤 H (Stepped (scriptOf Lua53) #budget53·feed-own 𝓤 H (𝓖 .A)) 𝓜 𝓡 code.env #budget53·feed-own
+    step-def.routine code.calls-budget53·c·feed-own-53 (step-thm.met 𝓤 H 𝓜 𝓖 𝓡)))

@@ -1,4 +1,4 @@
--- `exports::decoded::flat_fields` meets its contract: signed numbers come back from their bits.
+-- `exports::c::flat_fields` meets its contract: signed numbers come back from their bits.
 -- Assumes nothing.
 use mir.Facts.{toZ-ofZ}
 use mir.Syntax.{w32}

@@ -1,4 +1,4 @@
--- `exports::decoded::lawendeb_decode` meets its contract: the mode and the fields, put side by side.
+-- `exports::c::lawendeb_decode` meets its contract: the mode and the fields, put side by side.
 -- Assumes nothing.
 use Prim.Native.Nat.{ℕ}
 use mathlib.Core.Path.{_≡_, _∙_, ap}

@@ -1,4 +1,4 @@
--- `exports::lifted::lawendeb_lift` meets its contract: the plan decides how many records are put.
+-- `exports::c::lawendeb_lift` meets its contract: the plan decides how many records are put.
 -- Assumes nothing.
 use mathlib.Core.Path.{_∙_}
 use native.Mathlib.Omega.{arith}

@@ -20,4 +20,19 @@ returns : tie.Need-returns
 returns c = let a = c .args in four-stored (a .numbers .now) (a .at) (a .a) (a .b) (a .c) (a .d) (c .pre)
 
 pub put-four-spec : {M : Type 1} → statement M
-put-four-spec = tie.close (tie.spec (λ c. search needs) (λ c. search needs) (λ c. search needs) (λ c. search needs) slice-write-numbers-2 (λ c. search needs) (λ c. search needs) slice-write-numbers-3 (λ c. search needs) (λ c. search needs) slice-write-numbers-4 (λ c. search needs) returns)
+put-four-spec =
+    tie.close
+    (tie.spec
+    (λ c. search needs)
+    (λ c. search needs)
+    (λ c. search needs)
+    (λ c. search needs)
+    slice-write-numbers-2
+    (λ c. search needs)
+    (λ c. search needs)
+    slice-write-numbers-3
+    (λ c. search needs)
+    (λ c. search needs)
+    slice-write-numbers-4
+    (λ c. search needs)
+    returns)

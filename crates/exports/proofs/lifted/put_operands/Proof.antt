@@ -9,10 +9,22 @@ use Rattle.exports.proofs.lifted.put_operands.Statement.{statement}
 use Rattle.exports.proofs.lifted.put_operands.Tie as tie
 
 add-put-operand-4 : tie.Need-add-put-operand-4
-add-put-operand-4 c = search (needs, c .before .before .before .before .before .before .before .before .before .before .before .before .before .before .before .before .before .before .before .before .before .before .before .pre)
+add-put-operand-4 c =
+    let at-put-operand3 = c .before .before .before in
+    let at-put-operand2 = at-put-operand3 .before .before .before .before .before in
+    let at-put-operand = at-put-operand2 .before .before .before .before .before in
+    let at-put-one = at-put-operand .before .before .before .before .before in
+    let entry = at-put-one .before .before .before .before .before in
+    search (needs, entry .pre)
 
 put-operand-requires-4 : tie.Need-put-operand-requires-4
-put-operand-requires-4 c κs = omega (arith, c .before .before .before .before .before .before .before .before .before .before .before .before .before .before .before .before .before .before .before .before .before .before .before .before .pre)
+put-operand-requires-4 c κs =
+    let at-put-operand3 = c .before .before .before .before in
+    let at-put-operand2 = at-put-operand3 .before .before .before .before .before in
+    let at-put-operand = at-put-operand2 .before .before .before .before .before in
+    let at-put-one = at-put-operand .before .before .before .before .before in
+    let entry = at-put-one .before .before .before .before .before in
+    omega (arith, entry .pre)
 
 returns : tie.Need-returns
 unfolding operandsNumbers
@@ -31,4 +43,22 @@ returns c =
     put-laws .and-then l _ _ at 13 _ _ e₃ refl (omega (arith, s .pre)) (c₄ .put-operand4 .ensures)
 
 pub put-operands-spec : {M : Type 1} → statement M
-put-operands-spec = tie.close (tie.spec (λ c. search needs) (λ c κs. search needs) (λ c. search needs) (λ c. search needs) (λ c κs. search needs) (λ c. search needs) (λ c. search needs) (λ c κs. search needs) (λ c. search needs) (λ c. search needs) (λ c κs. search needs) add-put-operand-4 (λ c. search needs) put-operand-requires-4 (λ c. search needs) returns)
+put-operands-spec =
+    tie.close
+    (tie.spec
+    (λ c. search needs)
+    (λ c κs. search needs)
+    (λ c. search needs)
+    (λ c. search needs)
+    (λ c κs. search needs)
+    (λ c. search needs)
+    (λ c. search needs)
+    (λ c κs. search needs)
+    (λ c. search needs)
+    (λ c. search needs)
+    (λ c κs. search needs)
+    add-put-operand-4
+    (λ c. search needs)
+    put-operand-requires-4
+    (λ c. search needs)
+    returns)

@@ -14,4 +14,13 @@ returns : tie.Need-returns
 returns c = let a = c .args in two-stored (a .numbers .now) (a .at) (a .pair .kind) (a .pair .value) (c .pre)
 
 pub put-pair-spec : {M : Type 1} → statement M
-put-pair-spec = tie.close (tie.spec (λ c. search needs) (λ c. search needs) (λ c. search needs) (λ c. search needs) slice-write-numbers-2 (λ c. search needs) returns)
+put-pair-spec =
+    tie.close
+    (tie.spec
+    (λ c. search needs)
+    (λ c. search needs)
+    (λ c. search needs)
+    (λ c. search needs)
+    slice-write-numbers-2
+    (λ c. search needs)
+    returns)

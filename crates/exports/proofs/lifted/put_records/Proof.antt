@@ -26,10 +26,17 @@ loop-holds c =
 loop-again : tie.Need-loop-again Inv-loop μ-loop
 loop-again c =
     let t = c .before .before in
-    let l = t .before .before .before .before .loop in
-    let s = t .before .before .before .before .before .before .before .before .before .before in
-    let a = s .args in
-    (omega arith, omega arith, record-more (a .words .now) (a .tags .now) (a .payloads .now) (a .names .now) (a .numbers .now) (l .numbers) (t .put-record .last .0) (l .i) (l .inv .2) (omega (arith, s .pre .0)) (rw (t .before .record-or-blank .ensures, s .pre .1 (l .i) (omega arith)) at (t .put-record .ensures)))
+    let turn = t .before .before .before .before in
+    let s = turn .before .before .before .before .before .before in
+    let l = turn .loop in
+    let a = s .args in (
+      omega arith,
+      omega arith,
+      record-more (a .words .now) (a .tags .now) (a .payloads .now) (a .names .now) (a .numbers .now)
+          (l .numbers) (t .put-record .last .0) (l .i) (l .inv .2) (omega (arith, s .pre .0))
+          (rw (t .before .record-or-blank .ensures, s .pre .1 (l .i) (omega arith)) at
+          (t .put-record .ensures)),
+    )
 
 returns : tie.Need-returns Inv-loop μ-loop
 returns c =
@@ -39,4 +46,17 @@ returns c =
     rw e at (l .inv .2)
 
 pub put-records-spec : {M : Type 1} → statement M
-put-records-spec = tie.close (tie.spec Inv-loop μ-loop loop-holds (λ c. search needs) (λ c κs. search needs) (λ c κs. search needs) (λ c. search needs) (λ c. search needs) loop-again (λ c. search needs) returns)
+put-records-spec =
+    tie.close
+    (tie.spec
+    Inv-loop
+    μ-loop
+    loop-holds
+    (λ c. search needs)
+    (λ c κs. search needs)
+    (λ c κs. search needs)
+    (λ c. search needs)
+    (λ c. search needs)
+    loop-again
+    (λ c. search needs)
+    returns)

@@ -21,4 +21,16 @@ returns c =
     put-laws .and-then l _ _ at 5 _ _ e₁ refl (omega (arith, s .pre)) (c₂ .put-target2 .ensures)
 
 pub put-writes-spec : {M : Type 1} → statement M
-put-writes-spec = tie.close (tie.spec (λ c. search needs) (λ c κs. search needs) (λ c. search needs) (λ c. search needs) (λ c κs. search needs) (λ c. search needs) (λ c. search needs) (λ c κs. search needs) (λ c. search needs) returns)
+put-writes-spec =
+    tie.close
+    (tie.spec
+    (λ c. search needs)
+    (λ c κs. search needs)
+    (λ c. search needs)
+    (λ c. search needs)
+    (λ c κs. search needs)
+    (λ c. search needs)
+    (λ c. search needs)
+    (λ c κs. search needs)
+    (λ c. search needs)
+    returns)

@@ -6,12 +6,22 @@ use Rattle.families.proofs.calls.lift_closure.Tie as tie
 
 returns : tie.Need-returns
 returns c =
+    let at-operands2 = c .before .before .before .before in
     rw (
       c .plain .ensures,
       c .before .writes1 .ensures,
       c .before .before .reads1 .ensures,
-      c .before .before .before .before .operands2 .ensures,
+      at-operands2 .operands2 .ensures,
     )
 
 pub lift-closure-spec : {M : Type 1} → statement M
-lift-closure-spec = tie.close (tie.spec (λ c. search needs) (λ c κs. search needs) (λ c. search needs) (λ c κs. search needs) (λ c κs. search needs) (λ c κs. search needs) returns)
+lift-closure-spec =
+    tie.close
+    (tie.spec
+    (λ c. search needs)
+    (λ c κs. search needs)
+    (λ c. search needs)
+    (λ c κs. search needs)
+    (λ c κs. search needs)
+    (λ c κs. search needs)
+    returns)

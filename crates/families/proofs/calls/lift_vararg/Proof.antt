@@ -6,13 +6,22 @@ use Rattle.families.proofs.calls.lift_vararg.Tie as tie
 
 returns : tie.Need-returns
 returns c =
+    let at-count-less = c .before .before .before .before in
     rw (
       c .plain .ensures,
       c .before .writes0 .ensures,
       c .before .before .reads0 .ensures,
       c .before .before .before .operands2 .ensures,
-      c .before .before .before .before .count-less .ensures,
+      at-count-less .count-less .ensures,
     )
 
 pub lift-vararg-spec : {M : Type 1} → statement M
-lift-vararg-spec = tie.close (tie.spec (λ c κs. search needs) (λ c κs. search needs) (λ c κs. search needs) (λ c κs. search needs) (λ c κs. search needs) returns)
+lift-vararg-spec =
+    tie.close
+    (tie.spec
+    (λ c κs. search needs)
+    (λ c κs. search needs)
+    (λ c κs. search needs)
+    (λ c κs. search needs)
+    (λ c κs. search needs)
+    returns)

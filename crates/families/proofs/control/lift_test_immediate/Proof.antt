@@ -8,12 +8,14 @@ use Rattle.families.proofs.control.lift_test_immediate.Tie as tie
 
 returns : tie.Need-returns
 returns c =
+    let at-immediate = c .before .before .before .before in
+    let at-struct-told = at-immediate .before in
     rw (
       c .writes0 .ensures,
       c .before .reads1 .ensures,
       c .before .before .operands3 .ensures,
-      c .before .before .before .before .immediate .ensures,
-      toZ-ofZ {w = w32} (record { sfits = c .before .before .before .before .before .struct-told .given .1 .1 .1 .1 .0 .1 }),
+      at-immediate .immediate .ensures,
+      toZ-ofZ {w = w32} (record { sfits = at-struct-told .struct-told .given .1 .1 .1 .1 .0 .1 }),
     )
 
 pub lift-test-immediate-spec : {M : Type 1} → statement M

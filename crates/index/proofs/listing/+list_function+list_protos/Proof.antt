@@ -1,6 +1,8 @@
 use mathlib.Core.Path.{_∙_}
-use Rattle.chunk.specs.Lundump.{loadProtos}
-use Rattle.index.proofs.Notes.{function-counted, function-wrote, count-few, Midway, midway-none, midway-more, midway-refused, midway-done, no-count, none-within, too-deep, several-within}
+use Rattle.lundump.specs.Lundump.{loadProtos}
+use Rattle.index.proofs.Notes.{function-counted, function-wrote, count-few, Midway, midway-none}
+use Rattle.index.proofs.Notes.{midway-more, midway-refused, midway-done, no-count, none-within}
+use Rattle.index.proofs.Notes.{too-deep, several-within}
 use native.Mathlib.Omega.{arith}
 use borrow.Author.Needs.{needs}
 use Prim.Native.Nat.{ℕ, _+_, _-_, _<_}
@@ -12,15 +14,15 @@ use Rattle.index.proofs.listing.+list_function+list_protos.Lts-list_fun
 use Rattle.index.proofs.listing.list_protos.Reads as list-protos
 use Rattle.index.proofs.listing.list_protos.Kinds as list-protos-kinds
 use Rattle.index.proofs.listing.+list_function+list_protos.Lts-list_protos as list-protos-lts
-use Rattle.chunk.proofs.inner.code.Reads as code-reads
-use Rattle.chunk.proofs.inner.constants.Reads as constants-reads
-use Rattle.chunk.proofs.inner.head.Reads as head-reads
-use Rattle.chunk.proofs.inner.lines.Reads as lines-reads
-use Rattle.chunk.proofs.inner.names.Reads as names-reads
-use Rattle.chunk.proofs.inner.upvalues.Reads as upvalues-reads
-use Rattle.chunk.proofs.inner.int.Reads as int-reads
-use Rattle.chunk.proofs.inner.position.Reads as position-reads
-use Rattle.chunk.proofs.inner.value.Reads as value-reads
+use Rattle.lundump.proofs.inner.code.Reads as code-reads
+use Rattle.lundump.proofs.inner.constants.Reads as constants-reads
+use Rattle.lundump.proofs.inner.head.Reads as head-reads
+use Rattle.lundump.proofs.inner.lines.Reads as lines-reads
+use Rattle.lundump.proofs.inner.names.Reads as names-reads
+use Rattle.lundump.proofs.inner.upvalues.Reads as upvalues-reads
+use Rattle.lundump.proofs.inner.int.Reads as int-reads
+use Rattle.lundump.proofs.inner.position.Reads as position-reads
+use Rattle.lundump.proofs.inner.value.Reads as value-reads
 use Rattle.index.proofs.listing.note.Reads as note-reads
 use Rattle.index.proofs.listing.past.Reads as past-reads
 use Rattle.index.proofs.listing.with_count.Reads as with-count-reads
@@ -79,7 +81,12 @@ list-function-list-protos-requires : (t : ℕ) → list-function-lts.Need-list-p
   with-count-reads.Asked,
   with-count-reads.Learnt,
 ) (list-function-at t) list-function.Post
-list-function-list-protos-requires t c κs = (omega (arith, c .before .before .before .before .before .before .before .before .before .before .before .before .before .before .before .before .before .before .pre .0), tt)
+list-function-list-protos-requires t c κs =
+    let at-parents = c .before .before .before .before in
+    let at-note-arg2 = at-parents .before .before .before .before in
+    let at-code = at-note-arg2 .before .before .before .before .before in
+    let entry = at-code .before .before .before .before .before in
+    (omega (arith, entry .pre .0), tt)
 
 list-function-add-with-count : (t : ℕ) → list-function-lts.Need-add-with-count (
   head-reads.Asked,
@@ -108,8 +115,13 @@ list-function-add-with-count : (t : ℕ) → list-function-lts.Need-add-with-cou
   with-count-reads.Learnt,
 ) (list-function-at t) list-function.Post
 list-function-add-with-count t c =
-    let s = c .before .before .before .before .before .before .before .before .before .before .before .before .before .before .before .before .before .before .before .before .before .before .before .before .before .before .before in
-    let k = count-few (s .args .level) (s .args .chunk .now) _ _ _ (c .before .before .before .before .before .before .before .before .list-protos .ensures .0) (c .value2 .ensures) in
+    let at-lines = c .before .before .before in
+    let at-list-protos = at-lines .before .before .before .before .before in
+    let at-parents = at-list-protos .before .before .before .before .before in
+    let at-note-arg2 = at-parents .before .before .before .before in
+    let at-code = at-note-arg2 .before .before .before .before .before in
+    let s = at-code .before .before .before .before .before in
+    let k = count-few (s .args .level) (s .args .chunk .now) _ _ _ (at-list-protos .list-protos .ensures .0) (c .value2 .ensures) in
     omega (arith, k, s .good .0 .1)
 
 list-function-same-length : (t : ℕ) → list-function-lts.Need-same-length (
@@ -138,7 +150,12 @@ list-function-same-length : (t : ℕ) → list-function-lts.Need-same-length (
   with-count-reads.Asked,
   with-count-reads.Learnt,
 ) (list-function-at t) list-function.Post
-list-function-same-length t c = (c .before .before .before .before .before .before .before .before .before .list-protos .ensures .1 .places-same) ∙ (c .before .before .before .before .before .before .before .before .before .before .before .before .before .before .before .before .before .note .ensures .places-same)
+list-function-same-length t c =
+    let at-lines = c .before .before .before .before in
+    let at-list-protos = at-lines .before .before .before .before .before in
+    let at-past = at-list-protos .before .before .before in
+    let at-note = at-past .before .before .before .before .before in
+    (at-list-protos .list-protos .ensures .1 .places-same) ∙ (at-note .note .ensures .places-same)
 
 list-function-same-length-2 : (t : ℕ) → list-function-lts.Need-same-length-2 (
   head-reads.Asked,
@@ -166,7 +183,12 @@ list-function-same-length-2 : (t : ℕ) → list-function-lts.Need-same-length-2
   with-count-reads.Asked,
   with-count-reads.Learnt,
 ) (list-function-at t) list-function.Post
-list-function-same-length-2 t c = (c .before .before .before .before .before .before .before .before .before .list-protos .ensures .1 .parents-same) ∙ (c .before .before .before .before .before .before .before .before .before .before .before .before .before .before .before .before .before .note .ensures .parents-same)
+list-function-same-length-2 t c =
+    let at-lines = c .before .before .before .before in
+    let at-list-protos = at-lines .before .before .before .before .before in
+    let at-past = at-list-protos .before .before .before in
+    let at-note = at-past .before .before .before .before .before in
+    (at-list-protos .list-protos .ensures .1 .parents-same) ∙ (at-note .note .ensures .parents-same)
 
 list-function-returns : (t : ℕ) → list-function-lts.Need-returns (
   head-reads.Asked,
@@ -195,15 +217,30 @@ list-function-returns : (t : ℕ) → list-function-lts.Need-returns (
   with-count-reads.Learnt,
 ) (list-function-at t) list-function.Post
 list-function-returns t c =
-    let s = c .before .before .before .before .before .before .before .before .before .before .before .before .before .before .before .before .before .before .before .before .before .before .before .before .before .before .before .before .args in
-    let u = c .before .before .before .before .before .before .before .before .before .before .before .before .before .before .before .before .before .before .before .before .before .upvalues .ensures in
-    let w = c .before .before .before .before .before .before .before .before .before .list-protos .ensures in (
-      function-counted (s .chunk .now) (loadProtos (s .level)) _ _ _ _ _ _ _ _ _ _ _ (c .before .before .before .before .before .before .before .before .before .before .before .before .before .before .before .before .before .before .before .before .before .before .before .before .head .ensures) (c .before .before .before .before .before .before .before .before .before .before .before .before .before .before .before .before .before .before .before .before .before .before .before .code .ensures) (c .before .before .before .before .before .before .before .before .before .before .before .before .before .before .before .before .before .before .before .before .before .before .constants .ensures) u (w .0) (c .before .before .before .before .lines .ensures) (c .before .before .before .value .ensures) (c .before .before .names .ensures) (c .before .value2 .ensures) (c .with-count .ensures),
-      function-wrote (s .level) (s .chunk .now) (s .parent) (s .i) _ _ _ _ _ _ _ _ _ _ _ _ _ (c .before .before .before .before .before .before .before .before .before .before .before .before .before .before .before .before .before .before .before .before .before .before .before .before .head .ensures) (c .before .before .before .before .before .before .before .before .before .before .before .before .before .before .before .before .before .before .before .before .before .before .before .code .ensures) (c .before .before .before .before .before .before .before .before .before .before .before .before .before .before .before .before .before .before .before .before .before .before .constants .ensures) u (c .before .before .before .before .before .before .before .before .before .before .before .before .before .before .before .before .before .before .before .before .position .ensures) (c .before .before .before .before .before .before .before .before .before .before .before .before .before .before .before .before .before .note .ensures) (c .before .before .before .before .before .before .before .before .before .before .before .before .past .ensures) (w .1),
+    let at-lines = c .before .before .before .before in
+    let at-list-protos = at-lines .before .before .before .before .before in
+    let at-past = at-list-protos .before .before .before in
+    let at-note = at-past .before .before .before .before .before in
+    let at-position = at-note .before .before .before in
+    let at-constants = at-position .before .before in
+    let at-code = at-constants .before in
+    let at-head = at-code .before in
+    let s = at-head .before .before .before .before .args in
+    let u = at-position .before .upvalues .ensures in
+    let w = at-list-protos .list-protos .ensures in (
+      function-counted (s .chunk .now) (loadProtos (s .level)) _ _ _ _ _ _ _ _ _ _ _ (at-head .head .ensures)
+          (at-code .code .ensures) (at-constants .constants .ensures) u (w .0) (at-lines .lines .ensures)
+          (c .before .before .before .value .ensures) (c .before .before .names .ensures)
+          (c .before .value2 .ensures) (c .with-count .ensures),
+      function-wrote (s .level) (s .chunk .now) (s .parent) (s .i) _ _ _ _ _ _ _ _ _ _ _ _ _
+          (at-head .head .ensures) (at-code .code .ensures) (at-constants .constants .ensures) u
+          (at-position .position .ensures) (at-note .note .ensures) (at-past .past .ensures) (w .1),
     )
 
 abbrev list-protos-Inv-loop : list-protos-lts.InvT-loop
-list-protos-Inv-loop chunk level parent first places₀ parents₀ start n at₀ total₀ i₀ places parents at total i = Midway (level - 1) chunk start n parent first places₀ parents₀ places parents at total i
+list-protos-Inv-loop chunk level parent first places₀ parents₀ start n at₀ total₀ i₀ places parents at total
+    i =
+    Midway (level - 1) chunk start n parent first places₀ parents₀ places parents at total i
 
 abbrev list-protos-μ-loop : list-protos-lts.MeasureT-loop
 list-protos-μ-loop chunk level parent first places₀ parents₀ start n at₀ total₀ i₀ places parents at total i = n - i
@@ -226,7 +263,9 @@ list-protos-returns-2 : (t : ℕ) → list-protos-lts.Need-returns-2 (
   list-function-below t,
   list-function.Post,
 ) (list-protos-at t) list-protos.Post list-protos-Inv-loop list-protos-μ-loop
-list-protos-returns-2 t c = none-within _ _ _ _ (c .before .before .before .before .before .int .ensures) _ _ _ _ _ _ (c .before .before .before .count .given .1) (c .before .if1 .taken) (c .if2 .taken)
+list-protos-returns-2 t c =
+    let at-int = c .before .before .before .before .before in
+    none-within _ _ _ _ (at-int .int .ensures) _ _ _ _ _ _ (c .before .before .before .count .given .1) (c .before .if1 .taken) (c .if2 .taken)
 
 list-protos-returns-3 : (t : ℕ) → list-protos-lts.Need-returns-3 (
   int-reads.Asked,
@@ -236,7 +275,9 @@ list-protos-returns-3 : (t : ℕ) → list-protos-lts.Need-returns-3 (
   list-function-below t,
   list-function.Post,
 ) (list-protos-at t) list-protos.Post list-protos-Inv-loop list-protos-μ-loop
-list-protos-returns-3 t c = too-deep _ _ _ _ (c .before .before .before .before .before .int .ensures) _ _ _ _ _ _ (c .before .before .before .count .given .1) (c .before .if1 .taken) (c .if2 .left)
+list-protos-returns-3 t c =
+    let at-int = c .before .before .before .before .before in
+    too-deep _ _ _ _ (at-int .int .ensures) _ _ _ _ _ _ (c .before .before .before .count .given .1) (c .before .if1 .taken) (c .if2 .left)
 
 list-protos-loop-holds : (t : ℕ) → list-protos-lts.Need-loop-holds (
   int-reads.Asked,
@@ -266,7 +307,11 @@ list-protos-list-function-requires : (t : ℕ) → list-protos-lts.Need-list-fun
   list-function-below t,
   list-function.Post,
 ) (list-protos-at t) list-protos.Post list-protos-Inv-loop list-protos-μ-loop
-list-protos-list-function-requires t c κs = (omega (arith, c .before .before .before .before .before .before .before .before .before .before .before .before .before .pre .0, c .before .before .before .before .before .if1 .left), tt)
+list-protos-list-function-requires t c κs =
+    let at-if1 = c .before .before .before .before .before in
+    let at-int = at-if1 .before .before .before .before in
+    let entry = at-int .before .before .before .before in
+    (omega (arith, entry .pre .0, at-if1 .if1 .left), tt)
 
 list-protos-same-length : (t : ℕ) → list-protos-lts.Need-same-length (
   int-reads.Asked,
@@ -276,7 +321,11 @@ list-protos-same-length : (t : ℕ) → list-protos-lts.Need-same-length (
   list-function-below t,
   list-function.Post,
 ) (list-protos-at t) list-protos.Post list-protos-Inv-loop list-protos-μ-loop
-list-protos-same-length t c = (c .before .before .before .before .before .before .list-function .ensures .1 .places-same) ∙ (c .before .before .before .before .before .before .before .before .before .before .before .loop .inv .places-same)
+list-protos-same-length t c =
+    let at-parents = c .before .before .before in
+    let at-list-function = at-parents .before .before .before in
+    let turn = at-list-function .before .before .before .before .before in
+    (at-list-function .list-function .ensures .1 .places-same) ∙ (turn .loop .inv .places-same)
 
 list-protos-same-length-2 : (t : ℕ) → list-protos-lts.Need-same-length-2 (
   int-reads.Asked,
@@ -286,7 +335,11 @@ list-protos-same-length-2 : (t : ℕ) → list-protos-lts.Need-same-length-2 (
   list-function-below t,
   list-function.Post,
 ) (list-protos-at t) list-protos.Post list-protos-Inv-loop list-protos-μ-loop
-list-protos-same-length-2 t c = (c .before .before .before .before .before .before .list-function .ensures .1 .parents-same) ∙ (c .before .before .before .before .before .before .before .before .before .before .before .loop .inv .parents-same)
+list-protos-same-length-2 t c =
+    let at-parents = c .before .before .before in
+    let at-list-function = at-parents .before .before .before in
+    let turn = at-list-function .before .before .before .before .before in
+    (at-list-function .list-function .ensures .1 .parents-same) ∙ (turn .loop .inv .parents-same)
 
 list-protos-returns-4 : (t : ℕ) → list-protos-lts.Need-returns-4 (
   int-reads.Asked,
@@ -297,10 +350,19 @@ list-protos-returns-4 : (t : ℕ) → list-protos-lts.Need-returns-4 (
   list-function.Post,
 ) (list-protos-at t) list-protos.Post list-protos-Inv-loop list-protos-μ-loop
 list-protos-returns-4 t c =
-    let m = c .before .before .before .before .before .before .before .before .before .before .before .loop .inv in
-    let w = c .before .before .before .before .before .before .list-function .ensures .1 in
-    several-within _ _ _ _ (c .before .before .before .before .before .before .before .before .before .before .before .before .before .before .before .before .int .ensures) _ _ _ _ _ _ (c .before .before .before .before .before .before .before .before .before .before .before .before .before .before .count .given .1) (c .before .before .before .before .before .before .before .before .before .before .before .before .if1 .left) _ _ _ (w .places-same ∙ m .places-same) (w .parents-same ∙ m .parents-same)
-    (midway-refused _ _ _ _ _ _ _ _ m (c .before .before .before .before .before .before .before .before .before .before .loop-test .taken) _ (c .before .before .before .before .before .before .before .before .before .past .ensures) _ _ w _ _ (c .before .before .before .before .before .before .list-function .ensures .0) (c .enum-told2 .given .1))
+    let at-parents = c .before .before .before in
+    let at-list-function = at-parents .before .before .before in
+    let at-past = at-list-function .before .before .before in
+    let at-loop-test = at-past .before in
+    let at-if1 = at-loop-test .before .before in
+    let at-count = at-if1 .before .before in
+    let at-int = at-count .before .before in
+    let m = at-loop-test .before .loop .inv in
+    let w = at-list-function .list-function .ensures .1 in
+    several-within _ _ _ _ (at-int .int .ensures) _ _ _ _ _ _ (at-count .count .given .1) (at-if1 .if1 .left)
+    _ _ _ (w .places-same ∙ m .places-same) (w .parents-same ∙ m .parents-same)
+    (midway-refused _ _ _ _ _ _ _ _ m (at-loop-test .loop-test .taken) _ (at-past .past .ensures) _ _ w _ _
+    (at-list-function .list-function .ensures .0) (c .enum-told2 .given .1))
 
 list-protos-add-total : (t : ℕ) → list-protos-lts.Need-add-total (
   int-reads.Asked,
@@ -311,7 +373,14 @@ list-protos-add-total : (t : ℕ) → list-protos-lts.Need-add-total (
   list-function.Post,
 ) (list-protos-at t) list-protos.Post list-protos-Inv-loop list-protos-μ-loop
 list-protos-add-total t c =
-    let m = midway-more _ _ _ _ _ _ _ _ (c .before .before .before .before .before .before .before .before .before .before .before .before .loop .inv) (c .before .before .before .before .before .before .before .before .before .before .before .loop-test .taken) _ (c .before .before .before .before .before .before .before .before .before .before .past .ensures) _ _ (c .before .before .before .before .before .before .before .list-function .ensures .1) _ _ _ (c .before .before .before .before .before .before .before .list-function .ensures .0) (c .before .next .given .1) in
+    let at-parents = c .before .before .before .before in
+    let at-list-function = at-parents .before .before .before in
+    let at-past = at-list-function .before .before .before in
+    let at-loop-test = at-past .before in
+    let turn = at-loop-test .before in
+    let m = midway-more _ _ _ _ _ _ _ _ (turn .loop .inv) (at-loop-test .loop-test .taken) _
+    (at-past .past .ensures) _ _ (at-list-function .list-function .ensures .1) _ _ _
+    (at-list-function .list-function .ensures .0) (c .before .next .given .1) in
     omega (arith, m .0, c .known-told2 .given)
 
 list-protos-add-i : (t : ℕ) → list-protos-lts.Need-add-i (
@@ -322,7 +391,11 @@ list-protos-add-i : (t : ℕ) → list-protos-lts.Need-add-i (
   list-function-below t,
   list-function.Post,
 ) (list-protos-at t) list-protos.Post list-protos-Inv-loop list-protos-μ-loop
-list-protos-add-i t c = omega (arith, c .before .before .before .before .before .before .before .before .before .before .before .loop-test .taken)
+list-protos-add-i t c =
+    let at-parents = c .before .before .before .before in
+    let at-list-function = at-parents .before .before .before in
+    let at-loop-test = at-list-function .before .before .before .before in
+    omega (arith, at-loop-test .loop-test .taken)
 
 list-protos-loop-less : (t : ℕ) → list-protos-lts.Need-loop-less (
   int-reads.Asked,
@@ -332,7 +405,11 @@ list-protos-loop-less : (t : ℕ) → list-protos-lts.Need-loop-less (
   list-function-below t,
   list-function.Post,
 ) (list-protos-at t) list-protos.Post list-protos-Inv-loop list-protos-μ-loop
-list-protos-loop-less t c = omega (arith, c .before .before .before .before .before .before .before .before .before .before .before .loop-test .taken)
+list-protos-loop-less t c =
+    let at-parents = c .before .before .before .before in
+    let at-list-function = at-parents .before .before .before in
+    let at-loop-test = at-list-function .before .before .before .before in
+    omega (arith, at-loop-test .loop-test .taken)
 
 list-protos-loop-again : (t : ℕ) → list-protos-lts.Need-loop-again (
   int-reads.Asked,
@@ -342,7 +419,15 @@ list-protos-loop-again : (t : ℕ) → list-protos-lts.Need-loop-again (
   list-function-below t,
   list-function.Post,
 ) (list-protos-at t) list-protos.Post list-protos-Inv-loop list-protos-μ-loop
-list-protos-loop-again t c = midway-more _ _ _ _ _ _ _ _ (c .before .before .before .before .before .before .before .before .before .before .before .before .loop .inv) (c .before .before .before .before .before .before .before .before .before .before .before .loop-test .taken) _ (c .before .before .before .before .before .before .before .before .before .before .past .ensures) _ _ (c .before .before .before .before .before .before .before .list-function .ensures .1) _ _ _ (c .before .before .before .before .before .before .before .list-function .ensures .0) (c .before .next .given .1) .1
+list-protos-loop-again t c =
+    let at-parents = c .before .before .before .before in
+    let at-list-function = at-parents .before .before .before in
+    let at-past = at-list-function .before .before .before in
+    let at-loop-test = at-past .before in
+    let turn = at-loop-test .before in
+    midway-more _ _ _ _ _ _ _ _ (turn .loop .inv) (at-loop-test .loop-test .taken) _ (at-past .past .ensures)
+    _ _ (at-list-function .list-function .ensures .1) _ _ _
+    (at-list-function .list-function .ensures .0) (c .before .next .given .1) .1
 
 list-protos-same-length-3 : (t : ℕ) → list-protos-lts.Need-same-length-3 (
   int-reads.Asked,
@@ -373,8 +458,11 @@ list-protos-returns-5 : (t : ℕ) → list-protos-lts.Need-returns-5 (
   list-function.Post,
 ) (list-protos-at t) list-protos.Post list-protos-Inv-loop list-protos-μ-loop
 list-protos-returns-5 t c =
+    let at-count = c .before .before .before .before in
+    let at-int = at-count .before .before in
     let m = c .before .loop .inv in
-    several-within _ _ _ _ (c .before .before .before .before .before .before .int .ensures) _ _ _ _ _ _ (c .before .before .before .before .count .given .1) (c .before .before .if1 .left) _ _ _ (m .places-same) (m .parents-same)
+    several-within _ _ _ _ (at-int .int .ensures) _ _ _ _ _ _ (at-count .count .given .1)
+    (c .before .before .if1 .left) _ _ _ (m .places-same) (m .parents-same)
     (midway-done _ _ _ _ _ _ _ _ m (c .loop-test .left))
 
 pub +list-function+list-protos-spec : {M : Type 1} → statement M

@@ -8,8 +8,9 @@ use Rattle.index.proofs.listing.list_functions.Tie as tie
 
 returns : tie.Need-returns
 returns c =
-    let s = c .before .before .before .before .before .before .before .before .args in
-    let t = (with-room-is _ _ _ _ _ (c .before .before .before .before .take-tally .ensures) (c .before .before .before .with-rooms .ensures)) in (
+    let at-take-tally = c .before .before .before .before in
+    let s = at-take-tally .before .before .before .before .args in
+    let t = (with-room-is _ _ _ _ _ (at-take-tally .take-tally .ensures) (c .before .before .before .with-rooms .ensures)) in (
       counted-is (listedIn (s .chunk .now) (length (s .places .now)) (length (s .parents .now))) _ _ t (c .tell .ensures),
       (
         nothing-stored _ _ _ _ t placesOf _ _ (c .before .enum-told2 .given .1),
@@ -19,10 +20,17 @@ returns c =
 
 returns-2 : tie.Need-returns-2
 returns-2 c =
-    let s = c .before .before .before .before .before .before .before .before .before .before .before .before .before .before .before .before .before .args in
-    let t = (with-room-is _ _ _ _ _ (c .before .before .before .before .before .before .before .before .before .before .before .before .before .take-tally .ensures) (c .before .before .before .before .before .before .before .before .before .before .before .before .with-rooms .ensures)) in (
+    let at-list-function = c .before .before .before .before .before in
+    let at-byte = at-list-function .before .before .before in
+    let at-header = at-byte .before in
+    let at-enum-told = at-header .before in
+    let at-with-rooms = at-enum-told .before .before in
+    let at-take-tally = at-with-rooms .before in
+    let s = at-take-tally .before .before .before .before .args in
+    let t = (with-room-is _ _ _ _ _ (at-take-tally .take-tally .ensures) (at-with-rooms .with-rooms .ensures)) in (
       counted-is (listedIn (s .chunk .now) (length (s .places .now)) (length (s .parents .now))) _ _ t (c .tell2 .ensures),
-      all-stored _ _ _ (c .before .before .before .before .before .before .before .before .before .header .ensures) (c .before .before .before .before .before .before .before .before .byte .ensures) _ _ _ _ (c .before .before .before .before .before .list-function .ensures .1) _ _ t (c .before .before .before .before .before .before .before .before .before .before .enum-told .given .1),
+      all-stored _ _ _ (at-header .header .ensures) (at-byte .byte .ensures) _ _ _ _
+          (at-list-function .list-function .ensures .1) _ _ t (at-enum-told .enum-told .given .1),
     )
 
 pub list-functions-spec : {M : Type 1} → statement M
@@ -39,6 +47,10 @@ list-functions-spec =
     (λ c κs. search needs)
     (λ c κs. search needs)
     (λ c κs. search needs)
-    (λ c. c .before .before .before .before .before .list-function .ensures .1 .places-same)
-    (λ c. c .before .before .before .before .before .list-function .ensures .1 .parents-same)
+    (λ c.
+    let at-list-function = c .before .before .before .before .before in
+    at-list-function .list-function .ensures .1 .places-same)
+    (λ c.
+    let at-list-function = c .before .before .before .before .before in
+    at-list-function .list-function .ensures .1 .parents-same)
     returns-2)

@@ -5,13 +5,33 @@ use Rattle.lines.proofs.heads.head_at.Tie as tie
 
 returns-2 : tie.Need-returns-2
 returns-2 c =
-    with-source _ _ _ _ _ _ (c .before .before .before .before .before .before .before .before .before .before .before .before .name-at .ensures) (c .before .before .before .before .before .before .before .before .before .before .s2 .given .1) _ _ _ _ _ (c .before .before .before .before .before .before .before .before .int .ensures) (c .before .before .before .before .before .before .before .int2 .ensures) (c .before .before .before .before .before .before .byte .ensures) (c .before .before .before .before .before .byte2 .ensures) (c .before .before .before .before .byte3 .ensures)
+    let at-byte3 = c .before .before .before .before in
+    let at-byte2 = at-byte3 .before in
+    let at-byte = at-byte2 .before in
+    let at-int2 = at-byte .before in
+    let at-int = at-int2 .before in
+    let at-s2 = at-int .before .before in
+    let at-name-at = at-s2 .before .before in
+    with-source _ _ _ _ _ _ (at-name-at .name-at .ensures) (at-s2 .s2 .given .1) _ _ _ _ _
+    (at-int .int .ensures) (at-int2 .int2 .ensures) (at-byte .byte .ensures)
+    (at-byte2 .byte2 .ensures) (at-byte3 .byte3 .ensures)
     (told-refused _ _ _ _ _ _ _ _ _ (c .before .before .enum-told .given .1) (c .before .reason .ensures) (c .refuse-head2 .ensures))
 
 returns-3 : tie.Need-returns-3
 returns-3 c =
-    with-source _ _ _ _ _ _ (c .before .before .before .before .before .before .before .before .before .before .before .before .before .before .before .name-at .ensures) (c .before .before .before .before .before .before .before .before .before .before .before .before .before .s2 .given .1) _ _ _ _ _ (c .before .before .before .before .before .before .before .before .before .before .before .int .ensures) (c .before .before .before .before .before .before .before .before .before .before .int2 .ensures) (c .before .before .before .before .before .before .before .before .before .byte .ensures) (c .before .before .before .before .before .before .before .before .byte2 .ensures) (c .before .before .before .before .before .before .before .byte3 .ensures)
-    (told-all _ _ _ _ _ _ _ _ _ _ _ _ (c .before .before .before .before .before .stack .given .1) (c .before .before .before .value .ensures) (c .before .before .value2 .ensures) (c .before .value3 .ensures) (c .value4 .ensures))
+    let at-stack = c .before .before .before .before .before in
+    let at-byte3 = at-stack .before .before in
+    let at-byte2 = at-byte3 .before in
+    let at-byte = at-byte2 .before in
+    let at-int2 = at-byte .before in
+    let at-int = at-int2 .before in
+    let at-s2 = at-int .before .before in
+    let at-name-at = at-s2 .before .before in
+    with-source _ _ _ _ _ _ (at-name-at .name-at .ensures) (at-s2 .s2 .given .1) _ _ _ _ _
+    (at-int .int .ensures) (at-int2 .int2 .ensures) (at-byte .byte .ensures)
+    (at-byte2 .byte2 .ensures) (at-byte3 .byte3 .ensures)
+    (told-all _ _ _ _ _ _ _ _ _ _ _ _ (at-stack .stack .given .1) (c .before .before .before .value .ensures)
+    (c .before .before .value2 .ensures) (c .before .value3 .ensures) (c .value4 .ensures))
 
 pub head-at-spec : {M : Type 1} → statement M
 head-at-spec =
@@ -20,7 +40,9 @@ head-at-spec =
     (λ c κs. search needs)
     (λ c. search needs)
     (λ c κs. search needs)
-    (λ c. no-source _ _ _ _ _ (c .before .before .before .before .name-at .ensures) (c .before .before .s .given .1) (c .refuse-head .ensures))
+    (λ c.
+    let at-name-at = c .before .before .before .before in
+    no-source _ _ _ _ _ (at-name-at .name-at .ensures) (c .before .before .s .given .1) (c .refuse-head .ensures))
     (λ c. search needs)
     (λ c κs. search needs)
     (λ c κs. search needs)

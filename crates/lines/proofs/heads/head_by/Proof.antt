@@ -10,7 +10,14 @@ head-by-spec =
     (λ c κs. search needs)
     (λ c. search needs)
     (λ c κs. search needs)
-    (λ c. not-there _ _ _ (c .before .before .before .before .locate-by .ensures) _ _ (c .before .before .found .given .1) (c .refuse-head .ensures))
+    (λ c.
+    let at-locate-by = c .before .before .before .before in
+    not-there _ _ _ (at-locate-by .locate-by .ensures) _ _ (c .before .before .found .given .1) (c .refuse-head .ensures))
     (λ c. search needs)
-    (λ c κs. let s = c .before .before .before .before .before .args in within-bytes (s .chunk .now) (s .choice) _ (c .before .before .before .locate-by .ensures) _ (c .before .found2 .given .1))
-    (λ c. there _ _ _ (c .before .before .before .before .locate-by .ensures) _ _ (c .before .before .found2 .given .1) (c .head-at .ensures)))
+    (λ c κs.
+    let s = c .before .before .before .before .before .args in
+    within-bytes (s .chunk .now) (s .choice) _ (c .before .before .before .locate-by .ensures) _
+    (c .before .found2 .given .1))
+    (λ c.
+    let at-locate-by = c .before .before .before .before in
+    there _ _ _ (at-locate-by .locate-by .ensures) _ _ (c .before .before .found2 .given .1) (c .head-at .ensures)))

@@ -21,9 +21,10 @@ store-lines-requires c κs =
 
 returns : tie.Need-returns
 returns c =
-    let v = c .before .before .before .before .before in
+    let at-places = c .before .before .before .before in
+    let v = at-places .before in
     let s = start v in
-    c .before .before .store-lines .ensures ∙ fill-is _ _ _ _ _ (c .before .before .before .before .places .result) _ (defined v) (c .before .before .before .before .places .ensures)
+    c .before .before .store-lines .ensures ∙ fill-is _ _ _ _ _ (at-places .places .result) _ (defined v) (at-places .places .ensures)
 
 pub fill-lines-spec : {M : Type 1} → statement M
 fill-lines-spec =

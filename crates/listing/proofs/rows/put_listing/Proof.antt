@@ -25,17 +25,28 @@ loop-holds c = (omega arith, refl, put-laws .none (c .before .before .before .ar
 loop-again : tie.Need-loop-again Inv-loop μ-loop
 loop-again c =
     let t = c .before .before in
-    let l = t .before .before .before .before .before .loop in
-    let s = t .before .before .before .before .before .before .before .before .before .args in
-    (omega arith, omega arith, one-line-more (s .words .now) (s .lengths .now) (s .page .now) (l .page) (t .put-text .last .0) (l .p) (l .inv .2) (omega arith) (rw (t .before .before .line .ensures) at (t .put-text .ensures)))
+    let turn = t .before .before .before .before .before in
+    let l = turn .loop in
+    let s = turn .before .before .before .before .args in (
+      omega arith,
+      omega arith,
+      one-line-more (s .words .now) (s .lengths .now) (s .page .now) (l .page)
+          (t .put-text .last .0) (l .p) (l .inv .2) (omega arith)
+          (rw (t .before .before .line .ensures) at (t .put-text .ensures)),
+    )
 
 returns : tie.Need-returns Inv-loop μ-loop
 returns c =
     let t = c .before .before in
-    let l = t .before .before .before .before .before .loop in
-    let s = t .before .before .before .before .before .before .before .before .before .args in
-    let e : l .p ≡ length (s .words .now) = omega arith in
-    (refl, last-line (s .words .now) (s .lengths .now) (s .page .now) (l .page) (t .put-text2 .last .0) (s .longest) (s .first) (rw e at (l .inv .2)) (omega arith) (rw (t .before .before .last-line .ensures) at (t .put-text2 .ensures)))
+    let turn = t .before .before .before .before .before in
+    let l = turn .loop in
+    let s = turn .before .before .before .before .args in
+    let e : l .p ≡ length (s .words .now) = omega arith in (
+      refl,
+      last-line (s .words .now) (s .lengths .now) (s .page .now) (l .page) (t .put-text2 .last .0)
+          (s .longest) (s .first) (rw e at (l .inv .2)) (omega arith)
+          (rw (t .before .before .last-line .ensures) at (t .put-text2 .ensures)),
+    )
 
 pub put-listing-spec : {M : Type 1} → statement M
 put-listing-spec =

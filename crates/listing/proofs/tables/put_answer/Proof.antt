@@ -33,29 +33,39 @@ fits c n e = laws .fits mostLines (text-at c) n (sym (sheet-is c) ∙ e)
 
 put-run-requires : tie.Need-put-run-requires
 put-run-requires c κs =
-    let a = c .before .before .before .before .before .before in
-    let given = c .before .before .before .s .given in
+    let at-s = c .before .before .before in
+    let a = at-s .before .before .before in
+    let given = at-s .s .given in
     (omega (arith, part-count a (given .0 .0) (given .1), fits a (given .0 .0) (given .1)), start a .pre)
 
 returns : tie.Need-returns
 returns c =
-    let a = c .before .before .before .before .before .before .before .before .before in
-    let given = c .before .before .before .before .before .before .s .given in
-    words-text (text-at a) (start a .args .page .now) _ _ _ (given .0 .0) (sym (sheet-is a) ∙ given .1) (part-is a (given .0 .0) (given .1)) (c .before .before .put-run .ensures .0) (c .before .before .put-run .ensures .1)
+    let at-put-run = c .before .before in
+    let at-s = at-put-run .before .before .before .before in
+    let a = at-s .before .before .before in
+    let given = at-s .s .given in
+    words-text (text-at a) (start a .args .page .now) _ _ _ (given .0 .0) (sym (sheet-is a) ∙ given .1)
+    (part-is a (given .0 .0) (given .1)) (at-put-run .put-run .ensures .0)
+    (at-put-run .put-run .ensures .1)
 
 returns-2 : tie.Need-returns-2
 returns-2 c =
     let p = c .before .before .before .before in
     let a = p .before .before .before .before .before in
     let told = p .before .before .enum-told .given in
-    rejected-text (text-at a) (start a .args .page .now) _ _ _ _ (Malformed (told .0 .0)) (sym (sheet-is a) ∙ told .1) tt (rw (told .1) at (p .before .sheet-number .ensures)) (rw (told .1) at (p .sheet-place .ensures)) (c .before .before .put-refusal .ensures .0) (c .before .before .put-refusal .ensures .1)
+    rejected-text (text-at a) (start a .args .page .now) _ _ _ _ (Malformed (told .0 .0))
+    (sym (sheet-is a) ∙ told .1) tt (rw (told .1) at (p .before .sheet-number .ensures))
+    (rw (told .1) at (p .sheet-place .ensures)) (c .before .before .put-refusal .ensures .0)
+    (c .before .before .put-refusal .ensures .1)
 
 returns-3 : tie.Need-returns-3
 returns-3 c =
     let p = c .before .before .before .before in
     let a = p .before .before .before .before .before in
     let told = p .before .before .enum-told2 .given in
-    rejected-text (text-at a) (start a .args .page .now) _ _ _ _ TooLong (sym (sheet-is a) ∙ told .1) tt (rw (told .1) at (p .before .sheet-number2 .ensures)) (rw (told .1) at (p .sheet-place2 .ensures)) (c .before .before .put-refusal2 .ensures .0) (c .before .before .put-refusal2 .ensures .1)
+    rejected-text (text-at a) (start a .args .page .now) _ _ _ _ TooLong (sym (sheet-is a) ∙ told .1) tt
+    (rw (told .1) at (p .before .sheet-number2 .ensures)) (rw (told .1) at (p .sheet-place2 .ensures))
+    (c .before .before .put-refusal2 .ensures .0) (c .before .before .put-refusal2 .ensures .1)
 
 pub put-answer-spec : {M : Type 1} → statement M
 put-answer-spec =

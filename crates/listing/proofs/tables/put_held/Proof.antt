@@ -12,8 +12,9 @@ slice-aggregate-put-answer c =
 
 returns-2 : tie.Need-returns-2
 returns-2 c =
-    let s = c .before .before .before .before .before .before .before .args in
-    rw (take-all (s .n) (s .buffer .now) (omega arith)) (c .before .before .put-answer2 .ensures)
+    let at-put-answer2 = c .before .before in
+    let s = at-put-answer2 .before .before .before .before .before .args in
+    rw (take-all (s .n) (s .buffer .now) (omega arith)) (at-put-answer2 .put-answer2 .ensures)
 
 pub put-held-spec : {M : Type 1} → statement M
 put-held-spec =

@@ -3,4 +3,11 @@ use Rattle.lua53.proofs.c.lawendeb_crossing_edges_53.Statement.{stateme
 use Rattle.lua53.proofs.c.lawendeb_crossing_edges_53.Tie as tie
 
 pub lawendeb-crossing-edges-53-spec : {M : Type 1} → statement M
-lawendeb-crossing-edges-53-spec = tie.close (tie.spec (λ c κs. search needs) (λ c κs. search needs) (λ c. search needs) (λ c. search needs) (λ c. (cc, (search needs, search needs))))
+lawendeb-crossing-edges-53-spec =
+    tie.close
+    (tie.spec
+    (λ c κs. search needs)
+    (λ c κs. search needs)
+    (λ c. search needs)
+    (λ c. search needs)
+    (λ c. (cc, (search needs, search needs))))

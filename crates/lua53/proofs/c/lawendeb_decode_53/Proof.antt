@@ -1,4 +1,4 @@
--- `lua53::decoded::lawendeb_decode_53` meets its contract: the mode and the fields, put side by side.
+-- `lua53::c::lawendeb_decode_53` meets its contract: the mode and the fields, put side by side.
 -- Assumes nothing.
 use Prim.Native.Nat.{ℕ}
 use mathlib.Core.Path.{_≡_, _∙_, ap}

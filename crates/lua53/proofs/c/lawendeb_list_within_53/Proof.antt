@@ -3,4 +3,12 @@ use Rattle.lua53.proofs.c.lawendeb_list_within_53.Statement.{statement}
 use Rattle.lua53.proofs.c.lawendeb_list_within_53.Tie as tie
 
 pub lawendeb-list-within-53-spec : {M : Type 1} → statement M
-lawendeb-list-within-53-spec = tie.close (tie.spec (λ c κs. search needs) (λ c κs. search needs) (λ c. search needs) (λ c. search needs) (λ c. search needs) (λ c. (cc, (search needs, (search needs, search needs)))))
+lawendeb-list-within-53-spec =
+    tie.close
+    (tie.spec
+    (λ c κs. search needs)
+    (λ c κs. search needs)
+    (λ c. search needs)
+    (λ c. search needs)
+    (λ c. search needs)
+    (λ c. (cc, (search needs, (search needs, search needs)))))

@@ -3,4 +3,11 @@ use Rattle.lua53.proofs.c.lawendeb_longest_run_53.Statement.{statement}
 use Rattle.lua53.proofs.c.lawendeb_longest_run_53.Tie as tie
 
 pub lawendeb-longest-run-53-spec : {M : Type 1} → statement M
-lawendeb-longest-run-53-spec = tie.close (tie.spec (λ c κs. search needs) (λ c κs. search needs) (λ c. search needs) (λ c. search needs) (λ c. (cc, (search needs, search needs))))
+lawendeb-longest-run-53-spec =
+    tie.close
+    (tie.spec
+    (λ c κs. search needs)
+    (λ c κs. search needs)
+    (λ c. search needs)
+    (λ c. search needs)
+    (λ c. (cc, (search needs, search needs))))

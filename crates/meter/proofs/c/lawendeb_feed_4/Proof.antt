@@ -1,4 +1,5 @@
--- `meter::lent::lawendeb_feed_4` meets its contract: by the walk that the feeds of both versions share. All that the proof knows of `feed_step` is that it meets its contract.
+-- `meter::c::lawendeb_feed_4` meets its contract: by the walk that the feeds of both versions
+-- share. All that the proof knows of `feed_step` is that it meets its contract.
 -- Assumes nothing.
 use contract.Running.{givenOf, tables, tablesOf}
 use denote.Triple.Spec.{tripleOf}
@@ -19,4 +20,5 @@ lawendeb-feed-4-spec 𝓤 H 𝓜 𝓖 𝓡 =
     entered 𝓤 H (tripleOf 𝓤 H (𝓖 .A) f.signature (f.spec 𝓤 H (𝓖 .A) (𝓜 .mem) (𝓡 .run)))
     (tables 𝓤 H 𝓜 𝓡 code.env .C) (tables 𝓤 H 𝓜 𝓡 code.env .Λ) #meter·lawendeb-feed-4 code.function (code.unfolded 𝓤 H 𝓜 𝓡)
     (feed-meets lua54 #meter·feed-step 𝓤 H (𝓖 .A) (givenOf 𝓤 H 𝓜 𝓖) (tablesOf 𝓤 H 𝓜 (tables 𝓤 H 𝓜 𝓡 code.env))
-    (cited 𝓤 H (Stepped lua54 #meter·feed-step 𝓤 H (𝓖 .A)) 𝓜 𝓡 code.env #meter·feed-step step-def.routine code.calls-meter·step·feed-step (step-thm.met 𝓤 H 𝓜 𝓖 𝓡)))
+    (cited 𝓤 H (Stepped lua54 #meter·feed-step 𝓤 H (𝓖 .A)) 𝓜 𝓡 code.env #meter·feed-step step-def.routine
+    code.calls-meter·step·feed-step (step-thm.met 𝓤 H 𝓜 𝓖 𝓡)))

@@ -15,35 +15,72 @@ unfolding isForeign
 returns-2 c =
     let covered = c .before .before .before in
     let read = covered .before in
-    rw (← read .wide3 .ensures, ← read .before .wide2 .ensures, ← read .before .before .wide .ensures, le-ltb _ _ (covered .if1 .left), eq-eqb _ 0 (c .before .if2 .taken), eq-eqb _ 0 (c .if3 .taken))
+    rw (
+      ← read .wide3 .ensures,
+      ← read .before .wide2 .ensures,
+      ← read .before .before .wide .ensures,
+      le-ltb _ _ (covered .if1 .left),
+      eq-eqb _ 0 (c .before .if2 .taken),
+      eq-eqb _ 0 (c .if3 .taken),
+    )
 
 returns-3 : tie.Need-returns-3
 unfolding isForeign
 returns-3 c =
     let covered = c .before .before .before in
     let read = covered .before in
-    rw (← read .wide3 .ensures, ← read .before .wide2 .ensures, ← read .before .before .wide .ensures, le-ltb _ _ (covered .if1 .left), eq-eqb _ 0 (c .before .if2 .taken), ne-eqb _ 0 (c .if3 .left))
+    rw (
+      ← read .wide3 .ensures,
+      ← read .before .wide2 .ensures,
+      ← read .before .before .wide .ensures,
+      le-ltb _ _ (covered .if1 .left),
+      eq-eqb _ 0 (c .before .if2 .taken),
+      ne-eqb _ 0 (c .if3 .left),
+    )
 
 returns-4 : tie.Need-returns-4
 unfolding isForeign
 returns-4 c =
     let covered = c .before .before .before in
     let read = covered .before in
-    rw (← read .wide3 .ensures, ← read .before .wide2 .ensures, ← read .before .before .wide .ensures, le-ltb _ _ (covered .if1 .left), ne-eqb _ 0 (c .before .if2 .left), le-leb _ _ (c .if4 .taken))
+    rw (
+      ← read .wide3 .ensures,
+      ← read .before .wide2 .ensures,
+      ← read .before .before .wide .ensures,
+      le-ltb _ _ (covered .if1 .left),
+      ne-eqb _ 0 (c .before .if2 .left),
+      le-leb _ _ (c .if4 .taken),
+    )
 
 returns-5 : tie.Need-returns-5
 unfolding isForeign
 returns-5 c =
     let covered = c .before .before .before .before in
     let read = covered .before in
-    rw (← read .wide3 .ensures, ← read .before .wide2 .ensures, ← read .before .before .wide .ensures, le-ltb _ _ (covered .if1 .left), ne-eqb _ 0 (c .before .before .if2 .left), lt-leb _ _ (c .before .if4 .left), eq-eqb _ 0 (c .if5 .taken))
+    rw (
+      ← read .wide3 .ensures,
+      ← read .before .wide2 .ensures,
+      ← read .before .before .wide .ensures,
+      le-ltb _ _ (covered .if1 .left),
+      ne-eqb _ 0 (c .before .before .if2 .left),
+      lt-leb _ _ (c .before .if4 .left),
+      eq-eqb _ 0 (c .if5 .taken),
+    )
 
 returns-6 : tie.Need-returns-6
 unfolding isForeign
 returns-6 c =
     let covered = c .before .before .before .before in
     let read = covered .before in
-    rw (← read .wide3 .ensures, ← read .before .wide2 .ensures, ← read .before .before .wide .ensures, le-ltb _ _ (covered .if1 .left), ne-eqb _ 0 (c .before .before .if2 .left), lt-leb _ _ (c .before .if4 .left), ne-eqb _ 0 (c .if5 .left))
+    rw (
+      ← read .wide3 .ensures,
+      ← read .before .wide2 .ensures,
+      ← read .before .before .wide .ensures,
+      le-ltb _ _ (covered .if1 .left),
+      ne-eqb _ 0 (c .before .before .if2 .left),
+      lt-leb _ _ (c .before .if4 .left),
+      ne-eqb _ 0 (c .if5 .left),
+    )
 
 pub is-foreign-spec : {M : Type 1} → statement M
 is-foreign-spec =

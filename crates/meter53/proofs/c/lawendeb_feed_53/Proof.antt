@@ -1,4 +1,5 @@
--- `meter53::lawendeb_feed_53` meets its contract: by the walk that the feeds of both versions share. All that the proof knows of `feed_step_53` is that it meets its contract.
+-- `meter53::lawendeb_feed_53` meets its contract: by the walk that the feeds of both versions
+-- share. All that the proof knows of `feed_step_53` is that it meets its contract.
 -- Assumes nothing.
 use contract.Running.{givenOf, tables, tablesOf}
 use denote.Triple.Spec.{tripleOf}
@@ -20,4 +21,5 @@ lawendeb-feed-53-spec 𝓤 H 𝓜 𝓖 𝓡 =
     entered 𝓤 H (tripleOf 𝓤 H (𝓖 .A) f.signature (f.spec 𝓤 H (𝓖 .A) (𝓜 .mem) (𝓡 .run)))
     (tables 𝓤 H 𝓜 𝓡 code.env .C) (tables 𝓤 H 𝓜 𝓡 code.env .Λ) #meter53·lawendeb-feed-53 code.function (code.unfolded 𝓤 H 𝓜 𝓡)
     (feed-meets (scriptOf Lua53) #meter53·feed-step 𝓤 H (𝓖 .A) (givenOf 𝓤 H 𝓜 𝓖) (tablesOf 𝓤 H 𝓜 (tables 𝓤 H 𝓜 𝓡 code.env))
-    (cited 𝓤 H (Stepped (scriptOf Lua53) #meter53·feed-step 𝓤 H (𝓖 .A)) 𝓜 𝓡 code.env #meter53·feed-step step-def.routine code.calls-meter53·c·feed-step-53 (step-thm.met 𝓤 H 𝓜 𝓖 𝓡)))
+    (cited 𝓤 H (Stepped (scriptOf Lua53) #meter53·feed-step 𝓤 H (𝓖 .A)) 𝓜 𝓡 code.env #meter53·feed-step
+    step-def.routine code.calls-meter53·c·feed-step-53 (step-thm.met 𝓤 H 𝓜 𝓖 𝓡)))

@@ -22,8 +22,10 @@ abbrev μ-loop : tie.MeasureT-loop
 -- the loop's test, and that the number of functions fits
 add-i : tie.Need-add-i Inv-loop μ-loop
 add-i c =
-    let a = c .before .before .before .before .before .before .before .before .before .before in
-    let l = a .before .before .before .before .before .before .before .before .before .before in
+    let at-lengths = c .before .before .before .before .before in
+    let a = at-lengths .before .before .before .before .before in
+    let at-tell-one-arg4 = a .before .before .before .before .before in
+    let l = at-tell-one-arg4 .before .before .before .before .before in
     let s = l .before .before .before .before .before .before .before .before .before .before .before .before .before .before in
     omega (arith, l .loop-test .taken, s .fits)
 

@@ -21,7 +21,9 @@ returns c =
       text = text;
       decimal = record { count = k; fewest = d .decimal .ensures .1 .0; is = d .decimal .ensures .1 .1 };
       puts =
-          subst (λ (m : ℕ). Puts (s .args .page .now) (s .args .s) (replicate (6 - m) 32 ++ (text ++ s .args .after .now)) (p2 .put2 .last .0) (p2 .put2 .result))
+          subst (λ (m : ℕ). Puts (s .args .page .now) (s .args .s)
+          (replicate (6 - m) 32 ++ (text ++ s .args .after .now)) (p2 .put2 .last .0)
+          (p2 .put2 .result))
           (d .decimal .ensures .0 .1)
           (puts-then _ _ _ _ _ _ _ _ (i .indent .ensures) (puts-then _ _ _ _ _ _ _ _ (p1 .put .ensures) (p2 .put2 .ensures)));
     }

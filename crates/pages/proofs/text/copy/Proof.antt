@@ -19,8 +19,12 @@ abbrev μ-loop : tie.MeasureT-loop
 loop-again : tie.Need-loop-again Inv-loop μ-loop
 loop-again c =
     let l = c .before .before .loop in
-    let s = c .before .before .before in
-    (omega arith, simp length-set (l .inv .1), put-laws .element (s .args .page .now) (l .page) (s .args .at) (l .i) (s .args .text .now) (s .pre) (omega arith) (l .inv .2))
+    let s = c .before .before .before in (
+      omega arith,
+      simp length-set (l .inv .1),
+      put-laws .element (s .args .page .now) (l .page) (s .args .at)
+          (l .i) (s .args .text .now) (s .pre) (omega arith) (l .inv .2),
+    )
 
 returns : tie.Need-returns Inv-loop μ-loop
 returns c =

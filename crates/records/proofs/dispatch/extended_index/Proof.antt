@@ -10,8 +10,9 @@ use Rattle.records.proofs.dispatch.extended_index.Tie as tie
 returns : tie.Need-returns
 unfolding extendedIndex choose
 returns c =
+    let at-if1 = c .before .before .before .before in
     rw (
-      lt-ltb _ _ (c .before .before .before .before .if1 .taken),
+      lt-ltb _ _ (at-if1 .if1 .taken),
       ← c .before .before .opcode .ensures,
       eq-eqb _ _ (c .before .if2 .taken),
     ) (c .ax .ensures)
@@ -26,4 +27,15 @@ unfolding extendedIndex choose
 returns-3 c = rw (le-ltb _ _ (c .if1 .left))
 
 pub extended-index-spec : {M : Type 1} → statement M
-extended-index-spec = tie.close (tie.spec (λ c. search needs) (λ c. search needs) (λ c. search needs) (λ c κs. search needs) (λ c κs. search needs) (λ c. search needs) returns returns-2 returns-3)
+extended-index-spec =
+    tie.close
+    (tie.spec
+    (λ c. search needs)
+    (λ c. search needs)
+    (λ c. search needs)
+    (λ c κs. search needs)
+    (λ c κs. search needs)
+    (λ c. search needs)
+    returns
+    returns-2
+    returns-3)

@@ -20,4 +20,15 @@ returns-2 c =
     ∙ wrap-in (c .before .before .args .pc + 1) (axOf (c .before .before .args .word)) 16777215 (omega (arith, c .if1 .left, c .before .ax .ensures))
 
 pub jmp-target-spec : {M : Type 1} → statement M
-jmp-target-spec = tie.close (tie.spec (λ c. search needs) (λ c κs. search needs) (λ c. search needs) (λ c. search needs) (λ c. search needs) (λ c. search needs) (λ c. search needs) returns returns-2)
+jmp-target-spec =
+    tie.close
+    (tie.spec
+    (λ c. search needs)
+    (λ c κs. search needs)
+    (λ c. search needs)
+    (λ c. search needs)
+    (λ c. search needs)
+    (λ c. search needs)
+    (λ c. search needs)
+    returns
+    returns-2)

@@ -31,9 +31,11 @@ returns-2 c =
 returns-3 : tie.Need-returns-3
 unfolding arithmetic choose
 returns-3 c =
+    let at-if2 = c .before .before .before .before in
+    let at-if1 = at-if2 .before in
     rw (
-      ne-eqb _ _ (c .before .before .before .before .before .if1 .left),
-      lt-leb _ _ (c .before .before .before .before .if2 .left),
+      ne-eqb _ _ (at-if1 .if1 .left),
+      lt-leb _ _ (at-if2 .if2 .left),
       le-leb _ _ (c .before .before .before .if3 .taken),
       c .lift-with-immediate2 .ensures,
       c .before .immediate2 .ensures,
@@ -43,8 +45,9 @@ returns-3 c =
 returns-4 : tie.Need-returns-4
 unfolding arithmetic choose
 returns-4 c =
+    let at-if1 = c .before .before .before .before in
     rw (
-      ne-eqb _ _ (c .before .before .before .before .if1 .left),
+      ne-eqb _ _ (at-if1 .if1 .left),
       lt-leb _ _ (c .before .before .before .if2 .left),
       lt-leb _ _ (c .before .before .if3 .left),
       le-leb _ _ (c .before .if4 .taken),
@@ -62,10 +65,13 @@ returns-5 c =
 returns-6 : tie.Need-returns-6
 unfolding arithmetic choose
 returns-6 c =
+    let at-if3 = c .before .before .before .before in
+    let at-if2 = at-if3 .before in
+    let at-if1 = at-if2 .before in
     rw (
-      ne-eqb _ _ (c .before .before .before .before .before .before .if1 .left),
-      lt-leb _ _ (c .before .before .before .before .before .if2 .left),
-      lt-leb _ _ (c .before .before .before .before .if3 .left),
+      ne-eqb _ _ (at-if1 .if1 .left),
+      lt-leb _ _ (at-if2 .if2 .left),
+      lt-leb _ _ (at-if3 .if3 .left),
       lt-leb _ _ (c .before .before .before .if4 .left),
       ne-eqb _ _ (c .before .before .if5 .left),
       le-leb _ _ (c .before .if6 .taken),
@@ -75,11 +81,15 @@ returns-6 c =
 returns-7 : tie.Need-returns-7
 unfolding arithmetic choose
 returns-7 c =
+    let at-if4 = c .before .before .before .before in
+    let at-if3 = at-if4 .before in
+    let at-if2 = at-if3 .before in
+    let at-if1 = at-if2 .before in
     rw (
-      ne-eqb _ _ (c .before .before .before .before .before .before .before .if1 .left),
-      lt-leb _ _ (c .before .before .before .before .before .before .if2 .left),
-      lt-leb _ _ (c .before .before .before .before .before .if3 .left),
-      lt-leb _ _ (c .before .before .before .before .if4 .left),
+      ne-eqb _ _ (at-if1 .if1 .left),
+      lt-leb _ _ (at-if2 .if2 .left),
+      lt-leb _ _ (at-if3 .if3 .left),
+      lt-leb _ _ (at-if4 .if4 .left),
       ne-eqb _ _ (c .before .before .before .if5 .left),
       lt-leb _ _ (c .before .before .if6 .left),
       le-leb _ _ (c .before .if7 .taken),
@@ -89,11 +99,15 @@ returns-7 c =
 returns-8 : tie.Need-returns-8
 unfolding arithmetic choose
 returns-8 c =
+    let at-if4 = c .before .before .before .before in
+    let at-if3 = at-if4 .before in
+    let at-if2 = at-if3 .before in
+    let at-if1 = at-if2 .before in
     rw (
-      ne-eqb _ _ (c .before .before .before .before .before .before .before .if1 .left),
-      lt-leb _ _ (c .before .before .before .before .before .before .if2 .left),
-      lt-leb _ _ (c .before .before .before .before .before .if3 .left),
-      lt-leb _ _ (c .before .before .before .before .if4 .left),
+      ne-eqb _ _ (at-if1 .if1 .left),
+      lt-leb _ _ (at-if2 .if2 .left),
+      lt-leb _ _ (at-if3 .if3 .left),
+      lt-leb _ _ (at-if4 .if4 .left),
       ne-eqb _ _ (c .before .before .before .if5 .left),
       lt-leb _ _ (c .before .before .if6 .left),
       lt-leb _ _ (c .before .if7 .left),
@@ -101,4 +115,24 @@ returns-8 c =
     )
 
 pub lift-arithmetic-spec : {M : Type 1} → statement M
-lift-arithmetic-spec = tie.close (tie.spec (λ c κs. search needs) (λ c κs. search needs) (λ c κs. search needs) (λ c κs. search needs) (λ c κs. search needs) (λ c κs. search needs) (λ c κs. search needs) (λ c κs. search needs) (λ c κs. search needs) (λ c κs. search needs) returns returns-2 returns-3 returns-4 returns-5 returns-6 returns-7 returns-8)
+lift-arithmetic-spec =
+    tie.close
+    (tie.spec
+    (λ c κs. search needs)
+    (λ c κs. search needs)
+    (λ c κs. search needs)
+    (λ c κs. search needs)
+    (λ c κs. search needs)
+    (λ c κs. search needs)
+    (λ c κs. search needs)
+    (λ c κs. search needs)
+    (λ c κs. search needs)
+    (λ c κs. search needs)
+    returns
+    returns-2
+    returns-3
+    returns-4
+    returns-5
+    returns-6
+    returns-7
+    returns-8)

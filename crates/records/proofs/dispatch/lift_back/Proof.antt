@@ -22,4 +22,14 @@ returns c =
     )
 
 pub lift-back-spec : {M : Type 1} → statement M
-lift-back-spec = tie.close (tie.spec (λ c κs. search needs) (λ c. search needs) (λ c. search needs) (λ c κs. search needs) (λ c. search needs) sub-lift-loop-jump (λ c κs. search needs) returns)
+lift-back-spec =
+    tie.close
+    (tie.spec
+    (λ c κs. search needs)
+    (λ c. search needs)
+    (λ c. search needs)
+    (λ c κs. search needs)
+    (λ c. search needs)
+    sub-lift-loop-jump
+    (λ c κs. search needs)
+    returns)

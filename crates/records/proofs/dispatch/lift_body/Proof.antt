@@ -37,8 +37,9 @@ returns-3 c =
 returns-4 : tie.Need-returns-4
 unfolding recordBody choose
 returns-4 c =
+    let at-if1 = c .before .before .before .before in
     rw (
-      lt-leb _ _ (c .before .before .before .before .if1 .left),
+      lt-leb _ _ (at-if1 .if1 .left),
       lt-leb _ _ (c .before .before .before .if2 .left),
       lt-leb _ _ (c .before .before .if3 .left),
       le-leb _ _ (c .before .if4 .taken),
@@ -48,8 +49,9 @@ returns-4 c =
 returns-5 : tie.Need-returns-5
 unfolding recordBody choose
 returns-5 c =
+    let at-if1 = c .before .before .before .before in
     rw (
-      lt-leb _ _ (c .before .before .before .before .if1 .left),
+      lt-leb _ _ (at-if1 .if1 .left),
       lt-leb _ _ (c .before .before .before .if2 .left),
       lt-leb _ _ (c .before .before .if3 .left),
       lt-leb _ _ (c .before .if4 .left),
@@ -57,4 +59,16 @@ returns-5 c =
     )
 
 pub lift-body-spec : {M : Type 1} → statement M
-lift-body-spec = tie.close (tie.spec (λ c κs. search needs) (λ c κs. search needs) (λ c κs. search needs) (λ c κs. search needs) (λ c κs. search needs) returns returns-2 returns-3 returns-4 returns-5)
+lift-body-spec =
+    tie.close
+    (tie.spec
+    (λ c κs. search needs)
+    (λ c κs. search needs)
+    (λ c κs. search needs)
+    (λ c κs. search needs)
+    (λ c κs. search needs)
+    returns
+    returns-2
+    returns-3
+    returns-4
+    returns-5)

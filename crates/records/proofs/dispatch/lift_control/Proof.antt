@@ -35,8 +35,9 @@ returns-3 c =
 returns-4 : tie.Need-returns-4
 unfolding control choose
 returns-4 c =
+    let at-if1 = c .before .before .before .before in
     rw (
-      ne-eqb _ _ (c .before .before .before .before .if1 .left),
+      ne-eqb _ _ (at-if1 .if1 .left),
       ne-eqb _ _ (c .before .before .before .if2 .left),
       ne-eqb _ _ (c .before .before .if3 .left),
       le-leb _ _ (c .before .if4 .taken),
@@ -46,9 +47,11 @@ returns-4 c =
 returns-5 : tie.Need-returns-5
 unfolding control choose
 returns-5 c =
+    let at-if2 = c .before .before .before .before in
+    let at-if1 = at-if2 .before in
     rw (
-      ne-eqb _ _ (c .before .before .before .before .before .if1 .left),
-      ne-eqb _ _ (c .before .before .before .before .if2 .left),
+      ne-eqb _ _ (at-if1 .if1 .left),
+      ne-eqb _ _ (at-if2 .if2 .left),
       ne-eqb _ _ (c .before .before .before .if3 .left),
       lt-leb _ _ (c .before .before .if4 .left),
       le-leb _ _ (c .before .if5 .taken),
@@ -58,9 +61,11 @@ returns-5 c =
 returns-6 : tie.Need-returns-6
 unfolding control choose
 returns-6 c =
+    let at-if2 = c .before .before .before .before in
+    let at-if1 = at-if2 .before in
     rw (
-      ne-eqb _ _ (c .before .before .before .before .before .if1 .left),
-      ne-eqb _ _ (c .before .before .before .before .if2 .left),
+      ne-eqb _ _ (at-if1 .if1 .left),
+      ne-eqb _ _ (at-if2 .if2 .left),
       ne-eqb _ _ (c .before .before .before .if3 .left),
       lt-leb _ _ (c .before .before .if4 .left),
       lt-leb _ _ (c .before .if5 .left),
@@ -68,4 +73,22 @@ returns-6 c =
     )
 
 pub lift-control-spec : {M : Type 1} → statement M
-lift-control-spec = tie.close (tie.spec (λ c κs. search needs) (λ c κs. search needs) (λ c κs. search needs) (λ c κs. search needs) (λ c. search needs) (λ c κs. search needs) (λ c. search needs) (λ c κs. search needs) (λ c. search needs) (λ c κs. search needs) returns returns-2 returns-3 returns-4 returns-5 returns-6)
+lift-control-spec =
+    tie.close
+    (tie.spec
+    (λ c κs. search needs)
+    (λ c κs. search needs)
+    (λ c κs. search needs)
+    (λ c κs. search needs)
+    (λ c. search needs)
+    (λ c κs. search needs)
+    (λ c. search needs)
+    (λ c κs. search needs)
+    (λ c. search needs)
+    (λ c κs. search needs)
+    returns
+    returns-2
+    returns-3
+    returns-4
+    returns-5
+    returns-6)

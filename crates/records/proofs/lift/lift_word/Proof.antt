@@ -15,12 +15,16 @@ use Rattle.records.proofs.lift.lift_word.Statement.{statement}
 use Rattle.records.proofs.lift.lift_word.Tie as tie
 
 -- a word number below the plan's count is one of at most 32,768
-inside : (c : tie.Then1) → (c .before .before .before .before .before .before .before .before .args .pc < length (now (c .before .before .before .before .before .before .before .before .args .words))) × (length (now (c .before .before .before .before .before .before .before .before .args .words)) ≤ 32768)
-inside c =
-    let a = c .before .before .before .before .before .before .before .before .args in
-    let h = subst (λ (p : Plan). a .pc < p .count) (c .before .before .planned .ensures) (c .if1 .taken) in
-    let w = plan-laws (now (a .words)) (now (a .tags)) (now (a .payloads)) (now (a .names)) (length (now (a .bytes))) (length (now (a .words))) in
-    (omega (arith, w .within-words, h), w .few-words (a .pc) h)
+module _ (c : tie.Then1) where
+  abbrev start : tie.Start
+  start = c .before .before .before .before .before .before .before .before
+
+  inside : (start .args .pc < length (now (start .args .words))) × (length (now (start .args .words)) ≤ 32768)
+  inside =
+      let a = start .args in
+      let h = subst (λ (p : Plan). a .pc < p .count) (c .before .before .planned .ensures) (c .if1 .taken) in
+      let w = plan-laws (now (a .words)) (now (a .tags)) (now (a .payloads)) (now (a .names)) (length (now (a .bytes))) (length (now (a .words))) in
+      (omega (arith, w .within-words, h), w .few-words (a .pc) h)
 
 lift-at-requires : tie.Need-lift-at-requires
 lift-at-requires c κs = inside c

@@ -36,9 +36,11 @@ returns-3 c =
 returns-4 : tie.Need-returns-4
 unfolding answerOf
 returns-4 c =
+    let at-if2 = c .before .before .before .before in
+    let at-if1 = at-if2 .before in
     rw (
-      le-ltb _ _ (c .before .before .before .before .before .if1 .left),
-      eq-eqb _ _ (c .before .before .before .before .if2 .left),
+      le-ltb _ _ (at-if1 .if1 .left),
+      eq-eqb _ _ (at-if2 .if2 .left),
       le-ltb _ _ (c .before .before .before .if3 .left),
       ← c .before .before .first-unknown-tag .ensures,
       lt-ltb _ _ (c .before .if4 .taken),
@@ -48,11 +50,15 @@ returns-4 c =
 returns-5 : tie.Need-returns-5
 unfolding answerOf
 returns-5 c =
+    let at-first-unknown-tag = c .before .before .before .before in
+    let at-if3 = at-first-unknown-tag .before in
+    let at-if2 = at-if3 .before in
+    let at-if1 = at-if2 .before in
     rw (
-      le-ltb _ _ (c .before .before .before .before .before .before .before .if1 .left),
-      eq-eqb _ _ (c .before .before .before .before .before .before .if2 .left),
-      le-ltb _ _ (c .before .before .before .before .before .if3 .left),
-      ← c .before .before .before .before .first-unknown-tag .ensures,
+      le-ltb _ _ (at-if1 .if1 .left),
+      eq-eqb _ _ (at-if2 .if2 .left),
+      le-ltb _ _ (at-if3 .if3 .left),
+      ← at-first-unknown-tag .first-unknown-tag .ensures,
       le-ltb _ _ (c .before .before .before .if4 .left),
       ← c .before .before .first-string-past .ensures,
       lt-ltb _ _ (c .before .if5 .taken),
@@ -62,12 +68,17 @@ returns-5 c =
 returns-6 : tie.Need-returns-6
 unfolding answerOf
 returns-6 c =
+    let at-if4 = c .before .before .before .before in
+    let at-first-unknown-tag = at-if4 .before in
+    let at-if3 = at-first-unknown-tag .before in
+    let at-if2 = at-if3 .before in
+    let at-if1 = at-if2 .before in
     rw (
-      le-ltb _ _ (c .before .before .before .before .before .before .before .before .if1 .left),
-      eq-eqb _ _ (c .before .before .before .before .before .before .before .if2 .left),
-      le-ltb _ _ (c .before .before .before .before .before .before .if3 .left),
-      ← c .before .before .before .before .before .first-unknown-tag .ensures,
-      le-ltb _ _ (c .before .before .before .before .if4 .left),
+      le-ltb _ _ (at-if1 .if1 .left),
+      eq-eqb _ _ (at-if2 .if2 .left),
+      le-ltb _ _ (at-if3 .if3 .left),
+      ← at-first-unknown-tag .first-unknown-tag .ensures,
+      le-ltb _ _ (at-if4 .if4 .left),
       ← c .before .before .before .first-string-past .ensures,
       le-ltb _ _ (c .before .before .if5 .left),
       lt-ltb _ _ (c .before .if6 .taken),
@@ -77,14 +88,21 @@ returns-6 c =
 returns-7 : tie.Need-returns-7
 unfolding answerOf
 returns-7 c =
+    let at-if5 = c .before .before .before .before in
+    let at-first-string-past = at-if5 .before in
+    let at-if4 = at-first-string-past .before in
+    let at-first-unknown-tag = at-if4 .before in
+    let at-if3 = at-first-unknown-tag .before in
+    let at-if2 = at-if3 .before in
+    let at-if1 = at-if2 .before in
     rw (
-      le-ltb _ _ (c .before .before .before .before .before .before .before .before .before .before .if1 .left),
-      eq-eqb _ _ (c .before .before .before .before .before .before .before .before .before .if2 .left),
-      le-ltb _ _ (c .before .before .before .before .before .before .before .before .if3 .left),
-      ← c .before .before .before .before .before .before .before .first-unknown-tag .ensures,
-      le-ltb _ _ (c .before .before .before .before .before .before .if4 .left),
-      ← c .before .before .before .before .before .first-string-past .ensures,
-      le-ltb _ _ (c .before .before .before .before .if5 .left),
+      le-ltb _ _ (at-if1 .if1 .left),
+      eq-eqb _ _ (at-if2 .if2 .left),
+      le-ltb _ _ (at-if3 .if3 .left),
+      ← at-first-unknown-tag .first-unknown-tag .ensures,
+      le-ltb _ _ (at-if4 .if4 .left),
+      ← at-first-string-past .first-string-past .ensures,
+      le-ltb _ _ (at-if5 .if5 .left),
       le-ltb _ _ (c .before .before .before .if6 .left),
       ← c .before .before .first-name-past .ensures,
       lt-ltb _ _ (c .before .if7 .taken),
@@ -94,15 +112,23 @@ returns-7 c =
 returns-8 : tie.Need-returns-8
 unfolding answerOf
 returns-8 c =
+    let at-if6 = c .before .before .before .before in
+    let at-if5 = at-if6 .before in
+    let at-first-string-past = at-if5 .before in
+    let at-if4 = at-first-string-past .before in
+    let at-first-unknown-tag = at-if4 .before in
+    let at-if3 = at-first-unknown-tag .before in
+    let at-if2 = at-if3 .before in
+    let at-if1 = at-if2 .before in
     rw (
-      le-ltb _ _ (c .before .before .before .before .before .before .before .before .before .before .before .if1 .left),
-      eq-eqb _ _ (c .before .before .before .before .before .before .before .before .before .before .if2 .left),
-      le-ltb _ _ (c .before .before .before .before .before .before .before .before .before .if3 .left),
-      ← c .before .before .before .before .before .before .before .before .first-unknown-tag .ensures,
-      le-ltb _ _ (c .before .before .before .before .before .before .before .if4 .left),
-      ← c .before .before .before .before .before .before .first-string-past .ensures,
-      le-ltb _ _ (c .before .before .before .before .before .if5 .left),
-      le-ltb _ _ (c .before .before .before .before .if6 .left),
+      le-ltb _ _ (at-if1 .if1 .left),
+      eq-eqb _ _ (at-if2 .if2 .left),
+      le-ltb _ _ (at-if3 .if3 .left),
+      ← at-first-unknown-tag .first-unknown-tag .ensures,
+      le-ltb _ _ (at-if4 .if4 .left),
+      ← at-first-string-past .first-string-past .ensures,
+      le-ltb _ _ (at-if5 .if5 .left),
+      le-ltb _ _ (at-if6 .if6 .left),
       ← c .before .before .before .first-name-past .ensures,
       le-ltb _ _ (c .before .before .if7 .left),
       lt-ltb _ _ (c .before .if8 .taken),
@@ -112,14 +138,21 @@ returns-8 c =
 returns-9 : tie.Need-returns-9
 unfolding answerOf
 returns-9 c =
+    let at-if5 = c .before .before .before .before in
+    let at-first-string-past = at-if5 .before in
+    let at-if4 = at-first-string-past .before in
+    let at-first-unknown-tag = at-if4 .before in
+    let at-if3 = at-first-unknown-tag .before in
+    let at-if2 = at-if3 .before in
+    let at-if1 = at-if2 .before in
     rw (
-      le-ltb _ _ (c .before .before .before .before .before .before .before .before .before .before .if1 .left),
-      eq-eqb _ _ (c .before .before .before .before .before .before .before .before .before .if2 .left),
-      le-ltb _ _ (c .before .before .before .before .before .before .before .before .if3 .left),
-      ← c .before .before .before .before .before .before .before .first-unknown-tag .ensures,
-      le-ltb _ _ (c .before .before .before .before .before .before .if4 .left),
-      ← c .before .before .before .before .before .first-string-past .ensures,
-      le-ltb _ _ (c .before .before .before .before .if5 .left),
+      le-ltb _ _ (at-if1 .if1 .left),
+      eq-eqb _ _ (at-if2 .if2 .left),
+      le-ltb _ _ (at-if3 .if3 .left),
+      ← at-first-unknown-tag .first-unknown-tag .ensures,
+      le-ltb _ _ (at-if4 .if4 .left),
+      ← at-first-string-past .first-string-past .ensures,
+      le-ltb _ _ (at-if5 .if5 .left),
       le-ltb _ _ (c .before .before .before .if6 .left),
       ← c .before .before .first-name-past .ensures,
       le-ltb _ _ (c .before .if7 .left),
@@ -129,4 +162,24 @@ returns-9 c =
 pub check-spec : {M : Type 1} → statement M
 check-spec =
     tie.close
-    (tie.spec (λ c κs. search needs) returns (λ c κs. search needs) returns-2 (λ c κs. search needs) returns-3 (λ c κs. search needs) (λ c κs. search needs) returns-4 (λ c κs. search needs) (λ c κs. search needs) returns-5 (λ c κs. search needs) returns-6 (λ c κs. search needs) (λ c κs. search needs) returns-7 (λ c κs. search needs) returns-8 returns-9)
+    (tie.spec
+    (λ c κs. search needs)
+    returns
+    (λ c κs. search needs)
+    returns-2
+    (λ c κs. search needs)
+    returns-3
+    (λ c κs. search needs)
+    (λ c κs. search needs)
+    returns-4
+    (λ c κs. search needs)
+    (λ c κs. search needs)
+    returns-5
+    (λ c κs. search needs)
+    returns-6
+    (λ c κs. search needs)
+    (λ c κs. search needs)
+    returns-7
+    (λ c κs. search needs)
+    returns-8
+    returns-9)

@@ -28,7 +28,13 @@ shared-slice-read-is-unknown c = omega arith
 
 returns : tie.Need-returns Inv-loop μ-loop
 unfolding unknownTagAt
-returns c = lowest-laws .hit (unknownTagAt (now (c .before .before .before .before .before .before .args .tags))) (length (now (c .before .before .before .before .before .before .args .tags))) (c .before .before .before .before .loop .i) (c .before .before .before .loop-test .taken) (sym (c .before .is-unknown .ensures) ∙ c .if1 .taken) ∙ sym (c .before .before .before .before .loop .inv .1)
+returns c =
+    let turn = c .before .before .before .before in
+    let entry = turn .before .before in
+    lowest-laws .hit (unknownTagAt (now (entry .args .tags))) (length (now (entry .args .tags)))
+    (turn .loop .i) (c .before .before .before .loop-test .taken)
+    (sym (c .before .is-unknown .ensures) ∙ c .if1 .taken)
+    ∙ sym (turn .loop .inv .1)
 
 add-i : tie.Need-add-i Inv-loop μ-loop
 unfolding unknownTagAt
@@ -40,17 +46,32 @@ loop-less c = omega arith
 
 loop-again : tie.Need-loop-again Inv-loop μ-loop
 unfolding unknownTagAt
-loop-again c = (
-  omega arith,
-  c .before .before .before .before .loop .inv .1
-      ∙ lowest-laws .miss (unknownTagAt (now (c .before .before .before .before .before .before .args .tags)))
-      (length (now (c .before .before .before .before .before .before .args .tags)))
-      (c .before .before .before .before .loop .i) (c .before .before .before .loop-test .taken)
-      (sym (c .before .is-unknown .ensures) ∙ c .if1 .left),
-)
+loop-again c =
+    let turn = c .before .before .before .before in
+    let entry = turn .before .before in (
+      omega arith,
+      turn .loop .inv .1 ∙ lowest-laws .miss (unknownTagAt (now (entry .args .tags)))
+          (length (now (entry .args .tags))) (turn .loop .i) (c .before .before .before .loop-test .taken)
+          (sym (c .before .is-unknown .ensures) ∙ c .if1 .left),
+    )
 
 returns-2 : tie.Need-returns-2 Inv-loop μ-loop
-returns-2 c = lowest-laws .end (unknownTagAt (now (c .before .before .before .args .tags))) (length (now (c .before .before .before .args .tags))) (c .before .loop .i) (omega arith) ∙ sym (c .before .loop .inv .1)
+returns-2 c =
+    lowest-laws .end (unknownTagAt (now (c .before .before .before .args .tags)))
+    (length (now (c .before .before .before .args .tags))) (c .before .loop .i) (omega arith)
+    ∙ sym (c .before .loop .inv .1)
 
 pub first-unknown-tag-spec : {M : Type 1} → statement M
-first-unknown-tag-spec = tie.close (tie.spec Inv-loop μ-loop loop-holds shared-slice-read-is-unknown (λ c κs. search needs) returns add-i loop-less loop-again returns-2)
+first-unknown-tag-spec =
+    tie.close
+    (tie.spec
+    Inv-loop
+    μ-loop
+    loop-holds
+    shared-slice-read-is-unknown
+    (λ c κs. search needs)
+    returns
+    add-i
+    loop-less
+    loop-again
+    returns-2)

@@ -1,4 +1,4 @@
--- `rehearsal::export::flat_rehearsal` meets its contract: a variant at a time.
+-- `rehearsal::c::flat_rehearsal` meets its contract: a variant at a time.
 -- Assumes nothing.
 use mathlib.Core.Path.{sym, ap}
 use borrow.Author.Needs.{needs}

@@ -1,4 +1,4 @@
--- `rehearsal::export::lawendeb_rehearse` meets its contract: it is `rehearse`, its answer as numbers.
+-- `rehearsal::c::lawendeb_rehearse` meets its contract: it is `rehearse`, its answer as numbers.
 -- Assumes nothing.
 use mathlib.Core.Path.{ap, _∙_}
 use borrow.Author.Needs.{needs}

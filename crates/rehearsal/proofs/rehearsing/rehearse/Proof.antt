@@ -10,21 +10,28 @@ use Rattle.rehearsal.proofs.rehearsing.rehearse.Statement.{statement}
 use Rattle.rehearsal.proofs.rehearsing.rehearse.Tie as tie
 
 abbrev enter : tie.After-accept → tie.Start
-enter a = a .before .before .before .before .before .before .before .before .before .before .before .before
+enter a =
+    let at-out-of-range = a .before .before .before .before in
+    at-out-of-range .before .before .before .before .before .before .before .before
 
 inside : (a : tie.After-accept)
     → let s = enter a in outOfRange (s .args .count) (s .args .quantum) (s .args .choices .now) ≡ false
-inside a = sym (a .before .before .before .before .out-of-range .ensures) ∙ a .before .before .before .if1 .left
+inside a =
+    let at-out-of-range = a .before .before .before .before in
+    sym (at-out-of-range .out-of-range .ensures) ∙ a .before .before .before .if1 .left
 
 returns : tie.Need-returns
-returns c = let s = c .before .before .before .before .before .before .before .before .before in out (s .args .w0 .now)
+returns c =
+    let s = c .before .before .before .before .before .before .before .before .before in
+    out (s .args .w0 .now)
     (s .args .w1 .now) (s .args .w2 .now) (s .args .w3 .now) (s .args .count) (s .args .quantum)
     (s .args .choices .now) (s .args .limit) (s .args .marks .now) (s .args .lengths .now)
     (sym (c .before .out-of-range .ensures) ∙ c .if1 .taken)
 
 returns-2 : tie.Need-returns-2
 returns-2 c =
-    let a = c .before .before .before .before .before .before in
+    let at-lengths = c .before .before .before in
+    let a = at-lengths .before .before .before in
     let s = enter a in
     turned-away (s .args .w0 .now) (s .args .w1 .now) (s .args .w2 .now) (s .args .w3 .now) (s .args .count)
     (s .args .quantum) (s .args .choices .now) (s .args .limit) (s .args .marks .now) (s .args .lengths .now)
@@ -33,13 +40,15 @@ returns-2 c =
 
 play-requires : tie.Need-play-requires
 play-requires c κs =
-    let a = c .before .before .before .before .before .before in
+    let at-lengths = c .before .before .before in
+    let a = at-lengths .before .before .before in
     let s = enter a in
     in-range (s .args .count) (s .args .quantum) (s .args .choices .now) (inside a)
 
 returns-3 : tie.Need-returns-3
 returns-3 c =
-    let a = c .before .before .before .before .before .before .before in
+    let at-lengths = c .before .before .before .before in
+    let a = at-lengths .before .before .before in
     let s = enter a in
     let p = c .play .ensures in
     rehearsed-to (s .args .w0 .now) (s .args .w1 .now) (s .args .w2 .now) (s .args .w3 .now) (s .args .count)

@@ -14,7 +14,9 @@ use Rattle.rehearsal.proofs.rotation.next_turn.Statement.{statement}
 use Rattle.rehearsal.proofs.rotation.next_turn.Tie as tie
 
 abbrev enter : tie.After-turn-of → tie.Start
-enter c = c .before .before .before .before .before .before .before .before .before .before
+enter c =
+    let at-queue = c .before .before .before .before in
+    at-queue .before .before .before .before .before .before
 
 abbrev graphs : tie.Start → ℕ → Graph
 graphs s = graphsOf (s .args .w0 .now) (s .args .w1 .now) (s .args .w2 .now) (s .args .w3 .now)

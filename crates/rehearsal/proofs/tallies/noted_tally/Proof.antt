@@ -21,7 +21,9 @@ larger-requires c κs = search needs
 
 returns-2 : tie.Need-returns-2
 unfolding notedTally
-returns-2 c = rw (ne-eqb _ _ (c .before .before .before .before .if1 .left), lt-ltb _ _ (c .before .before .if2 .taken), c .larger .ensures)
+returns-2 c =
+    let at-if1 = c .before .before .before .before in
+    rw (ne-eqb _ _ (at-if1 .if1 .left), lt-ltb _ _ (c .before .before .if2 .taken), c .larger .ensures)
 
 sub-t8 : tie.Need-sub-t8
 sub-t8 c = search needs

@@ -22,7 +22,9 @@ module _ (s : tie.Start) where
 -- after the pass over the lengths
 module _ (c : tie.After-fill-lengths) where
   abbrev start : tie.Start
-  start = c .before .before .before .before .before .before .before
+  start =
+      let at-slot-mask = c .before .before in
+      at-slot-mask .before .before .before .before .before
 
   abbrev weights : List ℕ
   weights = start .args .weights .now
@@ -41,19 +43,26 @@ returns c =
     let k = c .before .before in
     let f = k .before .before .before .before .before in
     let s = start f in
-    measured-invalid (version s) (words s) (s .pre .0) (weights f) (fills f) (f .fill-lengths .kept .1 .1 .1 .1 .0) (k .before .before .if1 .taken) (k .clear-lengths .ensures)
+    measured-invalid (version s) (words s) (s .pre .0) (weights f) (fills f)
+    (f .fill-lengths .kept .1 .1 .1 .1 .0) (k .before .before .if1 .taken) (k .clear-lengths .ensures)
 
 returns-2 : tie.Need-returns-2
 returns-2 c =
     let h = c .before .before in
     let f = h .before .before .before .before .before in
     let s = start f in
-    measured-accepted (version s) (words s) (s .pre .0) (weights f) (fills f) (f .fill-lengths .kept .1 .1 .1 .1 .0) (h .before .before .if1 .left) (h .find-longest .ensures) (c .find-first .ensures)
+    measured-accepted (version s) (words s) (s .pre .0) (weights f) (fills f)
+    (f .fill-lengths .kept .1 .1 .1 .1 .0) (h .before .before .if1 .left) (h .find-longest .ensures)
+    (c .find-first .ensures)
 
 fill-lengths-requires : tie.Need-fill-lengths-requires
 fill-lengths-requires c κs =
-    let s = c .before .before .before .before .before .before in
-    (fill-asks (version s) (words s) (s .pre .0), sym (s .pre .0 .lent .l-same), omega (arith, c .before .slot-mask .ensures, mask-small (version s), s .pre .1))
+    let at-slot-mask = c .before in
+    let s = at-slot-mask .before .before .before .before .before in (
+      fill-asks (version s) (words s) (s .pre .0),
+      sym (s .pre .0 .lent .l-same),
+      omega (arith, at-slot-mask .slot-mask .ensures, mask-small (version s), s .pre .1),
+    )
 
 pub measure-run-spec : {M : Type 1} → statement M
 measure-run-spec =
@@ -65,6 +74,9 @@ measure-run-spec =
     (λ c. search needs)
     returns
     (λ c κs. let f = c .before .before .before .before in omega (arith, long f))
-    (λ c κs. let f = c .before .before .before .before .before .before in omega (arith, long f))
+    (λ c κs.
+    let at-find-longest = c .before in
+    let f = at-find-longest .before .before .before .before .before in
+    omega (arith, long f))
     (λ c. search needs)
     returns-2)

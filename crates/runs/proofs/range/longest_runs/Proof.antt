@@ -9,7 +9,8 @@ use Rattle.common.specs.declared.answer.Answer.{Answer}
 use Rattle.runs.specs.Script.{Script, scriptOf}
 use Rattle.runs.proofs.Weights.{weight-laws}
 use Rattle.runs.proofs.Outcome.{run-many, run-short-marks, run-short-lengths, run-none}
-use Rattle.runs.proofs.BothTables.{Ranges, runs-many, runs-short-marks, runs-short-lengths, runs-none, ranges-passed, outcomes-kept, outcomes-refused, outcomes-words}
+use Rattle.runs.proofs.BothTables.{Ranges, runs-many, runs-short-marks, runs-short-lengths, runs-none}
+use Rattle.runs.proofs.BothTables.{ranges-passed, outcomes-kept, outcomes-refused, outcomes-words}
 use Rattle.runs.proofs.range.longest_runs.Statement.{statement}
 use Rattle.runs.proofs.range.longest_runs.Tie as tie
 
@@ -19,18 +20,21 @@ script s = scriptOf (s .args .version) (s .args .words .now)
 
 returns : tie.Need-returns
 returns c =
-    outcomes-kept (script (c .before .before .before .before .before .before)) _ _ _ _ «TOO_MANY_WORDS» (runs-many _ _ _ _ _ (c .if1 .taken))
+    let entry = c .before .before .before .before .before .before in
+    outcomes-kept (script entry) _ _ _ _ «TOO_MANY_WORDS» (runs-many _ _ _ _ _ (c .if1 .taken))
     (run-many _ _ _ _ (c .if1 .taken)) refl
 
 returns-2 : tie.Need-returns-2
 returns-2 c =
+    let entry = c .before .before .before .before .before .before .before in
     let few = c .before .if1 .left in
-    outcomes-kept (script (c .before .before .before .before .before .before .before)) _ _ _ _ «SHORT_SLICE» (runs-short-marks _ _ _ _ _ few (c .if2 .taken)) (run-short-marks _ _ _ _ few (c .if2 .taken)) refl
+    outcomes-kept (script entry) _ _ _ _ «SHORT_SLICE» (runs-short-marks _ _ _ _ _ few (c .if2 .taken)) (run-short-marks _ _ _ _ few (c .if2 .taken)) refl
 
 returns-3 : tie.Need-returns-3
 returns-3 c =
+    let entry = c .before .before .before .before .before .before .before .before in
     let few = c .before .before .if1 .left in
-    outcomes-kept (script (c .before .before .before .before .before .before .before .before)) _ _ _ _ «SHORT_SLICE» (runs-short-lengths _ _ _ _ _ few (c .if3 .taken)) (run-short-lengths _ _ _ _ few (c .if3 .taken)) refl
+    outcomes-kept (script entry) _ _ _ _ «SHORT_SLICE» (runs-short-lengths _ _ _ _ _ few (c .if3 .taken)) (run-short-lengths _ _ _ _ few (c .if3 .taken)) refl
 
 -- the checks of the sizes are passed
 module _ (c : tie.Else3) where
@@ -70,7 +74,12 @@ runs-of-words-requires c κs =
     let n = c .before .before in
     let e = n .before in
     let d = sizes e in (
-      record { some = pos-of-ne-zero (n .if5 .left); few = d .before .before .if1 .left; m-same = length-take-le _ _ (marks-long d); l-same = length-take-le _ _ (lengths-long d) },
+      record {
+        some = pos-of-ne-zero (n .if5 .left);
+        few = d .before .before .if1 .left;
+        m-same = length-take-le _ _ (marks-long d);
+        l-same = length-take-le _ _ (lengths-long d);
+      },
       (weight-laws (start d .args .low .now) (ranges e .low-weighs) .count, weight-laws (start d .args .high .now) (ranges e .high-weighs) .count),
     )
 
@@ -96,4 +105,5 @@ longest-runs-spec =
     let n = v .before .before .before in
     let e = n .before in
     let d = sizes e in
-    outcomes-words (script (start d)) _ _ _ _ (ranges e) (d .before .before .if1 .left) (marks-long d) (lengths-long d) (pos-of-ne-zero (n .if5 .left)) (v .runs-of-words .ensures)))
+    outcomes-words (script (start d)) _ _ _ _ (ranges e) (d .before .before .if1 .left) (marks-long d)
+    (lengths-long d) (pos-of-ne-zero (n .if5 .left)) (v .runs-of-words .ensures)))

@@ -21,14 +21,18 @@ unfolding lowestAbove
 returns c =
     let l = c .before .before .before .before in
     let s = l .before .args in
-    lowest-laws .hit (isAbove (s .low .now) (s .high .now)) weightCount (l .loop .i) (c .before .before .before .loop-test .taken) (lt-ltb _ _ (c .if1 .taken)) ∙ l .loop .inv .1
+    lowest-laws .hit (isAbove (s .low .now) (s .high .now)) weightCount (l .loop .i)
+    (c .before .before .before .loop-test .taken) (lt-ltb _ _ (c .if1 .taken))
+    ∙ l .loop .inv .1
 
 loop-again : tie.Need-loop-again Inv-loop μ-loop
 loop-again c =
     let l = c .before .before .before .before in
     let s = l .before .args in (
       omega (arith, c .before .before .before .loop-test .taken),
-      sym (lowest-laws .miss (isAbove (s .low .now) (s .high .now)) weightCount (l .loop .i) (c .before .before .before .loop-test .taken) (le-ltb _ _ (c .if1 .left))) ∙ l .loop .inv .1,
+      sym (lowest-laws .miss (isAbove (s .low .now) (s .high .now)) weightCount (l .loop .i)
+          (c .before .before .before .loop-test .taken) (le-ltb _ _ (c .if1 .left)))
+          ∙ l .loop .inv .1,
     )
 
 returns-2 : tie.Need-returns-2 Inv-loop μ-loop

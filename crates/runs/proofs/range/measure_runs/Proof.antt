@@ -37,7 +37,8 @@ module _ (c : tie.After-fill-twice) where
 
   long : length lengths ≡ length (words start)
   long =
-      twice-length (version start) (words start) (start .pre .0) (low start) (high start) (c .before .before .before .slot-mask .ensures) marks lengths (c .fill-twice .ensures)
+      twice-length (version start) (words start) (start .pre .0) (low start) (high start)
+      (c .before .before .before .slot-mask .ensures) marks lengths (c .fill-twice .ensures)
       (c .fill-twice .kept .1 .1 .1 .1 .0) (c .fill-twice .kept .1 .1 .1 .1 .1 .0)
 
 fill-twice-requires : tie.Need-fill-twice-requires
@@ -53,18 +54,22 @@ returns : tie.Need-returns
 returns c =
     let k = c .before .before in
     let h = k .before .before in
-    let f = h .before .before .before .before .before .before in
+    let at-lengths = h .before .before .before in
+    let f = at-lengths .before .before .before in
     let s = start f in
-    twice-invalid (version s) (words s) (s .pre .0) (low s) (high s) (f .before .before .before .slot-mask .ensures) (marks f) (lengths f) (f .fill-twice .ensures)
+    twice-invalid (version s) (words s) (s .pre .0) (low s) (high s)
+    (f .before .before .before .slot-mask .ensures) (marks f) (lengths f) (f .fill-twice .ensures)
     (f .fill-twice .kept .1 .1 .1 .1 .0) (f .fill-twice .kept .1 .1 .1 .1 .1 .0) (h .if1 .taken) (k .clear-lengths .ensures)
 
 returns-2 : tie.Need-returns-2
 returns-2 c =
     let v = c .before .before in
     let h = v .before .before in
-    let f = h .before .before .before .before .before .before in
+    let at-lengths = h .before .before .before in
+    let f = at-lengths .before .before .before in
     let s = start f in
-    twice-accepted (version s) (words s) (s .pre .0) (low s) (high s) (f .before .before .before .slot-mask .ensures) (marks f) (lengths f) (f .fill-twice .ensures)
+    twice-accepted (version s) (words s) (s .pre .0) (low s) (high s)
+    (f .before .before .before .slot-mask .ensures) (marks f) (lengths f) (f .fill-twice .ensures)
     (f .fill-twice .kept .1 .1 .1 .1 .0) (f .fill-twice .kept .1 .1 .1 .1 .1 .0) (h .if1 .left) (v .find-longest .ensures) (c .find-first .ensures)
 
 pub measure-runs-spec : {M : Type 1} → statement M
@@ -73,12 +78,22 @@ measure-runs-spec =
     (tie.spec
     (λ c κs. search needs)
     fill-twice-requires
-    (λ c κs. let f = c .before .before .before .before .before .before .before in omega (arith, long f))
+    (λ c κs.
+    let at-lengths = c .before .before .before .before in
+    let f = at-lengths .before .before .before in
+    omega (arith, long f))
     (λ c. search needs)
     (λ c. search needs)
     returns
-    (λ c κs. let f = c .before .before .before .before .before .before .before in omega (arith, long f))
-    (λ c κs. let f = c .before .before .before .before .before .before .before .before .before in omega (arith, long f))
+    (λ c κs.
+    let at-lengths = c .before .before .before .before in
+    let f = at-lengths .before .before .before in
+    omega (arith, long f))
+    (λ c κs.
+    let at-find-longest = c .before in
+    let at-lengths = at-find-longest .before .before .before .before .before in
+    let f = at-lengths .before .before .before in
+    omega (arith, long f))
     (λ c. search needs)
     (λ c. search needs)
     returns-2)

@@ -10,8 +10,11 @@ pub runs-of-words-spec : {M : Type 1} → statement M
 runs-of-words-spec =
     tie.close
     (tie.spec
-    (λ c κs. c .before .before .before .before .before .before .before .pre .0)
-    (λ c κs. let s = c .before .before .before .before .before .before in (s .search-words .ensures, start s .pre .1))
+    (λ c κs. let entry = c .before .before .before .before .before .before .before in entry .pre .0)
+    (λ c κs.
+    let at-lengths = c .before .before .before in
+    let s = at-lengths .before .before .before in
+    (s .search-words .ensures, start s .pre .1))
     (λ c. search needs)
     (λ c. search needs)
-    (λ c. c .before .before .before .before .measure-runs .ensures))
+    (λ c. let at-measure-runs = c .before .before .before .before in at-measure-runs .measure-runs .ensures))

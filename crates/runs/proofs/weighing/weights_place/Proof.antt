@@ -20,20 +20,26 @@ returns-2 : tie.Need-returns-2 Inv-loop μ-loop
 returns-2 c =
     let l = c .before .before .before in
     place-zero _ (l .before .if1 .left)
-    (lowest-laws .hit (isZeroAt (l .before .before .args .weights .now)) weightCount (l .loop .i) (c .before .before .loop-test .taken) (eq-eqb _ 0 (c .if2 .taken)) ∙ l .loop .inv .1)
+    (lowest-laws .hit (isZeroAt (l .before .before .args .weights .now)) weightCount (l .loop .i)
+    (c .before .before .loop-test .taken) (eq-eqb _ 0 (c .if2 .taken))
+    ∙ l .loop .inv .1)
 
 loop-again : tie.Need-loop-again Inv-loop μ-loop
 loop-again c =
     let l = c .before .before .before in (
       omega (arith, c .before .before .loop-test .taken),
-      sym (lowest-laws .miss (isZeroAt (l .before .before .args .weights .now)) weightCount (l .loop .i) (c .before .before .loop-test .taken) (ne-eqb _ 0 (c .if2 .left))) ∙ l .loop .inv .1,
+      sym (lowest-laws .miss (isZeroAt (l .before .before .args .weights .now)) weightCount (l .loop .i)
+          (c .before .before .loop-test .taken) (ne-eqb _ 0 (c .if2 .left)))
+          ∙ l .loop .inv .1,
     )
 
 returns-3 : tie.Need-returns-3 Inv-loop μ-loop
 returns-3 c =
     let l = c .before in
     place-zero _ (l .before .if1 .left)
-    (lowest-laws .end (isZeroAt (l .before .before .args .weights .now)) weightCount (l .loop .i) (omega (arith, l .loop .inv .0, c .loop-test .left)) ∙ l .loop .inv .1)
+    (lowest-laws .end (isZeroAt (l .before .before .args .weights .now)) weightCount (l .loop .i)
+    (omega (arith, l .loop .inv .0, c .loop-test .left))
+    ∙ l .loop .inv .1)
 
 pub weights-place-spec : {M : Type 1} → statement M
 weights-place-spec =

@@ -26,5 +26,7 @@ count-crossings-spec =
     (λ c. let v = c .before .before .before .before .loop .inv in omega (arith, v .few, v .upto, words-few _ _ (v .asks), c .crossings-from .ensures .few))
     (λ c. let v = c .before .before .before .before .loop .inv in omega (arith, c .before .before .before .loop-test .taken, words-few _ _ (v .asks)))
     (λ c. omega (arith, c .before .before .before .loop-test .taken))
-    (λ c. counting-more _ _ _ (c .before .before .before .before .loop .inv) (c .before .before .before .loop-test .taken) (c .crossings-from .ensures))
+    (λ c.
+    let turn = c .before .before .before .before in
+    counting-more _ _ _ (turn .loop .inv) (c .before .before .before .loop-test .taken) (c .crossings-from .ensures))
     (λ c. counting-done _ _ _ (c .before .loop .inv) (c .loop-test .left)))

@@ -20,22 +20,43 @@ pub crossed-of-words-spec : {M : Type 1} → statement M
 crossed-of-words-spec =
     tie.close
     (tie.spec
-    (λ c κs. c .before .before .before .before .before .pre)
-    (λ c κs. let s = c .before .before .before .before .before .before .before .before .before .before .before .before in laws .entry-laws .asks (version s) (words s) _ _ (c .before .before .before .before .before .before .search-words .ensures))
-    (λ c κs. let s = c .before .before .before .before .before .before .before .before .before .before .before .before .before .before .before in searched-kept (version s) (words s) _ _ (c .before .before .before .before .before .before .before .before .before .search-words .ensures) _ refl)
+    (λ c κs. let entry = c .before .before .before .before .before in entry .pre)
+    (λ c κs.
+    let at-lengths = c .before .before .before in
+    let at-search-words = at-lengths .before .before .before in
+    let at-search-words-arg = at-search-words .before .before in
+    let s = at-search-words-arg .before .before .before .before in
+    laws .entry-laws .asks (version s) (words s) _ _ (at-search-words .search-words .ensures))
+    (λ c κs.
+    let at-count-crossings-arg = c .before .before .before .before in
+    let at-search-words = at-count-crossings-arg .before .before .before .before .before in
+    let at-search-words-arg = at-search-words .before .before in
+    let s = at-search-words-arg .before .before .before .before in
+    searched-kept (version s) (words s) _ _ (at-search-words .search-words .ensures) _ refl)
     (λ c. search needs)
     (λ c. search needs)
     (λ c. search needs)
     (λ c.
-    let s = c .before .before .before .before .before .before .before .before .before .before .before .before .before .before .before .before .before .before .before .before .before in
-    let k = c .before .before .before .before .before .before .before .before .before .before .before .before .before .before .before .search-words .ensures in
-    let d = c .before .before .before .before .before .unit-run .ensures in
+    let at-unit-run = c .before .before .before .before .before in
+    let at-count-crossings-arg = at-unit-run .before .before .before .before .before in
+    let at-search-words = at-count-crossings-arg .before .before .before .before .before in
+    let at-search-words-arg = at-search-words .before .before in
+    let s = at-search-words-arg .before .before .before .before in
+    let k = at-search-words .search-words .ensures in
+    let d = at-unit-run .unit-run .ensures in
     (crossed-refused (version s) (words s) _ _ k d _ (c .before .run .given .1), decided-run (version s) (words s) _ _ k d))
     (λ c. search needs)
     (λ c. search needs)
     (λ c. search needs)
     (λ c.
-    let s = c .before .before .before .before .before .before .before .before .before .before .before .before .before .before .before .before .before .before .before .before .before in
-    let k = c .before .before .before .before .before .before .before .before .before .before .before .before .before .before .before .search-words .ensures in
-    let d = c .before .before .before .before .before .unit-run .ensures in
-    (crossed-accepted (version s) (words s) _ _ k d _ (c .before .run2 .given .1) (c .before .before .before .before .before .before .before .before .count-crossings .ensures), decided-run (version s) (words s) _ _ k d)))
+    let at-unit-run = c .before .before .before .before .before in
+    let at-count-crossings = at-unit-run .before .before .before in
+    let at-lengths = at-count-crossings .before .before .before .before in
+    let at-search-words-arg2 = at-lengths .before .before .before .before in
+    let s = at-search-words-arg2 .before .before .before .before .before in
+    let k = at-lengths .before .before .before .search-words .ensures in
+    let d = at-unit-run .unit-run .ensures in (
+      crossed-accepted (version s) (words s) _ _ k d _ (c .before .run2 .given .1)
+          (at-count-crossings .count-crossings .ensures),
+      decided-run (version s) (words s) _ _ k d,
+    )))

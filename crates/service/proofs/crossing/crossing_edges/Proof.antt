@@ -37,6 +37,7 @@ crossing-edges-spec =
     (λ c. search needs)
     (λ c. search needs)
     (λ c.
-    let e = c .before .before .before .before .before .before .before in
-    let r = c .before .before .before .before .crossed-of-words .ensures in
+    let at-crossed-of-words = c .before .before .before .before in
+    let e = at-crossed-of-words .before .before .before in
+    let r = at-crossed-of-words .crossed-of-words .ensures in
     crossed-late (script (start e)) _ _ (fits e) (r .1) _ (r .0)))

@@ -37,6 +37,7 @@ distance-to-service-spec =
     (λ c. search needs)
     (λ c. search needs)
     (λ c.
-    let e = c .before .before .before .before .before .before .before in
-    let r = c .before .before .before .before .nearest-of-words .ensures in
+    let at-nearest-of-words = c .before .before .before .before in
+    let e = at-nearest-of-words .before .before .before in
+    let r = at-nearest-of-words .nearest-of-words .ensures in
     nearest-late (script (start e)) _ _ (fits e) (r .1) _ (r .0)))

@@ -19,22 +19,44 @@ pub nearest-of-words-spec : {M : Type 1} → statement M
 nearest-of-words-spec =
     tie.close
     (tie.spec
-    (λ c κs. c .before .before .before .before .before .pre)
-    (λ c κs. let s = c .before .before .before .before .before .before .before .before .before .before .before .before in laws .entry-laws .asks (version s) (words s) _ _ (c .before .before .before .before .before .before .search-words .ensures))
-    (λ c κs. let s = c .before .before .before .before .before .before .before .before .before .before .before .before .before .before .before .before .before in searched-kept (version s) (words s) _ _ (c .before .before .before .before .before .before .before .before .before .before .before .search-words .ensures) _ (c .before .before .before .before .find-fewest .ensures .1))
+    (λ c κs. let entry = c .before .before .before .before .before in entry .pre)
+    (λ c κs.
+    let at-lengths = c .before .before .before in
+    let at-search-words = at-lengths .before .before .before in
+    let at-search-words-arg = at-search-words .before .before in
+    let s = at-search-words-arg .before .before .before .before in
+    laws .entry-laws .asks (version s) (words s) _ _ (at-search-words .search-words .ensures))
+    (λ c κs.
+    let at-find-fewest = c .before .before .before .before in
+    let at-lengths = at-find-fewest .before .before .before .before in
+    let at-search-words = at-lengths .before .before .before in
+    let at-search-words-arg = at-search-words .before .before in
+    let s = at-search-words-arg .before .before .before .before in
+    searched-kept (version s) (words s) _ _ (at-search-words .search-words .ensures) _ (at-find-fewest .find-fewest .ensures .1))
     (λ c. search needs)
     (λ c. search needs)
     (λ c. search needs)
     (λ c.
-    let s = c .before .before .before .before .before .before .before .before .before .before .before .before .before .before .before .before .before .before .before .before .before .before .before in
-    let k = c .before .before .before .before .before .before .before .before .before .before .before .before .before .before .before .before .before .search-words .ensures in
-    let d = c .before .before .before .before .before .unit-run .ensures in
+    let at-unit-run = c .before .before .before .before .before in
+    let at-lengths2 = at-unit-run .before .before .before .before in
+    let at-lengths = at-lengths2 .before .before .before .before .before in
+    let at-search-words-arg2 = at-lengths .before .before .before .before in
+    let s = at-search-words-arg2 .before .before .before .before .before in
+    let k = at-lengths .before .before .before .search-words .ensures in
+    let d = at-unit-run .unit-run .ensures in
     (nearest-refused (version s) (words s) _ _ k d _ (c .before .run .given .1), decided-run (version s) (words s) _ _ k d))
     (λ c. search needs)
     (λ c. search needs)
     (λ c. search needs)
     (λ c.
-    let s = c .before .before .before .before .before .before .before .before .before .before .before .before .before .before .before .before .before .before .before .before .before .before .before in
-    let k = c .before .before .before .before .before .before .before .before .before .before .before .before .before .before .before .before .before .search-words .ensures in
-    let d = c .before .before .before .before .before .unit-run .ensures in
-    (nearest-accepted (version s) (words s) _ _ k d _ (c .before .run2 .given .1) (c .before .before .before .before .before .before .before .before .before .before .find-fewest .ensures .0), decided-run (version s) (words s) _ _ k d)))
+    let at-unit-run = c .before .before .before .before .before in
+    let at-find-fewest = at-unit-run .before .before .before .before .before in
+    let at-lengths = at-find-fewest .before .before .before .before in
+    let at-search-words-arg2 = at-lengths .before .before .before .before in
+    let s = at-search-words-arg2 .before .before .before .before .before in
+    let k = at-lengths .before .before .before .search-words .ensures in
+    let d = at-unit-run .unit-run .ensures in (
+      nearest-accepted (version s) (words s) _ _ k d _ (c .before .run2 .given .1)
+          (at-find-fewest .find-fewest .ensures .0),
+      decided-run (version s) (words s) _ _ k d,
+    )))

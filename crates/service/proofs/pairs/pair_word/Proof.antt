@@ -82,7 +82,8 @@ returns-5 c =
     let b = c .before in
     let e = third b in
     let s = start e in
-    paired-by (m s) (l s) (p s) (s .args .invalid) (marked e .if1 .left) (kinds s .target (c .if5 .taken)) (pair-target (l s) (p s) (target s) (b .beyond .ensures)) refl
+    paired-by (m s) (l s) (p s) (s .args .invalid) (marked e .if1 .left) (kinds s .target (c .if5 .taken))
+    (pair-target (l s) (p s) (target s) (b .beyond .ensures)) refl
 
 returns-6 : tie.Need-returns-6
 returns-6 c =

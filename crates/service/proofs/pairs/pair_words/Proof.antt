@@ -20,10 +20,14 @@ module _ (c : tie.In-loop Inv-loop μ-loop) where
   abbrev word : ℕ
   word = c .before .loop .i - 1
 
-  passed : Passed (start .args .lengths .now) (start .args .marks .now) (c .before .loop .lengths) (word + 1) (c .before .loop .above) (c .before .loop .invalid)
+  passed : Passed (start .args .lengths .now) (start .args .marks .now) (c .before .loop .lengths) (word + 1)
+      (c .before .loop .above) (c .before .loop .invalid)
   passed =
       let e : c .before .loop .i ≡ word + 1 = omega (arith, c .loop-test .taken) in
-      subst (λ (x : ℕ). Passed (start .args .lengths .now) (start .args .marks .now) (c .before .loop .lengths) x (c .before .loop .above) (c .before .loop .invalid)) e (c .before .loop .inv)
+      subst
+      (λ (x : ℕ). Passed (start .args .lengths .now) (start .args .marks .now)
+      (c .before .loop .lengths) x (c .before .loop .above) (c .before .loop .invalid))
+      e (c .before .loop .inv)
 
   inside : word < length (c .before .loop .lengths)
   inside = passed-asks _ _ _ _ _ _ passed .in-l

@@ -27,7 +27,9 @@ module _ (c : tie.Else3) where
   on : servesOf (start second .args .p) (getD (start second .args .lengths .now) (start second .args .p) 0 % «ENTRIES» % «TARGETS») ≡ false
   on = sym (c .before .serves .ensures) ∙ c .if3 .left
 
-  low : getD (start second .args .lengths .now) (getD (start second .args .lengths .now) (start second .args .p) 0 % «ENTRIES» % «TARGETS») 0 / «ENTRIES» < mostWords
+  low : getD (start second .args .lengths .now)
+      (getD (start second .args .lengths .now) (start second .args .p) 0 % «ENTRIES» % «TARGETS») 0
+      / «ENTRIES» < mostWords
   low = target-low _ _ _ (start second .pre) on
 
 pub distance-at-spec : {M : Type 1} → statement M

@@ -18,15 +18,21 @@ module _ (s : tie.Start) where
 
 -- where the words are searched
 abbrev start : tie.After-search-words → tie.Start
-start c = c .before .before .before .before .before .before .before
+start c =
+    let at-search-words-arg = c .before .before in
+    at-search-words-arg .before .before .before .before .before
 
 pub list-of-words-spec : {M : Type 1} → statement M
 list-of-words-spec =
     tie.close
     (tie.spec
-    (λ c κs. c .before .before .before .before .before .before .pre .0)
     (λ c κs.
-    let w = c .before .before .before .before .before .before .before in
+    let at-search-words-arg = c .before in
+    let entry = at-search-words-arg .before .before .before .before .before in
+    entry .pre .0)
+    (λ c κs.
+    let at-lengths = c .before .before .before .before in
+    let w = at-lengths .before .before .before in
     let s = start w in
     let k = w .search-words .ensures in
     (laws .entry-laws .asks (version s) (words s) _ _ k, omega (arith, k .lent .l-same, s .pre .1)))
@@ -35,8 +41,14 @@ list-of-words-spec =
     (λ c. search needs)
     (λ c.
     let e = c .before .before .before .before in
-    let w = e .before .before .before .before .before .before .before .before in
+    let at-lengths = e .before .before .before .before .before in
+    let w = at-lengths .before .before .before in
     let s = start w in
     let k = w .search-words .ensures in
-    let r = e .list-searched .ensures in
-    (answer-decided (version s) (words s) _ _ k (r .0), (lengths-decided (version s) (words s) _ _ k (r .1 .0), list-decided (version s) (words s) _ _ k _ _ (r .1 .1)))))
+    let r = e .list-searched .ensures in (
+      answer-decided (version s) (words s) _ _ k (r .0),
+      (
+        lengths-decided (version s) (words s) _ _ k (r .1 .0),
+        list-decided (version s) (words s) _ _ k _ _ (r .1 .1),
+      ),
+    )))

@@ -26,7 +26,8 @@ returns c =
     let t = k .before .before in
     let w = t .before .before .before in
     let s = start w in
-    listing-refused (m s) (l s) (s .pre .0) (s .args .d) (list s) (s .pre .1) (w .pair-words .ensures) (w .pair-words .kept .1 .0) (t .if1 .taken) (k .clear-lengths .ensures)
+    listing-refused (m s) (l s) (s .pre .0) (s .args .d) (list s) (s .pre .1) (w .pair-words .ensures)
+    (w .pair-words .kept .1 .0) (t .if1 .taken) (k .clear-lengths .ensures)
 
 returns-2 : tie.Need-returns-2
 returns-2 c =
@@ -35,7 +36,9 @@ returns-2 c =
     let e = d .before in
     let w = e .before .before .before in
     let s = start w in
-    listing-accepted (m s) (l s) (s .pre .0) (s .args .d) (list s) (s .pre .1) (w .pair-words .ensures) (w .pair-words .kept .1 .0) (e .if1 .left) (d .shorten .ensures) (k .write-list .ensures .0) (k .write-list .ensures .1)
+    listing-accepted (m s) (l s) (s .pre .0) (s .args .d) (list s) (s .pre .1) (w .pair-words .ensures)
+    (w .pair-words .kept .1 .0) (e .if1 .left) (d .shorten .ensures) (k .write-list .ensures .0)
+    (k .write-list .ensures .1)
 
 pub list-searched-spec : {M : Type 1} → statement M
 list-searched-spec =

@@ -16,7 +16,9 @@ script s = scriptOf (s .args .version) (s .args .words .now)
 -- the checks of the sizes are passed
 module _ (c : tie.Else3) where
   abbrev start : tie.Start
-  start = c .before .before .before .before .before .before .before .before
+  start =
+      let at-if1 = c .before .before .before in
+      at-if1 .before .before .before .before .before
 
   fits : Fits (script start .size) (length (start .args .marks .now)) (length (start .args .lengths .now))
   fits = c .before .size-refusal .ensures .passed (c .if3 .left)
@@ -28,19 +30,31 @@ list-within-spec =
     (λ c. within-many _ _ _ _ _ (c .if1 .taken))
     (λ c. within-short _ _ _ _ _ (c .before .if1 .left) (c .if2 .taken))
     (λ c κs. search needs)
-    (λ c. within-early (script (c .before .before .before .before .before .before .before .before)) _ _ (c .before .size-refusal .ensures) (c .if3 .taken) _ _ (c .before .before .before .if1 .left) (c .before .before .if2 .left))
+    (λ c.
+    let at-if1 = c .before .before .before in
+    let entry = at-if1 .before .before .before .before .before in
+    within-early (script entry) _ _ (c .before .size-refusal .ensures) (c .if3 .taken) _ _ (at-if1 .if1 .left) (c .before .before .if2 .left))
     (λ c. omega (arith, fits c .marks-long))
     (λ c. sym (length-take-le _ _ (fits (c .before) .marks-long)))
     (λ c. omega (arith, fits (c .before) .lengths-long))
     (λ c. sym (length-take-le _ _ (fits (c .before .before) .lengths-long)))
     (λ c κs.
     let e = c .before .before .before in
-    let f = fits e in
-    (record { some = f .some; few = f .few; m-same = length-take-le _ _ (f .marks-long); l-same = length-take-le _ _ (f .lengths-long) }, e .before .before .if2 .left))
+    let f = fits e in (
+      record {
+        some = f .some;
+        few = f .few;
+        m-same = length-take-le _ _ (f .marks-long);
+        l-same = length-take-le _ _ (f .lengths-long);
+      },
+      e .before .before .if2 .left,
+    ))
     (λ c. search needs)
     (λ c. search needs)
     (λ c. search needs)
     (λ c.
-    let e = c .before .before .before .before .before .before .before .before .before .before in
-    let r = c .before .before .before .before .before .before .list-of-words .ensures in
+    let at-lengths = c .before .before .before in
+    let at-list-of-words = at-lengths .before .before .before in
+    let e = at-list-of-words .before .before .before .before in
+    let r = at-list-of-words .list-of-words .ensures in
     within-late (script (start e)) _ _ (fits e) (r .1 .0) _ _ (e .before .before .if2 .left) (r .0) (r .1 .1)))

@@ -20,33 +20,39 @@ returns c =
 
 returns-2 : tie.Need-returns-2 Inv-loop μ-loop
 returns-2 c =
-    let s = c .before .before .before .before .before .before in
-    no-digit (s .args .text .now) (s .args .at) (s .args .v) (s .pre) (c .before .before .before .if1 .left) (λ e. c .if2 .taken (e ∙ sym (c .before .digit .ensures)))
+    let at-digit = c .before in
+    let s = at-digit .before .before .before .before .before in
+    no-digit (s .args .text .now) (s .args .at) (s .args .v) (s .pre) (c .before .before .before .if1 .left)
+    (λ e. c .if2 .taken (e ∙ sym (at-digit .digit .ensures)))
 
 returns-3 : tie.Need-returns-3 Inv-loop μ-loop
 returns-3 c =
-    let l = c .before .before .before .before .loop in
     let e = c .before .before .before .before .before in
-    let s = e .before .before .before .before .before .before in
+    let at-digit = e .before in
+    let s = at-digit .before .before .before .before .before in
+    let l = c .before .before .before .before .loop in
     sym (turn-fail (s .args .text .now) (s .args .at) (l .i) (l .rest) (omega arith) (λ q. c .if3 .taken (q ∙ sym (c .before .glyph .ensures))))
     ∙ l .inv .1
-    ∙ by-leading (s .args .text .now) (s .args .at) (s .args .v) (s .pre) (e .before .before .before .if1 .left) (e .if2 .left ∙ e .before .digit .ensures)
+    ∙ by-leading (s .args .text .now) (s .args .at) (s .args .v) (s .pre) (e .before .before .before .if1 .left) (e .if2 .left ∙ at-digit .digit .ensures)
 
 loop-again : tie.Need-loop-again Inv-loop μ-loop
 loop-again c =
-    let l = c .before .before .before .before .loop in
-    let s = c .before .before .before .before .before .before .before .before .before .before .before in
+    let turn = c .before .before .before .before in
+    let at-digit = turn .before .before in
+    let s = at-digit .before .before .before .before .before in
+    let l = turn .loop in
     (omega arith, turn-ok (s .args .text .now) (s .args .at) (l .i) (l .rest) (omega arith) (c .if3 .left ∙ c .before .glyph .ensures) ∙ l .inv .1)
 
 returns-4 : tie.Need-returns-4 Inv-loop μ-loop
 returns-4 c =
-    let l = c .before .loop in
     let e = c .before .before in
-    let s = e .before .before .before .before .before .before in
+    let at-digit = e .before in
+    let s = at-digit .before .before .before .before .before in
+    let l = c .before .loop in
     let z : l .i ≡ 0 = omega arith in
     sym (rw z (matches-none (s .args .text .now) (s .args .at) (l .rest)))
     ∙ l .inv .1
-    ∙ by-leading (s .args .text .now) (s .args .at) (s .args .v) (s .pre) (e .before .before .before .if1 .left) (e .if2 .left ∙ e .before .digit .ensures)
+    ∙ by-leading (s .args .text .now) (s .args .at) (s .args .v) (s .pre) (e .before .before .before .if1 .left) (e .if2 .left ∙ at-digit .digit .ensures)
 
 pub shows-spec : {M : Type 1} → statement M
 shows-spec =

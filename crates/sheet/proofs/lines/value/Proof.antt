@@ -37,8 +37,12 @@ add-v-2 c =
 loop-again : tie.Need-loop-again Inv-loop μ-loop
 loop-again c =
     let s = c .before .before .before in
-    let l = c .before .before .loop in
-    (omega arith, bound-more (l .v) (getD (s .args .text .now) (s .args .at + l .i) 0 % 16) (l .i) (l .inv .1) (low (getD (s .args .text .now) (s .args .at + l .i) 0)), value-turn (s .args .text .now) (s .args .at) (l .i) (l .v) (omega arith) (s .pre) ∙ l .inv .2)
+    let l = c .before .before .loop in (
+      omega arith,
+      bound-more (l .v) (getD (s .args .text .now) (s .args .at + l .i) 0 % 16) (l .i) (l .inv .1)
+          (low (getD (s .args .text .now) (s .args .at + l .i) 0)),
+      value-turn (s .args .text .now) (s .args .at) (l .i) (l .v) (omega arith) (s .pre) ∙ l .inv .2,
+    )
 
 returns : tie.Need-returns Inv-loop μ-loop
 returns c =

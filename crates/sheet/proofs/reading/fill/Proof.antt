@@ -20,7 +20,9 @@ loop-holds c = (omega arith, refl, words-none (c .before .before .args .text .no
 
 cast-words : tie.Need-cast-words Inv-loop μ-loop
 unfolding sheetWordAt
-cast-words c = omega (arith, c .before .before .before .before .before .pre .2 (c .before .before .loop .k) (omega arith), c .value .ensures)
+cast-words c =
+    let entry = c .before .before .before .before .before in
+    omega (arith, entry .pre .2 (c .before .before .loop .k) (omega arith), c .value .ensures)
 
 loop-again : tie.Need-loop-again Inv-loop μ-loop
 unfolding sheetWordAt
@@ -31,7 +33,8 @@ loop-again c =
 
 returns : tie.Need-returns Inv-loop μ-loop
 returns c =
-    let e : c .before .loop .k ≡ c .before .before .before .before .args .n = omega arith in
+    let entry = c .before .before .before .before in
+    let e : c .before .loop .k ≡ entry .args .n = omega arith in
     rw e at (c .before .loop .inv .2)
 
 pub fill-spec : {M : Type 1} → statement M

@@ -10,7 +10,9 @@ use Rattle.sheet.proofs.reading.read.Statement.{statement}
 use Rattle.sheet.proofs.reading.read.Tie as tie
 
 -- what was scanned is the sheet
-sheet-is : (c : tie.After-scan) → c .scan .result ≡ sheetOf (roomOf (c .before .before .before .before .args .words .now)) (c .before .before .before .before .args .text .now)
+sheet-is : (c : tie.After-scan)
+    → c .scan .result ≡ sheetOf (roomOf (c .before .before .before .before .args .words .now))
+    (c .before .before .before .before .args .text .now)
 sheet-is c = rw (c .before .room .ensures) at (c .scan .ensures)
 
 fill-requires : tie.Need-fill-requires
@@ -18,14 +20,16 @@ fill-requires c κs =
     let a = c .before .before .before .before in
     let s = a .before .before .before .before .args in
     let n : ℕ = c .before .before .s .given .0 .0 in
-    let f : Filling (roomOf (s .words .now)) (s .text .now) n = filling (roomOf (s .words .now)) (s .text .now) n (sym (sheet-is a) ∙ c .before .before .s .given .1) in
+    let f : Filling (roomOf (s .words .now)) (s .text .now) n = filling (roomOf (s .words .now))
+    (s .text .now) n (sym (sheet-is a) ∙ c .before .before .s .given .1) in
     (omega (arith, f .fits), f .long, f .small)
 
 returns : tie.Need-returns
 returns c =
-    let a = c .before .before .before .before .before .before .before in
+    let at-s = c .before .before .before .before .before in
+    let a = at-s .before .before in
     let s = a .before .before .before .before .args in
-    let given = c .before .before .before .before .before .s .given in
+    let given = at-s .s .given in
     let e : sheetOf (roomOf (s .words .now)) (s .text .now) ≡ Words (given .0 .0) = sym (sheet-is a) ∙ given .1 in
     (sym e, c .before .before .fill .ensures ∙ sym (table-is (s .text .now) (s .words .now) (Words (given .0 .0)) e))
 

@@ -31,21 +31,26 @@ returns c =
 
 returns-2 : tie.Need-returns-2 Inv-loop μ-loop
 returns-2 c =
-    let l = c .before .before .before .before .loop in
-    let s = c .before .before .before .before .before .before .args in
-    sym (read-bad (drop (l .at) (s .text .now)) (some-left (s .text .now) (l .at) (omega arith)) (s .room - l .k) (l .k) (omega arith) (sym (c .before .is-line .ensures) ∙ not-true (c .before .is-line .result) (c .if2 .taken)))
+    let turn = c .before .before .before .before in
+    let l = turn .loop in
+    let s = turn .before .before .args in
+    sym (read-bad (drop (l .at) (s .text .now)) (some-left (s .text .now) (l .at) (omega arith))
+    (s .room - l .k) (l .k) (omega arith)
+    (sym (c .before .is-line .ensures) ∙ not-true (c .before .is-line .result) (c .if2 .taken)))
     ∙ l .inv .2
 
 add-at : tie.Need-add-at Inv-loop μ-loop
 add-at c =
-    let l = c .before .before .before .before .loop in
-    let s = c .before .before .before .before .before .before .args in
+    let turn = c .before .before .before .before in
+    let l = turn .loop in
+    let s = turn .before .before .args in
     omega (arith, line-inside (s .text .now) (l .at) (sym (c .before .is-line .ensures) ∙ not-false (c .before .is-line .result) (c .if2 .left)))
 
 loop-again : tie.Need-loop-again Inv-loop μ-loop
 loop-again c =
-    let l = c .before .before .before .before .loop in
-    let s = c .before .before .before .before .before .before .args in
+    let turn = c .before .before .before .before in
+    let l = turn .loop in
+    let s = turn .before .before .args in
     let good = sym (c .before .is-line .ensures) ∙ not-false (c .before .is-line .result) (c .if2 .left) in
     (omega arith, line-inside (s .text .now) (l .at) good, sym (scan-more (s .text .now) (l .at) (omega arith) (s .room) (l .k) (omega arith) good) ∙ l .inv .2)
 

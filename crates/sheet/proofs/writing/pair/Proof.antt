@@ -10,8 +10,11 @@ use Rattle.sheet.proofs.writing.pair.Tie as tie
 returns : tie.Need-returns
 unfolding pairOf
 returns c =
-    let s = c .before .before .before .before .before .before .args in
-    two-filled _ _ _ (columns 6 (s .left)) (columns 6 (s .right)) refl refl (length-columns 6 (s .left)) (length-columns 6 (s .right)) (c .before .before .before .before .put-number .ensures) (c .before .put-number2 .ensures)
+    let at-put-number = c .before .before .before .before in
+    let s = at-put-number .before .before .args in
+    two-filled _ _ _ (columns 6 (s .left)) (columns 6 (s .right)) refl refl (length-columns 6 (s .left))
+    (length-columns 6 (s .right)) (at-put-number .put-number .ensures)
+    (c .before .put-number2 .ensures)
 
 pub pair-spec : {M : Type 1} → statement M
 pair-spec = tie.close (tie.spec (λ c. search needs) (λ c κs. search needs) (λ c. search needs) (λ c κs. search needs) returns)

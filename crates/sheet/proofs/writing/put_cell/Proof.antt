@@ -9,7 +9,9 @@ returns c =
     rw (s .given .1, ← number-cell (s .given .0 .0)) (c .before .before .put-number .ensures)
 
 returns-2 : tie.Need-returns-2
-returns-2 c = rw (c .before .before .before .before .enum-told .given .1, ← dash-ending) (c .before .before .put-ending .ensures)
+returns-2 c =
+    let at-enum-told = c .before .before .before .before in
+    rw (at-enum-told .enum-told .given .1, ← dash-ending) (c .before .before .put-ending .ensures)
 
 pub put-cell-spec : {M : Type 1} → statement M
 put-cell-spec =

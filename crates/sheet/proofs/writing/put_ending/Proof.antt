@@ -19,15 +19,21 @@ slice-write-out-2 c = omega (arith, simp length-set at (c .before .before .loop 
 
 loop-again : tie.Need-loop-again Inv-loop μ-loop
 loop-again c =
-    let l = c .before .before .loop in
-    (omega arith, simp length-set (simp length-set at (l .inv .1)), rw (c .glyph .ensures) (put-turn (l .out) (c .before .before .before .before .args .at) (l .i) (l .rest) (omega arith)) ∙ l .inv .2)
+    let entry = c .before .before .before .before in
+    let l = c .before .before .loop in (
+      omega arith,
+      simp length-set (simp length-set at (l .inv .1)),
+      rw (c .glyph .ensures) (put-turn (l .out) (entry .args .at) (l .i) (l .rest) (omega arith))
+          ∙ l .inv .2,
+    )
 
 returns : tie.Need-returns Inv-loop μ-loop
 returns c =
     let s = c .before .before .before in
     let l = c .before .loop in
     let z : l .i ≡ 0 = omega arith in
-    sym (put-done (l .out) (s .args .at) (l .rest)) ∙ (rw z at (l .inv .2)) ∙ put-ending (s .args .out .now) (s .args .at) (s .args .width) (s .args .tens) (s .args .last) (s .pre .0) (s .pre .1)
+    sym (put-done (l .out) (s .args .at) (l .rest)) ∙ (rw z at (l .inv .2)) ∙ put-ending (s .args .out .now)
+    (s .args .at) (s .args .width) (s .args .tens) (s .args .last) (s .pre .0) (s .pre .1)
 
 pub put-ending-spec : {M : Type 1} → statement M
 put-ending-spec =

@@ -27,7 +27,11 @@ module _ (c : tie.After-step-class-in) where
   abbrev words : List ℕ
   words = start .args .words .now
 
-  by-numbers : (companion class : ℕ) → c .before .companion-in .result ≡ companion → c .step-class-in .result ≡ class → unless (standsAt (companionFrom companion) words (start .args .p)) (nextOf (classFrom class) (length words) (getD words (start .args .p) 0) (start .args .p)) ≡ successorsOf words (start .args .p)
+  by-numbers : (companion class : ℕ) → c .before .companion-in .result ≡ companion
+      → c .step-class-in .result ≡ class
+      → unless (standsAt (companionFrom companion) words (start .args .p))
+      (nextOf (classFrom class) (length words) (getD words (start .args .p) 0) (start .args .p))
+      ≡ successorsOf words (start .args .p)
   by-numbers companion class d e =
       by-columns words (start .args .p) companion class (start .pre .2)
       (ap companionFrom (sym d ∙ c .before .companion-in .ensures) ∙ companion-in _ _ _ (start .pre .0))
@@ -36,7 +40,11 @@ module _ (c : tie.After-step-class-in) where
   -- steps that are the word's have an entry, which says them
   module _ {s : Successors} (e : s ≡ successorsOf words (start .args .p)) where
     asks : (start .args .p < mostWords) × Packs (start .args .p) s
-    asks = (omega (arith, start .pre .1, start .pre .2), subst (λ (x : Successors). Packs (start .args .p) x) (sym e) (packs (start .args .p) words (start .pre .1)))
+    asks = (
+      omega (arith, start .pre .1, start .pre .2),
+      subst (λ (x : Successors). Packs (start .args .p) x)
+          (sym e) (packs (start .args .p) words (start .pre .1)),
+    )
 
     says : {v : ℕ} → Says v (start .args .p) s → Says v (start .args .p) (successorsOf words (start .args .p))
     says {v} y = subst (λ (x : Successors). Says v (start .args .p) x) e y

@@ -28,7 +28,11 @@ module _ (c : tie.After-companion-and-class) where
   abbrev words : List ℕ
   words = start .args .words .now
 
-  by-numbers : (companion class : ℕ) → c .companion-and-class .result / 16 ≡ companion → c .companion-and-class .result % 16 ≡ class → unless (standsAt (companionFrom companion) words (start .args .p)) (nextOf (classFrom class) (length words) (getD words (start .args .p) 0) (start .args .p)) ≡ successorsOf words (start .args .p)
+  by-numbers : (companion class : ℕ) → c .companion-and-class .result / 16 ≡ companion
+      → c .companion-and-class .result % 16 ≡ class
+      → unless (standsAt (companionFrom companion) words (start .args .p))
+      (nextOf (classFrom class) (length words) (getD words (start .args .p) 0) (start .args .p))
+      ≡ successorsOf words (start .args .p)
   by-numbers companion class d e =
       by-columns words (start .args .p) companion class (start .pre .1)
       (ap companionFrom (sym d) ∙ companion-of-byte _ _ _ (c .companion-and-class .ensures))
@@ -37,7 +41,11 @@ module _ (c : tie.After-companion-and-class) where
   -- steps that are the word's have an entry, which says them
   module _ {s : Successors} (e : s ≡ successorsOf words (start .args .p)) where
     asks : (start .args .p < mostWords) × Packs (start .args .p) s
-    asks = (omega (arith, start .pre .0, start .pre .1), subst (λ (x : Successors). Packs (start .args .p) x) (sym e) (packs (start .args .p) words (start .pre .0)))
+    asks = (
+      omega (arith, start .pre .0, start .pre .1),
+      subst (λ (x : Successors). Packs (start .args .p) x)
+          (sym e) (packs (start .args .p) words (start .pre .0)),
+    )
 
     says : {v : ℕ} → Says v (start .args .p) s → Says v (start .args .p) (successorsOf words (start .args .p))
     says {v} y = subst (λ (x : Successors). Says v (start .args .p) x) e y
@@ -80,12 +88,13 @@ module _ (c : tie.After-test2) where
   is4 : c .test2 .result ≡ successorsOf (words read4) (start read4 .args .p)
   unfolding companionFrom classFrom
   is4 =
+      let at-if4 = c .before .before .before .before .before in
       let p : ℕ = start read4 .args .p in
       let w : ℕ = getD (words read4) p 0 in
       let low : aOf w ≤ 1 = subst (λ (a : ℕ). a ≤ 1) (c .before .before .a .ensures) (c .before .if7 .taken) in
       c .test2 .ensures
       ∙ (ap (unless (standsAt jumpAfter (words read4) p)) (either-way (length (words read4)) w p low)
-      ∙ by-numbers read4 1 3 (c .before .before .before .before .before .if4 .taken) (c .before .before .before .if6 .taken))
+      ∙ by-numbers read4 1 3 (at-if4 .if4 .taken) (c .before .before .before .if6 .taken))
 
 module _ (c : tie.After-successors-by) where
   abbrev read5 : tie.After-companion-and-class

@@ -27,5 +27,5 @@ settle-edges-spec =
     (λ c. let s = c .before .before .before .before .before in omega (arith, c .before .loop-test .taken, s .pre .0))
     (λ c. omega (arith, c .before .loop-test .taken))
     (λ c. settling-more _ _ (c .before .before .loop .inv) (c .before .loop-test .taken) (c .entry-at .ensures))
-    (λ c. c .before .loop .inv .same ∙ sym (c .before .before .before .before .pre .1))
+    (λ c. let entry = c .before .before .before .before in c .before .loop .inv .same ∙ sym (entry .pre .1))
     (λ c. settling-done _ _ (outside _) (c .before .loop .inv) (c .loop-test .left)))

@@ -19,7 +19,13 @@ returns-2 c = rw (c .before .before .match .keys2, ← c .before .opcode-at .ens
 
 returns-3 : tie.Need-returns-3
 unfolding companionFrom
-returns-3 c = rw (c .before .before .before .match .keys3, lt-ltb 0 _ (c .before .before .if1 .taken), ← c .before .opcode-at2 .ensures) (c .is-between2 .ensures)
+returns-3 c =
+    rw (
+      c .before .before .before .match .keys3,
+      lt-ltb 0 _ (c .before .before .if1 .taken),
+      ← c .before .opcode-at2 .ensures,
+    )
+    (c .is-between2 .ensures)
 
 returns-4 : tie.Need-returns-4
 unfolding companionFrom
@@ -35,7 +41,9 @@ returns-6 c = rw (c .before .match .keys5, ← c .opcode-at4 .ensures)
 
 returns-7 : tie.Need-returns-7
 unfolding companionFrom
-returns-7 c = rw (c .before .before .before .before .match .keys6, eq-eqb _ 1 (sym (c .before .before .k .ensures) ∙ c .before .if2 .taken), ← c .opcode-at5 .ensures)
+returns-7 c =
+    let at-match = c .before .before .before .before in
+    rw (at-match .match .keys6, eq-eqb _ 1 (sym (c .before .before .k .ensures) ∙ c .before .if2 .taken), ← c .opcode-at5 .ensures)
 
 returns-8 : tie.Need-returns-8
 unfolding companionFrom

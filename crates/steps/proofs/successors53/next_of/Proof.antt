@@ -24,11 +24,21 @@ returns-3 c = rw (c .before .match .keys3) (c .two-of .ensures)
 
 returns-4 : tie.Need-returns-4
 unfolding classFrom
-returns-4 c = rw (c .before .before .before .match .keys4, lt-ltb 1 _ (subst (λ (a : ℕ). 1 < a) (c .before .before .a .ensures) (c .before .if1 .taken))) (c .one-of2 .ensures)
+returns-4 c =
+    rw (
+      c .before .before .before .match .keys4,
+      lt-ltb 1 _ (subst (λ (a : ℕ). 1 < a) (c .before .before .a .ensures) (c .before .if1 .taken)),
+    )
+    (c .one-of2 .ensures)
 
 returns-5 : tie.Need-returns-5
 unfolding classFrom
-returns-5 c = rw (c .before .before .before .match .keys4, le-ltb 1 _ (subst (λ (a : ℕ). a ≤ 1) (c .before .before .a .ensures) (c .before .if1 .left))) (c .two-of2 .ensures)
+returns-5 c =
+    rw (
+      c .before .before .before .match .keys4,
+      le-ltb 1 _ (subst (λ (a : ℕ). a ≤ 1) (c .before .before .a .ensures) (c .before .if1 .left)),
+    )
+    (c .two-of2 .ensures)
 
 returns-6 : tie.Need-returns-6
 unfolding classFrom

@@ -23,7 +23,9 @@ returns-3 c = rw (c .before .match .keys3, ← c .opcode-at2 .ensures)
 
 returns-4 : tie.Need-returns-4
 unfolding companionFrom
-returns-4 c = rw (c .before .before .before .before .match .keys4, eq-eqb _ 0 (sym (c .before .before .c .ensures) ∙ c .before .if1 .taken), ← c .opcode-at3 .ensures)
+returns-4 c =
+    let at-match = c .before .before .before .before in
+    rw (at-match .match .keys4, eq-eqb _ 0 (sym (c .before .before .c .ensures) ∙ c .before .if1 .taken), ← c .opcode-at3 .ensures)
 
 returns-5 : tie.Need-returns-5
 unfolding companionFrom

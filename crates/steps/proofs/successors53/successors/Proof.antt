@@ -22,7 +22,11 @@ module _ (c : tie.After-companion-and-class) where
   abbrev words : List ℕ
   words = start .args .words .now
 
-  by-numbers : (companion class : ℕ) → c .companion-and-class .result / 16 ≡ companion → c .companion-and-class .result % 16 ≡ class → unless (standsAt (companionFrom companion) words (start .args .p)) (nextOf (classFrom class) (length words) (getD words (start .args .p) 0) (start .args .p)) ≡ successorsOf words (start .args .p)
+  by-numbers : (companion class : ℕ) → c .companion-and-class .result / 16 ≡ companion
+      → c .companion-and-class .result % 16 ≡ class
+      → unless (standsAt (companionFrom companion) words (start .args .p))
+      (nextOf (classFrom class) (length words) (getD words (start .args .p) 0) (start .args .p))
+      ≡ successorsOf words (start .args .p)
   by-numbers companion class d e =
       by-columns words (start .args .p) companion class (c .before .before .if1 .left)
       (ap companionFrom (sym d) ∙ companion-of-byte _ _ _ (c .companion-and-class .ensures))

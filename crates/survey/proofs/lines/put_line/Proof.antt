@@ -6,8 +6,8 @@ use borrow.Author.Needs.{needs}
 use lib.ListN.{length, take}
 use Rattle.common.specs.Limits.{mostWords}
 use Rattle.common.specs.Lists.{put}
-use Rattle.chunk.specs.declared.counts.Counts.{Counts}
-use Rattle.chunk.specs.Chunk.{countsOf, filled, after, wordsOf, wordsRoom}
+use Rattle.lundump.specs.declared.counts.Counts.{Counts}
+use Rattle.lundump.specs.Chunk.{countsOf, filled, after, wordsOf, wordsRoom}
 use Rattle.chunk.specs.Laws.{CountsWithin}
 use Rattle.survey.proofs.Columns.{within, line-refused, words-part, line-accepted}
 use Rattle.survey.proofs.lines.put_line.Statement.{statement}
@@ -33,7 +33,11 @@ counts-are : (a : tie.After-words-of) → counts a ≡ countsOf (filled (start a
 counts-are a = a .words-of .ensures .0 ∙ ap (λ (n : ℕ). countsOf (filled (start a .args .k) (start a .args .bytes .now) (wordsRoom n))) (as-many a)
 
 words-are : (a : tie.After-words-of) → words a ≡ after wordsOf (filled (start a .args .k) (start a .args .bytes .now) (wordsRoom mostWords)) (table a)
-words-are a = a .words-of .ensures .1 ∙ ap (λ (n : ℕ). after wordsOf (filled (start a .args .k) (start a .args .bytes .now) (wordsRoom n)) (table a)) (as-many a)
+words-are a =
+    a .words-of .ensures .1 ∙ ap
+    (λ (n : ℕ).
+    after wordsOf (filled (start a .args .k) (start a .args .bytes .now) (wordsRoom n)) (table a))
+    (as-many a)
 
 inside : (a : tie.After-words-of) → CountsWithin (counts a)
 inside a = within (start a .args .k) (start a .args .bytes .now) (table a) (words a) (counts a) (counts-are a) (words-are a)
@@ -65,7 +69,9 @@ returns-2 c =
     let r = h .before .before in
     let a = r .before .before .before .before .before in
     let s = start a .args in
-    line-accepted (s .k) (s .bytes .now) (table a) (words a) (counts a) (counts-are a) (words-are a) (r .before .before .if1 .left) _ (s .page .now) _ _ _ (r .run-of .ensures) (start a .pre) (h .put-head .ensures) (t .put-tail .ensures .0) (t .put-tail .ensures .1)
+    line-accepted (s .k) (s .bytes .now) (table a) (words a) (counts a) (counts-are a) (words-are a)
+    (r .before .before .if1 .left) _ (s .page .now) _ _ _ (r .run-of .ensures) (start a .pre)
+    (h .put-head .ensures) (t .put-tail .ensures .0) (t .put-tail .ensures .1)
 
 pub put-line-spec : {M : Type 1} → statement M
 put-line-spec =

@@ -18,8 +18,9 @@ returns c =
 returns-2 : tie.Need-returns-2
 returns-2 c =
     let a = c .before .before in
-    let s = a .before .before .before .before .before .before .before .args in
-    let e = only-first (s .k) (s .c .number) (s .c .place) (a .before .before .before .before .before .if1 .left) in
+    let at-if1 = a .before .before .before .before .before in
+    let s = at-if1 .before .before .args in
+    let e = only-first (s .k) (s .c .number) (s .c .place) (at-if1 .if1 .left) in
     (sym (ap length e ∙ sheet-laws .pair (s .c .number) (s .c .place)), rw (a .before .before .refusal-line .ensures, ← e) at (a .put-text .ensures))
 
 pub put-only-spec : {M : Type 1} → statement M

@@ -12,7 +12,8 @@ use Rattle.sweep.proofs.lengths.fill_lengths.Statement.{statement}
 use Rattle.sweep.proofs.lengths.fill_lengths.Tie as tie
 
 abbrev Inv-loop : tie.InvT-loop
-Inv-loop mask words weights marks lengths₀ invalid₀ above₀ i₀ lengths invalid above i = Filling (weightBy mask words weights) lengths₀ marks lengths i above invalid
+Inv-loop mask words weights marks lengths₀ invalid₀ above₀ i₀ lengths invalid above i =
+    Filling (weightBy mask words weights) lengths₀ marks lengths i above invalid
 
 abbrev μ-loop : tie.MeasureT-loop
 μ-loop mask words weights marks lengths₀ invalid₀ above₀ i₀ lengths invalid above i = i
@@ -20,22 +21,33 @@ abbrev μ-loop : tie.MeasureT-loop
 -- a turn: the word i - 1 is the next
 module _ (c : tie.In-loop Inv-loop μ-loop) where
   abbrev start : tie.Start Inv-loop μ-loop
-  start = c .before .before .before .before .before .before
+  start =
+      let round = c .before in
+      round .before .before .before .before .before
 
   abbrev w : ℕ → ℕ
   w = weightBy (start .args .mask) (start .args .words .now) (start .args .weights .now)
 
   -- a weight is a byte
   light : (q : ℕ) → w q ≤ heaviestWeight
-  light q = let k = c .before .before .before .before in omega (arith, k .shared-slice-known2 .given (bitAnd (getD (start .args .words .now) q 0) (start .args .mask)))
+  light q =
+      let k = c .before .before .before .before in
+      omega (
+        arith,
+        k .shared-slice-known2 .given (bitAnd (getD (start .args .words .now) q 0) (start .args .mask)),
+      )
 
   abbrev word : ℕ
   word = c .before .loop .i - 1
 
-  filling : Filling w (start .args .lengths .now) (start .args .marks .now) (c .before .loop .lengths) (word + 1) (c .before .loop .above) (c .before .loop .invalid)
+  filling : Filling w (start .args .lengths .now) (start .args .marks .now) (c .before .loop .lengths)
+      (word + 1) (c .before .loop .above) (c .before .loop .invalid)
   filling =
       let e : c .before .loop .i ≡ word + 1 = omega (arith, c .loop-test .taken) in
-      subst (λ (x : ℕ). Filling w (start .args .lengths .now) (start .args .marks .now) (c .before .loop .lengths) x (c .before .loop .above) (c .before .loop .invalid)) e (c .before .loop .inv)
+      subst
+      (λ (x : ℕ). Filling w (start .args .lengths .now) (start .args .marks .now)
+      (c .before .loop .lengths) x (c .before .loop .above) (c .before .loop .invalid))
+      e (c .before .loop .inv)
 
   in-lengths : word < length (c .before .loop .lengths)
   in-lengths = filling-asks w heaviestWeight light _ _ _ _ _ _ filling .in-l
@@ -70,6 +82,12 @@ fill-lengths-spec =
     (λ c. omega (arith, in-measured (c .before .before)))
     (λ c. in-measured (c .before .before))
     (λ c. omega (arith, turn (c .before .before) .loop-test .taken))
-    (λ c. let k = c .before .before in let d = turn k in filling-left (filling-more (w d) heaviestWeight (light d) _ _ _ _ _ _ (filling d) (measures-at (w d) _ _ _ _ (k .before .before .weigh .ensures .0) (k .measure .ensures .0))) (sym (k .measure .ensures .1 _)))
+    (λ c.
+    let k = c .before .before in
+    let d = turn k in
+    filling-left
+    (filling-more (w d) heaviestWeight (light d) _ _ _ _ _ _ (filling d)
+    (measures-at (w d) _ _ _ _ (k .before .before .weigh .ensures .0) (k .measure .ensures .0)))
+    (sym (k .measure .ensures .1 _)))
     (λ c. let f = c .before .loop .inv .filled in f .l-same ∙ entries-length _)
     (λ c. filling-done (c .before .loop .inv) (c .loop-test .left)))

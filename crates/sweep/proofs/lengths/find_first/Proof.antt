@@ -25,7 +25,8 @@ returns : tie.Need-returns Inv-loop μ-loop
 returns c =
     let l = c .before .before .before in
     let s = l .before in
-    lowest-laws .is (test (s .args .lengths .now) (s .args .sought)) (s .args .n) (l .loop .i) (c .before .before .loop-test .taken) (eq-eqb _ _ (c .if1 .taken)) (l .loop .inv .1)
+    lowest-laws .is (test (s .args .lengths .now) (s .args .sought)) (s .args .n) (l .loop .i)
+    (c .before .before .loop-test .taken) (eq-eqb _ _ (c .if1 .taken)) (l .loop .inv .1)
 
 loop-again : tie.Need-loop-again Inv-loop μ-loop
 loop-again c =

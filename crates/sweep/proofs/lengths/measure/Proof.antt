@@ -10,7 +10,8 @@ use Rattle.sweep.specs.Steps.{ordered, listOf}
 use Rattle.sweep.specs.Entries.{«TARGETS», «ENTRIES», graphIn}
 use Rattle.sweep.specs.PassInvariants.{mostWeight, stepsIn, at, SameBut}
 use Rattle.sweep.proofs.Entries.{entry-next, entry-target, entry-stop, entry-invalid, entry-both}
-use Rattle.sweep.proofs.Measures.{beyondOf, beyond-cleared, measures-none, measures-by, above-low, beyond-low, next-best, both-best, both-valid, target-in}
+use Rattle.sweep.proofs.Measures.{beyondOf, beyond-cleared, measures-none, measures-by, above-low}
+use Rattle.sweep.proofs.Measures.{beyond-low, next-best, both-best, both-valid, target-in}
 use Rattle.sweep.proofs.lengths.measure.Statement.{statement}
 use Rattle.sweep.proofs.lengths.measure.Tie as tie
 
@@ -62,8 +63,11 @@ returns-2 : tie.Need-returns-2
 returns-2 c =
     let d = c .before .before in
     let s = enter d in
-    let e = entry-next (entry s) (p s) (c .if2 .taken) in
-    (measures-by (m s) (l s) (p s) (d .if1 .left) e (λ _. s .args .weight) (s .args .invalid) (omega (arith, next-best (m s) (l s) (p s) mostWeight (s .args .above) (s .pre .0))) refl, same (l s) (p s))
+    let e = entry-next (entry s) (p s) (c .if2 .taken) in (
+      measures-by (m s) (l s) (p s) (d .if1 .left) e (λ _. s .args .weight) (s .args .invalid)
+          (omega (arith, next-best (m s) (l s) (p s) mostWeight (s .args .above) (s .pre .0))) refl,
+      same (l s) (p s),
+    )
 
 returns-3 : tie.Need-returns-3
 returns-3 c =
@@ -91,18 +95,29 @@ module _ (c : tie.Else5) where
   two : let s = enter (here (c .before)) in stepsIn (l s) (p s) ≡ ordered (p s + 1) (entry s % «TARGETS»)
   two = let s = enter (here (c .before)) in let d = c .before .before .before in entry-both (entry s) (p s) (d .if3 .left) (d .before .if2 .left) (c .if5 .left)
 
-  two-best : let s = enter (here (c .before)) in max (s .args .above) (c .before .beyond .result) ≡ best (graphIn (l s)) (p s) (at (l s)) (listOf (ordered (p s + 1) (entry s % «TARGETS»)))
-  two-best = let s = enter (here (c .before)) in both-best (m s) (l s) (p s) mostWeight (s .args .above) (s .pre .0) (entry s % «TARGETS») (c .before .beyond .result) (adds (c .before))
+  two-best : let s = enter (here (c .before)) in
+      max (s .args .above) (c .before .beyond .result)
+      ≡ best (graphIn (l s)) (p s) (at (l s)) (listOf (ordered (p s + 1) (entry s % «TARGETS»)))
+  two-best =
+      let s = enter (here (c .before)) in
+      both-best (m s) (l s) (p s) mostWeight (s .args .above) (s .pre .0) (entry s % «TARGETS»)
+      (c .before .beyond .result) (adds (c .before))
 
 returns-6 : tie.Need-returns-6
 returns-6 c =
     let d = here (c .before .before) in
     let s = enter d in
-    let e = two (c .before) in
-    (measures-by (m s) (l s) (p s) (d .if1 .left) e (λ _. s .args .weight) (s .args .invalid) (omega (arith, two-best (c .before), c .larger .ensures)) (both-valid _ _ (p s) (s .args .invalid)), cleared (l s) (p s))
+    let e = two (c .before) in (
+      measures-by (m s) (l s) (p s) (d .if1 .left) e (λ _. s .args .weight) (s .args .invalid)
+          (omega (arith, two-best (c .before), c .larger .ensures))
+          (both-valid _ _ (p s) (s .args .invalid)),
+      cleared (l s) (p s),
+    )
 
 -- what `beyond` asks
-asks : (c : tie.Else3) → let s = enter (entering c) in (p s < length (set (l s) (p s) 0)) × (entry s % «TARGETS» < length (set (l s) (p s) 0)) × (at (set (l s) (p s) 0) (p s) ≡ 0)
+asks : (c : tie.Else3) → let s = enter (entering c) in
+    (p s < length (set (l s) (p s) 0)) × (entry s % «TARGETS» < length (set (l s) (p s) 0))
+    × (at (set (l s) (p s) 0) (p s) ≡ 0)
 asks c =
     let s = enter (entering c) in
     let k = s .pre .0 in
@@ -129,6 +144,14 @@ measure-spec =
     (λ c. let s = enter (here (c .before)) in length-set (l s) (p s) 0)
     returns-5
     (λ c κs. search needs)
-    (λ c. let s = enter (here (c .before .before)) in omega (arith, s .pre .1, c .larger .ensures, above-low (m s) (l s) (p s) mostWeight (s .args .above) (s .pre .0), low (c .before .before)))
+    (λ c.
+    let s = enter (here (c .before .before)) in
+    omega (
+      arith,
+      s .pre .1,
+      c .larger .ensures,
+      above-low (m s) (l s) (p s) mostWeight (s .args .above) (s .pre .0),
+      low (c .before .before),
+    ))
     (λ c. let s = enter (here (c .before .before)) in length-set (l s) (p s) 0)
     returns-6)

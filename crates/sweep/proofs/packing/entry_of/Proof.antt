@@ -46,4 +46,7 @@ entry-of-spec =
     (λ c. search needs)
     (λ c. let t = two (c .before .before) in omega (arith, t .0, t .1))
     (λ c. let t = two (c .before .before) in omega (arith, t .0, t .1))
-    (λ c. let t = two (c .before .before) in tell _ (c .before .before .s2 .given .1) (says-down _ _ (omega (arith, t .0, t .1)) (⊎-elim (λ e. absurd (c .if2 .left e)) (λ e. e) (t .2)) (t .0))))
+    (λ c.
+    let t = two (c .before .before) in
+    tell _ (c .before .before .s2 .given .1) (says-down _ _ (omega (arith, t .0, t .1))
+    (⊎-elim (λ e. absurd (c .if2 .left e)) (λ e. e) (t .2)) (t .0))))

@@ -22,7 +22,8 @@ in-queue s =
     omega (arith, head-in (graphIn (entries l)) (s .args .marks .now) (queueOf l) (s .args .head) (s .args .tail) (s .pre .visiting), queue-length l)
 
 again : (c : tie.After-visit Inv-loop μ-loop) → let l = c .before .before .before .before in let s = l .before .before .before .before in
-    FollowingIn (s .args .marks .now) (s .args .lengths .now) (s .args .head) (c .visit .last .0) (c .visit .last .1 .0) (c .visit .result .0) (c .visit .result .1) (c .visit .result .2)
+    FollowingIn (s .args .marks .now) (s .args .lengths .now) (s .args .head) (c .visit .last .0)
+    (c .visit .last .1 .0) (c .visit .result .0) (c .visit .result .1) (c .visit .result .2)
 again c =
     let l = c .before .before .before .before in
     let s = l .before .before .before .before in
@@ -45,7 +46,10 @@ follow-spec =
     (λ c. in-queue (c .before .before .before))
     (λ c. omega (arith, c .slice-known3 .given (c .before .before .before .args .head)))
     (λ c. following-first _ _ _ _ (c .before .before .before .pre .visiting))
-    (λ c κs. let l = c .before .before .before in visit-asks _ _ _ (l .before .before .before .before .pre .held) (l .loop .inv) (c .before .before .loop-test .taken))
+    (λ c κs.
+    let l = c .before .before .before in
+    let entry = l .before .before .before .before in
+    visit-asks _ _ _ (entry .pre .held) (l .loop .inv) (c .before .before .loop-test .taken))
     loop-less
     (λ c. again (c .before .before .before .before))
     (λ c. c .before .loop .inv .following .m-same)

@@ -60,18 +60,24 @@ module _ (c : Rooted) where
   held : Held (c .push .last .0) (c .push .last .1 .0)
   held = held-on (enter before .pre) (c .push .ensures .kept) (c .push .kept .0 ∙ before .clear-marks .kept .0)
 
-  pushed : Pushed (graph before) [] (before .clear-marks .last .0) (queueOf (l before)) 0 0 (0 ∷ []) (c .push .last .0) (queueOf (c .push .last .1 .0)) (c .push .result)
+  pushed : Pushed (graph before) [] (before .clear-marks .last .0) (queueOf (l before)) 0 0 (0 ∷ [])
+      (c .push .last .0) (queueOf (c .push .last .1 .0)) (c .push .result)
   pushed =
       let k = enter before .pre .lent in
       let e = c .push .ensures in
-      push-gives (graph before) _ _ 0 (at-clear before .room) 0 (k .some) (e .queued) [] 0 (at-clear before) (laws .reaching (graph before) (enter before .pre .law) .start (k .some))
+      push-gives (graph before) _ _ 0 (at-clear before .room) 0 (k .some) (e .queued) [] 0 (at-clear before)
+      (laws .reaching (graph before) (enter before .pre .law) .start (k .some))
 
   begun : SearchingIn (c .push .last .0) (c .push .last .1 .0) (c .push .last .0) (c .push .last .1 .0) 0 (c .push .result)
   begun =
       let es = entries (c .push .last .1 .0) in
       record {
         searching = record {
-          under = subst (λ (x : List ℕ). Marking (graphIn x) [] (c .push .last .0) (queueOf (c .push .last .1 .0)) 0 (c .push .result)) (sym (c .push .ensures .kept)) (pushed .under);
+          under =
+              subst
+              (λ (x : List ℕ). Marking (graphIn x) [] (c .push .last .0) (queueOf (c .push .last .1 .0)) 0
+              (c .push .result))
+              (sym (c .push .ensures .kept)) (pushed .under);
           root = pushed .marked 0 (inl refl);
           m-same = refl;
         };
@@ -81,18 +87,23 @@ module _ (c : Rooted) where
 -- a turn
 module _ (c : tie.In-loop Inv-loop μ-loop) where
   abbrev rooted : Rooted
-  rooted = c .before .before .before .before .before .before
+  rooted =
+      let turn = c .before in
+      turn .before .before .before .before .before
 
   in-words : c .before .loop .tail ≤ length (entries (rooted .push .last .1 .0))
   in-words = tail-le _ _ _ _ (c .before .loop .inv .searching .under .room)
 
 returns : tie.Need-returns Inv-loop μ-loop
 returns c =
-    let v = c .before .loop .inv in
-    let p = c .before .before .before .before .before .before in
+    let turn = c .before in
+    let p = turn .before .before .before .before .before in
+    let v = turn .loop .inv in
     let e = p .push .ensures .kept in
     record {
-      marked = subst (λ (es : List ℕ). Marked (graphIn es) (c .before .loop .marks)) e (searched (graphIn (entries (p .push .last .1 .0))) (held p .law) (v .searching) (c .loop-test .left));
+      marked =
+          subst (λ (es : List ℕ). Marked (graphIn es) (turn .loop .marks)) e (searched
+          (graphIn (entries (p .push .last .1 .0))) (held p .law) (v .searching) (c .loop-test .left));
       kept = v .kept ∙ e;
     }
 
@@ -106,9 +117,25 @@ mark-reachable-spec =
     (λ c κs. root-asks (c .before .before .before .before))
     (λ c. begun (c .before .before .before .before))
     (λ c κs. let d = c .before .before in follow-asks _ _ (held (rooted d)) (d .before .loop .inv) (d .loop-test .taken))
-    (λ c. let d = c .before .before .before .before .before .before .before in omega (arith, d .loop-test .taken, in-words d, held (rooted d) .lent .few))
-    (λ c. let d = c .before .before .before .before .before .before .before in omega (arith, d .loop-test .taken, in-words d))
-    (λ c. let d = c .before .before .before .before .before .before .before in let v = c .before .before .before .before .follow in searching-in _ _ (held (rooted d)) (d .before .loop .inv) (v .ensures) (v .kept .0))
-    (λ c. let p = c .before .before .before .before .before .before in c .before .loop .inv .searching .m-same ∙ p .push .kept .0 ∙ clearing p .clear-marks .kept .0)
-    (λ c. let p = c .before .before .before .before .before .before in same-length _ _ (c .before .loop .inv .kept ∙ p .push .ensures .kept))
+    (λ c.
+    let at-marks3 = c .before .before .before in
+    let d = at-marks3 .before .before .before .before in
+    omega (arith, d .loop-test .taken, in-words d, held (rooted d) .lent .few))
+    (λ c.
+    let at-marks3 = c .before .before .before in
+    let d = at-marks3 .before .before .before .before in
+    omega (arith, d .loop-test .taken, in-words d))
+    (λ c.
+    let at-follow = c .before .before .before .before in
+    let d = at-follow .before .before .before in
+    let v = at-follow .follow in
+    searching-in _ _ (held (rooted d)) (d .before .loop .inv) (v .ensures) (v .kept .0))
+    (λ c.
+    let turn = c .before in
+    let p = turn .before .before .before .before .before in
+    turn .loop .inv .searching .m-same ∙ p .push .kept .0 ∙ clearing p .clear-marks .kept .0)
+    (λ c.
+    let turn = c .before in
+    let p = turn .before .before .before .before .before in
+    same-length _ _ (turn .loop .inv .kept ∙ p .push .ensures .kept))
     returns)

@@ -90,7 +90,8 @@ module _ (c : tie.After-push) where
 
 returns-4 : tie.Need-returns-4
 returns-4 c =
-    let u = c .before .before .before .before .before .before .before .before in
+    let at-lengths = c .before .before .before .before .before in
+    let u = at-lengths .before .before .before in
     let s = enter (forked u .before .before .before) in
     let e = u .push .ensures in
     record { turned = turned-two (graph s) (law s) _ _ _ _ (s .pre .room) (fork (forked u)) (e .queued) (c .before .before .reach3 .ensures); kept = e .kept }

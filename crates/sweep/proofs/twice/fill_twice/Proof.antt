@@ -20,17 +20,34 @@ returns c =
     let r = b .before .before .before .before in
     let f = r .before .before .before in
     let v = f .before .before in
-    let k = v .before .before .before .before .before .before in
-    twice (start k .args .lengths .now) (k .keep-lengths .last .1 .1 .1 .0) (k .keep-lengths .last .1 .1 .1 .1 .0) _ _ (length (start k .args .lengths .now)) (entries-length _) (k .keep-lengths .ensures) (r .raise-lengths .ensures) (b .restore-marks .ensures) (ap (λ (x : ℕ). x / «SHARE») (v .find-longest .ensures)) (f .find-kept .ensures)
+    let at-lengths = v .before .before .before in
+    let k = at-lengths .before .before .before in
+    twice (start k .args .lengths .now) (k .keep-lengths .last .1 .1 .1 .0)
+    (k .keep-lengths .last .1 .1 .1 .1 .0) _ _ (length (start k .args .lengths .now))
+    (entries-length _) (k .keep-lengths .ensures) (r .raise-lengths .ensures)
+    (b .restore-marks .ensures) (ap (λ (x : ℕ). x / «SHARE») (v .find-longest .ensures))
+    (f .find-kept .ensures)
 
 pub fill-twice-spec : {M : Type 1} → statement M
 fill-twice-spec =
     tie.close
     (tie.spec
-    (λ c κs. let s = c .before .before .before .before .before .before .before in (s .pre .0, s .pre .1, s .pre .2 .0))
+    (λ c κs.
+    let s = c .before .before .before .before .before .before .before in
+    (s .pre .0, s .pre .1, s .pre .2 .0))
     (λ c κs. let k = c .before .before .before .before .before in omega (arith, k .keep-lengths .kept .1 .1 .1 .1 .0))
-    (λ c κs. let k = c .before .before .before .before .before .before .before in omega (arith, k .keep-lengths .kept .1 .1 .1 .1 .0))
-    (λ c κs. let k = c .before .before .before .before .before .before .before .before .before .before in let s = start k in (record { es = entries (s .args .lengths .now); words = k .keep-lengths .ensures .kept }, omega (arith, s .pre .1, k .keep-lengths .kept .1 .1 .1 .1 .0), s .pre .2 .1))
+    (λ c κs.
+    let at-lengths = c .before .before .before .before in
+    let k = at-lengths .before .before .before in
+    omega (arith, k .keep-lengths .kept .1 .1 .1 .1 .0))
+    (λ c κs.
+    let at-find-longest-arg = c .before .before .before .before .before in
+    let k = at-find-longest-arg .before .before .before .before .before in
+    let s = start k in (
+      record { es = entries (s .args .lengths .now); words = k .keep-lengths .ensures .kept },
+      omega (arith, s .pre .1, k .keep-lengths .kept .1 .1 .1 .1 .0),
+      s .pre .2 .1,
+    ))
     (λ c κs. search needs)
     (λ c. search needs)
     (λ c. search needs)

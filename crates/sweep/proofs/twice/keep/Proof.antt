@@ -8,7 +8,9 @@ use borrow.Author.Needs.{needs}
 use Rattle.sweep.specs.Entries.{«TARGETS», «ENTRIES»}
 use Rattle.sweep.specs.PassInvariants.{mostWeight, at, SameBut}
 use Rattle.sweep.specs.TwiceInvariants.{«SHARE», lowAt}
-use Rattle.sweep.proofs.Keeping.{beyondBy, beyond-kept, beyond-under, above-under, keeps-none, keeps-next, keeps-stop, keeps-invalid, keeps-target, keeps-both, target-in}
+use Rattle.sweep.proofs.Keeping.{beyondBy, beyond-kept, beyond-under, above-under, keeps-none}
+use Rattle.sweep.proofs.Keeping.{keeps-next, keeps-stop, keeps-invalid, keeps-target, keeps-both}
+use Rattle.sweep.proofs.Keeping.{target-in}
 use Rattle.sweep.proofs.twice.keep.Statement.{statement}
 use Rattle.sweep.proofs.twice.keep.Tie as tie
 
@@ -77,29 +79,44 @@ none c = omega (arith, c .if3 .left, c .before .if2 .taken)
 returns-3 : tie.Need-returns-3
 returns-3 c =
     let d = c .before .before .before .before in
-    let s = enter d in
-    (keeps-stop (m s) (l s) (p s) (s .args .above) (s .args .weight) (s .args .invalid) (s .pre .0) (d .if1 .left) (none (c .before)) (c .if4 .taken), same (l s) (p s))
+    let s = enter d in (
+      keeps-stop (m s) (l s) (p s) (s .args .above) (s .args .weight) (s .args .invalid) (s .pre .0)
+          (d .if1 .left) (none (c .before)) (c .if4 .taken),
+      same (l s) (p s),
+    )
 
 returns-4 : tie.Need-returns-4
 returns-4 c =
     let d = c .before .before .before .before in
-    let s = enter d in
-    (keeps-invalid (m s) (l s) (p s) (s .args .above) (s .args .weight) (s .args .invalid) (s .pre .0) (d .if1 .left) (none (c .before)) (c .if4 .left), same (l s) (p s))
+    let s = enter d in (
+      keeps-invalid (m s) (l s) (p s) (s .args .above) (s .args .weight) (s .args .invalid) (s .pre .0)
+          (d .if1 .left) (none (c .before)) (c .if4 .left),
+      same (l s) (p s),
+    )
 
 returns-5 : tie.Need-returns-5
 returns-5 c =
     let b = c .before in
-    let s = start b in
-    (keeps-target (m s) (l s) (p s) (s .args .above) (s .args .weight) (s .args .invalid) (s .pre .0) (here b .if1 .left) (far b .if2 .left) (b .beyond .result) (adds b) (c .if5 .taken), cleared (l s) (p s))
+    let s = start b in (
+      keeps-target (m s) (l s) (p s) (s .args .above) (s .args .weight) (s .args .invalid) (s .pre .0)
+          (here b .if1 .left) (far b .if2 .left) (b .beyond .result) (adds b) (c .if5 .taken),
+      cleared (l s) (p s),
+    )
 
 returns-6 : tie.Need-returns-6
 returns-6 c =
     let b = c .before .before in
-    let s = start b in
-    (keeps-both (m s) (l s) (p s) (s .args .above) (s .args .weight) (s .args .invalid) (s .pre .0) (here b .if1 .left) (far b .if2 .left) (b .beyond .result) (adds b) (c .before .if5 .left) (c .larger .ensures), cleared (l s) (p s))
+    let s = start b in (
+      keeps-both (m s) (l s) (p s) (s .args .above) (s .args .weight) (s .args .invalid) (s .pre .0)
+          (here b .if1 .left) (far b .if2 .left) (b .beyond .result) (adds b) (c .before .if5 .left)
+          (c .larger .ensures),
+      cleared (l s) (p s),
+    )
 
 -- what `beyond` asks
-asks : (c : tie.Else2) → let s = enter (c .before .before) in (p s < length (set (l s) (p s) 0)) × (entry s % «TARGETS» < length (set (l s) (p s) 0)) × (at (set (l s) (p s) 0) (p s) ≡ 0)
+asks : (c : tie.Else2) → let s = enter (c .before .before) in
+    (p s < length (set (l s) (p s) 0)) × (entry s % «TARGETS» < length (set (l s) (p s) 0))
+    × (at (set (l s) (p s) 0) (p s) ≡ 0)
 asks c =
     let s = enter (c .before .before) in
     let k = s .pre .0 in

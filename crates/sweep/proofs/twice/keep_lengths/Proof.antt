@@ -13,7 +13,8 @@ use Rattle.sweep.proofs.twice.keep_lengths.Statement.{statement}
 use Rattle.sweep.proofs.twice.keep_lengths.Tie as tie
 
 abbrev Inv-loop : tie.InvT-loop
-Inv-loop mask words weights marks₀ lengths₀ invalid₀ above₀ i₀ marks lengths invalid above i = Keeping (weightBy mask words weights) (entries lengths₀) marks lengths i above invalid
+Inv-loop mask words weights marks₀ lengths₀ invalid₀ above₀ i₀ marks lengths invalid above i =
+    Keeping (weightBy mask words weights) (entries lengths₀) marks lengths i above invalid
 
 abbrev μ-loop : tie.MeasureT-loop
 μ-loop mask words weights marks₀ lengths₀ invalid₀ above₀ i₀ marks lengths invalid above i = i
@@ -21,22 +22,33 @@ abbrev μ-loop : tie.MeasureT-loop
 -- a turn: the word i - 1 is the next
 module _ (c : tie.In-loop Inv-loop μ-loop) where
   abbrev start : tie.Start Inv-loop μ-loop
-  start = c .before .before .before .before .before .before
+  start =
+      let round = c .before in
+      round .before .before .before .before .before
 
   abbrev w : ℕ → ℕ
   w = weightBy (start .args .mask) (start .args .words .now) (start .args .weights .now)
 
   -- a weight is a byte
   light : (q : ℕ) → w q ≤ heaviestWeight
-  light q = let k = c .before .before .before .before in omega (arith, k .shared-slice-known2 .given (bitAnd (getD (start .args .words .now) q 0) (start .args .mask)))
+  light q =
+      let k = c .before .before .before .before in
+      omega (
+        arith,
+        k .shared-slice-known2 .given (bitAnd (getD (start .args .words .now) q 0) (start .args .mask)),
+      )
 
   abbrev word : ℕ
   word = c .before .loop .i - 1
 
-  keeping : Keeping w (entries (start .args .lengths .now)) (c .before .loop .marks) (c .before .loop .lengths) (word + 1) (c .before .loop .above) (c .before .loop .invalid)
+  keeping : Keeping w (entries (start .args .lengths .now)) (c .before .loop .marks)
+      (c .before .loop .lengths) (word + 1) (c .before .loop .above) (c .before .loop .invalid)
   keeping =
       let e : c .before .loop .i ≡ word + 1 = omega (arith, c .loop-test .taken) in
-      subst (λ (x : ℕ). Keeping w (entries (start .args .lengths .now)) (c .before .loop .marks) (c .before .loop .lengths) x (c .before .loop .above) (c .before .loop .invalid)) e (c .before .loop .inv)
+      subst
+      (λ (x : ℕ). Keeping w (entries (start .args .lengths .now)) (c .before .loop .marks)
+      (c .before .loop .lengths) x (c .before .loop .above) (c .before .loop .invalid))
+      e (c .before .loop .inv)
 
   in-lengths : word < length (c .before .loop .lengths)
   in-lengths = keeping-asks w light _ _ _ _ _ _ keeping .in-l
@@ -75,7 +87,16 @@ keep-lengths-spec =
     (λ c. in-kept (c .before .before))
     (λ c. in-marks (turn (c .before .before)))
     (λ c. omega (arith, turn (c .before .before) .loop-test .taken))
-    (λ c. let k = c .before .before in let d = turn k in keeping-left (keeping-more (w d) (light d) _ _ _ _ _ _ (keeping d) (keeps-at _ _ _ _ _ _ _ (k .before .before .before .weigh .ensures .0) (k .keep .ensures .0))) (sym (k .keep .ensures .1 _)))
-    (λ c. let s = c .before .before .before .before .before .before in c .before .loop .inv .m-same ∙ sym (s .pre .0 .held .lent .m-same))
+    (λ c.
+    let k = c .before .before in
+    let d = turn k in
+    keeping-left
+    (keeping-more (w d) (light d) _ _ _ _ _ _ (keeping d)
+    (keeps-at _ _ _ _ _ _ _ (k .before .before .before .weigh .ensures .0) (k .keep .ensures .0)))
+    (sym (k .keep .ensures .1 _)))
+    (λ c.
+    let round = c .before in
+    let s = round .before .before .before .before .before in
+    round .loop .inv .m-same ∙ sym (s .pre .0 .held .lent .m-same))
     (λ c. c .before .loop .inv .l-same ∙ entries-length _)
     (λ c. keeping-done _ (c .before .loop .inv) (c .loop-test .left)))

@@ -7,7 +7,8 @@ use lib.Seq.{getD-set-same, set-set}
 use borrow.Author.Needs.{needs}
 use Rattle.sweep.specs.PassInvariants.{mostWeight, at, SameBut}
 use Rattle.sweep.specs.TwiceInvariants.{«SHARE»}
-use Rattle.sweep.proofs.Keeping.{beyondBy, beyond-raised, beyond-under, raised-under, rises-none, rises-stop, rises-next, rises-target, rises-both, raised-target-in}
+use Rattle.sweep.proofs.Keeping.{beyondBy, beyond-raised, beyond-under, raised-under, rises-none}
+use Rattle.sweep.proofs.Keeping.{rises-stop, rises-next, rises-target, rises-both, raised-target-in}
 use Rattle.sweep.proofs.twice.raise.Statement.{statement}
 use Rattle.sweep.proofs.twice.raise.Tie as tie
 
@@ -55,12 +56,14 @@ returns c =
 
 returns-2 : tie.Need-returns-2
 returns-2 c =
-    let s = c .before .before .before .before .before .before in
+    let at-if1 = c .before .before in
+    let s = at-if1 .before .before .before .before in
     (rises-none (m s) (l s) (p s) (s .args .above) (s .args .weight) (s .pre .0) (c .if3 .taken), same (l s) (p s))
 
 returns-3 : tie.Need-returns-3
 returns-3 c =
-    let s = c .before .before .before .before .before .before in
+    let at-if1 = c .before .before in
+    let s = at-if1 .before .before .before .before in
     (rises-stop (m s) (l s) (p s) (s .args .above) (s .args .weight) (s .pre .0) (c .if3 .left) (c .before .if2 .left), same (l s) (p s))
 
 returns-4 : tie.Need-returns-4
@@ -72,11 +75,16 @@ returns-4 c =
 returns-5 : tie.Need-returns-5
 returns-5 c =
     let b = c .before .before in
-    let s = start b in
-    (rises-both (m s) (l s) (p s) (s .args .above) (s .args .weight) (s .pre .0) (far b .if1 .left) (adds b) (c .before .if4 .left) (c .larger .ensures), cleared (l s) (p s))
+    let s = start b in (
+      rises-both (m s) (l s) (p s) (s .args .above) (s .args .weight) (s .pre .0) (far b .if1 .left) (adds b)
+          (c .before .if4 .left) (c .larger .ensures),
+      cleared (l s) (p s),
+    )
 
 -- what `beyond` asks
-asks : (c : tie.Else1) → let s = c .before .before .before .before in (p s < length (set (l s) (p s) 0)) × (target s < length (set (l s) (p s) 0)) × (at (set (l s) (p s) 0) (p s) ≡ 0)
+asks : (c : tie.Else1) → let s = c .before .before .before .before in
+    (p s < length (set (l s) (p s) 0)) × (target s < length (set (l s) (p s) 0))
+    × (at (set (l s) (p s) 0) (p s) ≡ 0)
 asks c =
     let s = c .before .before .before .before in
     let k = s .pre .0 in
@@ -95,10 +103,10 @@ raise-spec =
     (λ c. search needs)
     (λ c. search needs)
     (λ c. let s = c .before .before .before .before in omega (arith, s .pre .0 .in-l))
-    (λ c. c .before .before .before .before .before .pre .0 .in-l)
+    (λ c. let entry = c .before .before .before .before .before in entry .pre .0 .in-l)
     (λ c. search needs)
     (λ c. let s = c .before .before .before .before .before in omega (arith, s .pre .0 .in-l))
-    (λ c. c .before .before .before .before .before .pre .0 .in-l)
+    (λ c. let entry = c .before .before .before .before .before in entry .pre .0 .in-l)
     (λ c. search needs)
     (λ c κs. asks (c .before .before))
     (λ c. omega (arith, start (c .before) .pre .1, low (c .before)))

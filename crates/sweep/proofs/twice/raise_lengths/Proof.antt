@@ -12,7 +12,9 @@ use Rattle.sweep.proofs.twice.raise_lengths.Statement.{statement}
 use Rattle.sweep.proofs.twice.raise_lengths.Tie as tie
 
 abbrev Inv-loop : tie.InvT-loop
-Inv-loop mask words weights marks lengths₀ above₀ i₀ lengths above i = (es : List ℕ) → KeptWords es marks lengths₀ → Raising (weightBy mask words weights) es marks lengths i above
+Inv-loop mask words weights marks lengths₀ above₀ i₀ lengths above i =
+    (es : List ℕ) → KeptWords es marks lengths₀
+    → Raising (weightBy mask words weights) es marks lengths i above
 
 abbrev μ-loop : tie.MeasureT-loop
 μ-loop mask words weights marks lengths₀ above₀ i₀ lengths above i = i
@@ -20,14 +22,21 @@ abbrev μ-loop : tie.MeasureT-loop
 -- a turn: the word i - 1 is the next
 module _ (c : tie.In-loop Inv-loop μ-loop) where
   abbrev start : tie.Start Inv-loop μ-loop
-  start = c .before .before .before .before .before .before
+  start =
+      let round = c .before in
+      round .before .before .before .before .before
 
   abbrev w : ℕ → ℕ
   w = weightBy (start .args .mask) (start .args .words .now) (start .args .weights .now)
 
   -- a weight is a byte
   light : (q : ℕ) → w q ≤ heaviestWeight
-  light q = let k = c .before .before .before .before in omega (arith, k .shared-slice-known2 .given (bitAnd (getD (start .args .words .now) q 0) (start .args .mask)))
+  light q =
+      let k = c .before .before .before .before in
+      omega (
+        arith,
+        k .shared-slice-known2 .given (bitAnd (getD (start .args .words .now) q 0) (start .args .mask)),
+      )
 
   abbrev word : ℕ
   word = c .before .loop .i - 1
@@ -77,7 +86,10 @@ raise-lengths-spec =
     (tie.spec
     Inv-loop
     μ-loop
-    (λ c. let s = c .before .before .before .before in λ es kept. raising-none (weightBy (s .args .mask) (s .args .words .now) (s .args .weights .now)) es _ _ kept)
+    (λ c.
+    let s = c .before .before .before .before in
+    λ es kept.
+    raising-none (weightBy (s .args .mask) (s .args .words .now) (s .args .weights .now)) es _ _ kept)
     (λ c. omega arith)
     (λ c. omega (arith, in-words c))
     (λ c. in-words (c .before))
@@ -87,5 +99,8 @@ raise-lengths-spec =
     (λ c. in-raised (c .before .before))
     (λ c. omega (arith, turn (c .before .before) .loop-test .taken))
     loop-again
-    (λ c. let s = c .before .before .before .before .before .before in c .before .loop .inv (s .pre .0 .es) (s .pre .0 .words) .l-same ∙ sym (s .pre .0 .words .l-same))
+    (λ c.
+    let round = c .before in
+    let s = round .before .before .before .before .before in
+    round .loop .inv (s .pre .0 .es) (s .pre .0 .words) .l-same ∙ sym (s .pre .0 .words .l-same))
     (λ c. λ es kept. raising-done (c .before .loop .inv es kept) (c .loop-test .left)))

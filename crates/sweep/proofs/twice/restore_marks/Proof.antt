@@ -25,6 +25,11 @@ restore-marks-spec =
     (λ c. let l = c .before .before .before in omega (arith, c .before .before .loop-test .taken, l .loop .inv .0 .same, l .loop .inv .1))
     (λ c. omega (arith, c .before .before .loop-test .taken))
     (λ c. omega (arith, c .before .before .loop-test .taken))
-    (λ c. let l = c .before .before .before in (restoring-more _ (l .loop .inv .0) (omega (arith, c .before .before .loop-test .taken, l .loop .inv .1)) (c .mark-of .ensures), l .loop .inv .1))
+    (λ c.
+    let l = c .before .before .before in (
+      restoring-more _ (l .loop .inv .0)
+          (omega (arith, c .before .before .loop-test .taken, l .loop .inv .1)) (c .mark-of .ensures),
+      l .loop .inv .1,
+    ))
     (λ c. c .before .loop .inv .0 .same)
     (λ c. restoring-done _ (c .before .loop .inv .0) (omega (arith, c .loop-test .left, c .before .loop .inv .1))))

@@ -15,20 +15,45 @@ use Rattle.touches.proofs.word.touches_at_53.Tie as tie
 
 touched-by-requires : tie.Need-touched-by-requires
 touched-by-requires c κs =
-    let start = c .before .before .before .before .before .before .before .before .before in
-    (subst (λ (x : Arguments). x .b + x .c < 1024) (sym (c .arguments-of-533 .ensures)) (small-arguments Lua53 (getD (now (start .args .words)) (start .args .p) 0)), omega (arith, start .pre, start .good .1 .1 .0 .1))
+    let at-arguments-of-53 = c .before .before .before .before in
+    let start = at-arguments-of-53 .before .before .before .before .before in (
+      subst (λ (x : Arguments). x .b + x .c < 1024) (sym (c .arguments-of-533 .ensures))
+          (small-arguments Lua53 (getD (now (start .args .words)) (start .args .p) 0)),
+      omega (arith, start .pre, start .good .1 .1 .0 .1),
+    )
 
 returns : tie.Need-returns
-returns c = rw (
-  c .touched-by .ensures,
-  c .before .arguments-of-533 .ensures,
-  c .before .before .before .arguments-of-532 .ensures,
-  c .before .before .before .before .word-at2 .ensures,
-  c .before .before .before .before .before .arguments-of-53 .ensures,
-  c .before .before .before .before .before .before .word-at .ensures,
-  c .before .before .before .before .before .before .before .previous .ensures,
-  div-one,
-)
+returns c =
+    let at-word-at2 = c .before .before .before .before in
+    let at-arguments-of-53 = at-word-at2 .before in
+    let at-word-at = at-arguments-of-53 .before in
+    let at-previous = at-word-at .before in
+    rw (
+      c .touched-by .ensures,
+      c .before .arguments-of-533 .ensures,
+      c .before .before .before .arguments-of-532 .ensures,
+      at-word-at2 .word-at2 .ensures,
+      at-arguments-of-53 .arguments-of-53 .ensures,
+      at-word-at .word-at .ensures,
+      at-previous .previous .ensures,
+      div-one,
+    )
 
 pub touches-at-53-spec : {M : Type 1} → statement M
-touches-at-53-spec = tie.close (tie.spec (λ c. search needs) (λ c. search needs) (λ c κs. search needs) (λ c κs. search needs) (λ c κs. search needs) (λ c. search needs) (λ c κs. search needs) (λ c κs. search needs) (λ c. search needs) (λ c. search needs) (λ c. search needs) (λ c κs. search needs) touched-by-requires returns)
+touches-at-53-spec =
+    tie.close
+    (tie.spec
+    (λ c. search needs)
+    (λ c. search needs)
+    (λ c κs. search needs)
+    (λ c κs. search needs)
+    (λ c κs. search needs)
+    (λ c. search needs)
+    (λ c κs. search needs)
+    (λ c κs. search needs)
+    (λ c. search needs)
+    (λ c. search needs)
+    (λ c. search needs)
+    (λ c κs. search needs)
+    touched-by-requires
+    returns)

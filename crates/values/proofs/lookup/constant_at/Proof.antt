@@ -7,7 +7,9 @@ use Rattle.values.proofs.lookup.constant_at.Tie as tie
 
 returns : tie.Need-returns
 unfolding constantOf choose
-returns c = rw (lt-ltb _ _ (c .before .before .before .before .if1 .taken), lt-ltb _ _ (c .before .before .before .if2 .taken)) (c .value .ensures)
+returns c =
+    let at-if1 = c .before .before .before .before in
+    rw (lt-ltb _ _ (at-if1 .if1 .taken), lt-ltb _ _ (c .before .before .before .if2 .taken)) (c .value .ensures)
 
 returns-2 : tie.Need-returns-2
 unfolding constantOf choose

@@ -14,13 +14,19 @@ use Rattle.values.proofs.spans.first_name_past.Statement.{statement}
 use Rattle.values.proofs.spans.first_name_past.Tie as tie
 
 abbrev Inv-loop : tie.InvT-loop
-Inv-loop names bytes i₀ i = (i ≤ length names) × (lowestFrom (namePastAt names bytes) 0 (length names) ≡ lowestFrom (namePastAt names bytes) i (length names - i))
+Inv-loop names bytes i₀ i =
+    (i ≤ length names) × (lowestFrom (namePastAt names bytes) 0 (length names)
+    ≡ lowestFrom (namePastAt names bytes) i (length names - i))
 
 abbrev μ-loop : tie.MeasureT-loop
 μ-loop names bytes i₀ i = length names - i
 
 loop-holds : tie.Need-loop-holds Inv-loop μ-loop
-loop-holds c = (omega arith, sym (lowest-laws .whole (namePastAt (now (c .before .args .names)) (c .before .args .bytes)) (length (now (c .before .args .names)))))
+loop-holds c = (
+  omega arith,
+  sym (lowest-laws .whole (namePastAt (now (c .before .args .names)) (c .before .args .bytes))
+      (length (now (c .before .args .names)))),
+)
 
 mul-is-name-past : tie.Need-mul-is-name-past Inv-loop μ-loop
 unfolding namePastAt
@@ -33,12 +39,13 @@ shared-slice-read-is-name-past c = omega arith
 returns : tie.Need-returns Inv-loop μ-loop
 unfolding namePastAt
 returns c =
-    lowest-laws .hit (namePastAt (now (c .before .before .before .before .before .before .args .names))
-    (c .before .before .before .before .before .before .args .bytes))
-    (length (now (c .before .before .before .before .before .before .args .names)))
-    (c .before .before .before .before .loop .i)
+    let turn = c .before .before .before .before in
+    let entry = turn .before .before in
+    lowest-laws .hit (namePastAt (now (entry .args .names)) (entry .args .bytes))
+    (length (now (entry .args .names)))
+    (turn .loop .i)
     (c .before .before .before .loop-test .taken) (sym (c .before .is-name-past .ensures) ∙ c .if1 .taken)
-    ∙ sym (c .before .before .before .before .loop .inv .1)
+    ∙ sym (turn .loop .inv .1)
 
 add-i : tie.Need-add-i Inv-loop μ-loop
 unfolding namePastAt
@@ -50,18 +57,35 @@ loop-less c = omega arith
 
 loop-again : tie.Need-loop-again Inv-loop μ-loop
 unfolding namePastAt
-loop-again c = (
-  omega arith,
-  c .before .before .before .before .loop .inv .1
-      ∙ lowest-laws .miss (namePastAt (now (c .before .before .before .before .before .before .args .names))
-      (c .before .before .before .before .before .before .args .bytes))
-      (length (now (c .before .before .before .before .before .before .args .names)))
-      (c .before .before .before .before .loop .i) (c .before .before .before .loop-test .taken)
-      (sym (c .before .is-name-past .ensures) ∙ c .if1 .left),
-)
+loop-again c =
+    let turn = c .before .before .before .before in
+    let entry = turn .before .before in (
+      omega arith,
+      turn .loop .inv .1 ∙ lowest-laws .miss (namePastAt (now (entry .args .names)) (entry .args .bytes))
+          (length (now (entry .args .names))) (turn .loop .i)
+          (c .before .before .before .loop-test .taken)
+          (sym (c .before .is-name-past .ensures) ∙ c .if1 .left),
+    )
 
 returns-2 : tie.Need-returns-2 Inv-loop μ-loop
-returns-2 c = lowest-laws .end (namePastAt (now (c .before .before .before .args .names)) (c .before .before .before .args .bytes)) (length (now (c .before .before .before .args .names))) (c .before .loop .i) (omega arith) ∙ sym (c .before .loop .inv .1)
+returns-2 c =
+    lowest-laws .end
+    (namePastAt (now (c .before .before .before .args .names)) (c .before .before .before .args .bytes))
+    (length (now (c .before .before .before .args .names))) (c .before .loop .i) (omega arith)
+    ∙ sym (c .before .loop .inv .1)
 
 pub first-name-past-spec : {M : Type 1} → statement M
-first-name-past-spec = tie.close (tie.spec Inv-loop μ-loop loop-holds mul-is-name-past shared-slice-read-is-name-past (λ c κs. search needs) returns add-i loop-less loop-again returns-2)
+first-name-past-spec =
+    tie.close
+    (tie.spec
+    Inv-loop
+    μ-loop
+    loop-holds
+    mul-is-name-past
+    shared-slice-read-is-name-past
+    (λ c κs. search needs)
+    returns
+    add-i
+    loop-less
+    loop-again
+    returns-2)

@@ -11,13 +11,16 @@ use Rattle.witness.proofs.longest.longest_path.Tie as tie
 
 returns : tie.Need-returns
 returns c =
-    let r = c .before .before .before .before .before .before .before .run-within .ensures in
+    let at-lengths = c .before .before .before .before in
+    let r = at-lengths .before .before .before .run-within .ensures in
     whole-refused _ _ _ _ _ (r .0) (c .before .run .given .1) (r .1 .0) (r .1 .1)
 
 -- an accepted run
 module _ (c : tie.After-known-told2) where
   abbrev ran : tie.After-run-within
-  ran = c .before .before .before .before .before .before .before
+  ran =
+      let at-lengths = c .before .before .before .before in
+      at-lengths .before .before .before
 
   abbrev start : tie.Start
   start = ran .before .before .before .before .before .before .before .before

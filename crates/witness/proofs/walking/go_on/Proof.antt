@@ -25,10 +25,18 @@ module _ (c : tie.After-known-told) where
   only = c .before .steps .given .0 .0
 
 returns-3 : tie.Need-returns-3
-returns-3 c = let k = c .before .before in by-steps (l-1 k) (p-1 k) (one-serves (l-1 k) (p-1 k) (only k) (sym (c .before .serves .ensures) ∙ c .if1 .taken)) (k .before .steps .given .1)
+returns-3 c =
+    let k = c .before .before in
+    by-steps (l-1 k) (p-1 k)
+    (one-serves (l-1 k) (p-1 k) (only k) (sym (c .before .serves .ensures) ∙ c .if1 .taken))
+    (k .before .steps .given .1)
 
 returns-4 : tie.Need-returns-4
-returns-4 c = let k = c .before .before in by-steps (l-1 k) (p-1 k) (one-on (l-1 k) (p-1 k) (only k) (sym (c .before .serves .ensures) ∙ c .if1 .left)) (k .before .steps .given .1)
+returns-4 c =
+    let k = c .before .before in
+    by-steps (l-1 k) (p-1 k)
+    (one-on (l-1 k) (p-1 k) (only k) (sym (c .before .serves .ensures) ∙ c .if1 .left))
+    (k .before .steps .given .1)
 
 -- a word with two
 module _ (c : tie.After-known-told2) where
@@ -54,19 +62,29 @@ returns-5 : tie.Need-returns-5
 returns-5 c =
     let e = c .before .before in
     let k = e .before .before in
-    by-steps (l-2 k) (p-2 k) (both-serve (l-2 k) (p-2 k) (lower k) (upper k) (sym (e .before .serves2 .ensures) ∙ e .if2 .taken) (sym (c .before .serves3 .ensures) ∙ c .if3 .taken)) (k .before .steps2 .given .1)
+    by-steps (l-2 k) (p-2 k)
+    (both-serve (l-2 k) (p-2 k) (lower k) (upper k)
+    (sym (e .before .serves2 .ensures) ∙ e .if2 .taken)
+    (sym (c .before .serves3 .ensures) ∙ c .if3 .taken))
+    (k .before .steps2 .given .1)
 
 returns-6 : tie.Need-returns-6
 returns-6 c =
     let e = c .before .before in
     let k = e .before .before in
-    by-steps (l-2 k) (p-2 k) (second-on (l-2 k) (p-2 k) (lower k) (upper k) (sym (e .before .serves2 .ensures) ∙ e .if2 .taken) (sym (c .before .serves3 .ensures) ∙ c .if3 .left)) (k .before .steps2 .given .1)
+    by-steps (l-2 k) (p-2 k)
+    (second-on (l-2 k) (p-2 k) (lower k) (upper k) (sym (e .before .serves2 .ensures) ∙ e .if2 .taken)
+    (sym (c .before .serves3 .ensures) ∙ c .if3 .left))
+    (k .before .steps2 .given .1)
 
 returns-7 : tie.Need-returns-7
 returns-7 c =
     let e = c .before .before in
     let k = e .before .before in
-    by-steps (l-2 k) (p-2 k) (first-on (l-2 k) (p-2 k) (lower k) (upper k) (sym (e .before .serves2 .ensures) ∙ e .if2 .left) (sym (c .before .serves4 .ensures) ∙ c .if4 .taken)) (k .before .steps2 .given .1)
+    by-steps (l-2 k) (p-2 k)
+    (first-on (l-2 k) (p-2 k) (lower k) (upper k) (sym (e .before .serves2 .ensures) ∙ e .if2 .left)
+    (sym (c .before .serves4 .ensures) ∙ c .if4 .taken))
+    (k .before .steps2 .given .1)
 
 -- of which none serves
 module _ (c : tie.Else4) where

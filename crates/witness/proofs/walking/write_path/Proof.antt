@@ -21,28 +21,40 @@ write-path-spec =
     (tie.spec
     Inv-loop
     μ-loop
-    (λ c. let s = c .before .before .before in midway-none (lua54 (s .args .words .now)) (laws .sound Lua54 (s .args .words .now)) _ _ _ (s .pre))
+    (λ c. let s = c .before .before .before in let words = s .args .words .now in midway-none (lua54 words) (laws .sound Lua54 words) _ _ _ (s .pre))
     (λ c. let m = c .before .loop .inv in let w = c .before .before .before .before .before .pre in omega (arith, m .inside, w .few))
     (λ c. let w = c .before .before .before .before .before .pre in omega (arith, c .loop-test .taken, w .few))
     (λ c. let m = c .before .loop .inv in omega (arith, c .loop-test .taken, m .same, m .long))
     (λ c. let w = c .before .before .before .before .before .pre in omega (arith, c .loop-test .taken, w .few))
     (λ c κs. search needs)
     (λ c κs.
-    let s = c .before .before .before .before .before .before in
-    steps-in (lua54 (s .args .words .now)) (laws .sound Lua54 (s .args .words .now)) (s .args .lengths .now) _ (s .pre .lengths-long) (c .successors .ensures))
+    let turn = c .before .before in
+    let s = turn .before .before .before .before in
+    let words = s .args .words .now in
+    steps-in (lua54 words) (laws .sound Lua54 words) (s .args .lengths .now) _ (s .pre .lengths-long) (c .successors .ensures))
     (λ c. search needs)
     (λ c. search needs)
     (λ c. let m = c .before .before .before .before .before .loop .inv in simp length-set (m .same))
     (λ c.
     let t = c .before .before .before in
-    let s = c .before .before .before .before .before .before .before .before .before in
-    midway-ends (lua54 (s .args .words .now)) (laws .sound Lua54 (s .args .words .now)) _ _ _ (t .before .before .loop .inv) (t .before .loop-test .taken)
+    let turn = t .before .before in
+    let s = turn .before .before .before .before in
+    let words = s .args .words .now in
+    midway-ends (lua54 words) (laws .sound Lua54 words) _ _ _ (turn .loop .inv) (t .before .loop-test .taken)
     (c .before .before .go-on .ensures) (t .successors .ensures) (c .enum-told .given .1))
-    (λ c. omega (arith, c .before .before .before .before .before .loop-test .taken))
+    (λ c.
+    let at-loop-test = c .before .before .before .before .before in
+    omega (arith, at-loop-test .loop-test .taken))
     (λ c.
     let t = c .before .before .before .before in
-    let s = c .before .before .before .before .before .before .before .before .before .before in
-    midway-more (lua54 (s .args .words .now)) (laws .sound Lua54 (s .args .words .now)) _ _ _ (t .before .before .loop .inv) (t .before .loop-test .taken)
+    let turn = t .before .before in
+    let s = turn .before .before .before .before in
+    let words = s .args .words .now in
+    midway-more (lua54 words) (laws .sound Lua54 words) _ _ _ (turn .loop .inv) (t .before .loop-test .taken)
     (c .before .before .before .go-on .ensures) (t .successors .ensures) (c .before .onward .given .1))
     (λ c. c .before .loop .inv .same)
-    (λ c. let s = c .before .before .before .before .before in midway-done (lua54 (s .args .words .now)) (laws .sound Lua54 (s .args .words .now)) _ _ _ (c .before .loop .inv) (c .loop-test .left)))
+    (λ c.
+    let s = c .before .before .before .before .before in
+    let words = s .args .words .now in
+    midway-done (lua54 words) (laws .sound Lua54 words) _ _ _ (c .before .loop .inv)
+    (c .loop-test .left)))

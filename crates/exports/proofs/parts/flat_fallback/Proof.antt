@@ -1,8 +1,0 @@
--- `exports::parts::flat_fallback` meets its contract.
--- Assumes nothing.
-use borrow.Author.Needs.{needs}
-use Rattle.exports.proofs.parts.flat_fallback.Statement.{statement}
-use Rattle.exports.proofs.parts.flat_fallback.Tie as tie
-
-pub flat-fallback-spec : {M : Type 1} → statement M
-flat-fallback-spec = tie.close (tie.spec (λ c. search needs) (λ c. search needs) (λ c. search needs) (λ c. cc) (λ c. cc))

@@ -1,8 +1,0 @@
--- `exports::parts::flat_role` meets its contract.
--- Assumes nothing.
-use borrow.Author.Needs.{needs}
-use Rattle.exports.proofs.parts.flat_role.Statement.{statement}
-use Rattle.exports.proofs.parts.flat_role.Tie as tie
-
-pub flat-role-spec : {M : Type 1} → statement M
-flat-role-spec = tie.close (tie.spec (λ c. search needs) (λ c. search needs) (λ c. search needs) (λ c. cc) (λ c. cc))

@@ -1,0 +1,26 @@
+-- The definitions compute on small chunks. Assumes nothing.
+use mathlib.Core.Path.{refl}
+use Rattle.lundump.specs.Reading.{repeat, littleEnd}
+use Rattle.lundump.specs.Lundump.{loadBlock, loadByte, unsignedFrom, loadUnsigned, loadNumber, loadInteger, stringOf, loadStringN, loadString, loadVector, loadItems, wordsFrom, loadCode, constantByTag, loadConstant, loadUpvalues, loadAbsLine, loadLocVar, loadLines, namesFrom, loadNames, loadHead, functionWith, several, noneOf, loadProtos, checkBytes, checkHeader, undump}
+use Rattle.lundump.specs.Chunk.{pick, chosen, valuesOf, countsOf, after}
+use Rattle.lundump.specs.Examples.{ExampleRead, NestedRead}
+
+pub example-read : ExampleRead
+unfolding repeat littleEnd loadBlock loadByte unsignedFrom loadUnsigned loadNumber loadInteger stringOf loadStringN loadString loadVector loadItems wordsFrom loadCode constantByTag loadConstant loadUpvalues loadAbsLine loadLocVar loadLines namesFrom loadNames loadHead functionWith several noneOf loadProtos checkBytes checkHeader undump pick chosen valuesOf countsOf after
+example-read = record { counts = refl; words = refl; tags = refl; payloads = refl; names = refl; no-second = refl }
+
+pub nested-read : NestedRead
+unfolding repeat littleEnd loadBlock loadByte unsignedFrom loadUnsigned loadNumber loadInteger stringOf loadStringN loadString loadVector loadItems wordsFrom loadCode constantByTag loadConstant loadUpvalues loadAbsLine loadLocVar loadLines namesFrom loadNames loadHead functionWith several noneOf loadProtos checkBytes checkHeader undump pick chosen valuesOf countsOf after
+nested-read =
+    record {
+      main = refl;
+      main-words = refl;
+      first = refl;
+      first-words = refl;
+      within-words = refl;
+      second-words = refl;
+      no-fifth = refl;
+      trailing = λ byte. refl;
+      deep = refl;
+      not-deep = refl;
+    }

@@ -1,0 +1,11 @@
+pub mod Steps
+pub mod Unsigned
+pub mod Binds
+pub mod Repeats
+pub mod Bounds
+pub mod Thens
+pub mod Walks
+pub mod Whole
+pub mod Texts
+pub mod Takes
+pub mod Examples
