@@ -19,7 +19,7 @@ use Rattle.graph.specs.Assignment.{cut, someBelow, readsUnset, unsetAt, lowestU
 use Rattle.graph.proofs.Laws as graph
 use Rattle.runs.specs.Script.{lua54, graphOf}
 use Rattle.sweep.specs.Steps.{isInvalid}
-use Rattle.steps.specs.Successors.{successorsOf}
+use Rattle.steps.specs.lua54.Successors.{successorsOf}
 use Rattle.runs.specs.Run.{reachesInvalid, lowestInvalid}
 use Rattle.touches.specs.Touches.{touchesOf}
 use Rattle.touches.specs.Meaning.{rangesIn}

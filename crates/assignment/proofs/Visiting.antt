@@ -21,7 +21,7 @@ use Rattle.sweep.specs.declared.edges.Successors.{Successors}
 use Rattle.sweep.specs.declared.edges.Successors.the-variants.{Invalid, Stop, One, Two}
 use Rattle.runs.specs.Script.{lua54, graphOf}
 use Rattle.sweep.specs.Steps.{listOf}
-use Rattle.steps.specs.Successors.{successorsOf}
+use Rattle.steps.specs.lua54.Successors.{successorsOf}
 use Rattle.runs.proofs.Laws as runs
 use Rattle.touches.specs.declared.answer.Touches.{Touches}
 use Rattle.touches.specs.Touches.{touchesOf}

@@ -25,7 +25,7 @@ use crate::ranges::set_by;
 use crate::waiting::PAGE;
 use crate::waiting::next_waiting;
 use common::widths::smaller_size;
-use steps::successors::successors;
+use steps::lua54::successors::successors;
 use sweep::edges::Successors;
 use touches::Touches;
 use touches::word::touches_in;

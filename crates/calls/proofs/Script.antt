@@ -11,7 +11,7 @@ use lib.ListN.{length}
 use Rattle.common.specs.Numbers.{«ACCEPTED»}
 use Rattle.common.specs.Lowest.{lowestFrom}
 use Rattle.common.proofs.Order.{split}
-use Rattle.fields.specs.Table.{classOf, companionOf}
+use Rattle.fields.specs.lua54.Table.{classOf, companionOf}
 use Rattle.graph.specs.Graph.{Graph, In, Along, Path}
 use Rattle.graph.specs.Marks.{leads, markOf}
 use Rattle.graph.specs.Longest.{within, heaviest, lengthOf, most, longest, first}
@@ -19,7 +19,7 @@ use Rattle.graph.specs.Meaning.{Meaning}
 use Rattle.graph.proofs.Laws as graph
 use Rattle.graph.proofs.Meaning.{meaning}
 use Rattle.sweep.specs.Steps.{unless, one, ordered, two, servesOf}
-use Rattle.steps.specs.Successors.{opcodeAt, isBetween, companionPresent, successorsOf}
+use Rattle.steps.specs.lua54.Successors.{opcodeAt, isBetween, companionPresent, successorsOf}
 use Rattle.fields.specs.declared.version.Version.{Version}
 use Rattle.runs.specs.Script.{Script, scriptOf, lua54, graphOf, weightOf, Sound}
 use Rattle.runs.specs.Weights.{lowestZero, refusesWeights, Weighs}

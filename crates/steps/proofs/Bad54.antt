@@ -8,21 +8,21 @@ use lib.Dec.{T, ltb, leb, eqb, eqb→eq}
 use lib.IntN.{ℤ, pos, _+ℤ_, _-ℤ_}
 use lib.ListN.{length, getD, List·getD-eq-default}
 use borrow.Author.Tests.{lt-ltb, ltb-false, eqb-true}
-use Rattle.fields.specs.Word.{opcodeOf, kOf, bxOf, sjOf}
-use Rattle.fields.specs.Table.{StepClass, following, returning, branching, skipping, skippingIfK, jumping}
-use Rattle.fields.specs.Table.{looping, preparing, entering, invalid, classNumber, classOf, Companion, alone}
-use Rattle.fields.specs.Table.{metamethodAfter, arithmeticBefore, jumpAfter, extraAfter, extraAfterIfK}
-use Rattle.fields.specs.Table.{callAtTarget, loopAfter, companionNumber, companionOf}
+use Rattle.fields.specs.lua54.Word.{opcodeOf, kOf, bxOf, sjOf}
+use Rattle.fields.specs.lua54.Table.{StepClass, following, returning, branching, skipping, skippingIfK, jumping}
+use Rattle.fields.specs.lua54.Table.{looping, preparing, entering, invalid, classNumber, classOf, Companion, alone}
+use Rattle.fields.specs.lua54.Table.{metamethodAfter, arithmeticBefore, jumpAfter, extraAfter, extraAfterIfK}
+use Rattle.fields.specs.lua54.Table.{callAtTarget, loopAfter, companionNumber, companionOf}
 use Rattle.fields.specs.Laws.{all}
 use Rattle.fields.proofs.Laws.{laws}
 use Rattle.sweep.specs.declared.edges.Successors.{Successors}
 use Rattle.sweep.specs.declared.edges.Successors.the-variants.{Invalid}
-use Rattle.steps.specs.Columns.{classFrom, companionFrom}
+use Rattle.steps.specs.lua54.Columns.{classFrom, companionFrom}
 use Rattle.sweep.specs.Steps.{unless, isInvalid, listOf}
-use Rattle.steps.specs.Successors.{opcodeAt, isBetween, nextOf, standsAt, companionPresent, successorsOf}
+use Rattle.steps.specs.lua54.Successors.{opcodeAt, isBetween, nextOf, standsAt, companionPresent, successorsOf}
 use Rattle.steps.specs.Ways.{integers}
-use Rattle.steps.specs.Bad53.{between, anyOutside}
-use Rattle.steps.specs.Bad54.{opcode, kIsOne, bx, sj, nextWords, isAt, is, lacks, isBad, ByNumber}
+use Rattle.steps.specs.lua53.Bad.{between, anyOutside}
+use Rattle.steps.specs.lua54.Bad.{opcode, kIsOne, bx, sj, nextWords, isAt, is, lacks, isBad, ByNumber}
 use Rattle.steps.proofs.Columns.{class-back, companion-back}
 use Rattle.sweep.proofs.Steps.{let-through}
 use Rattle.steps.proofs.NextWords.{Same, itself, one-by, two-same}

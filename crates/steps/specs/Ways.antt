@@ -1,4 +1,4 @@
--- How luaV_execute goes on after a word, of either version: what specs/Lvm.antt and specs/Lvm53.antt share.
+-- How luaV_execute goes on after a word, of either version: what specs/lua54/Lvm.antt and specs/lua53/Lvm.antt share.
 -- A version supplies the bodies of its switch, what each does to pc, and by which of them a JMP is run.
 -- Assumes nothing.
 use Prim.Native.Nat.{ℕ}

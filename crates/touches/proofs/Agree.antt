@@ -12,7 +12,7 @@ use Rattle.touches.specs.declared.arguments.Arguments.{Arguments}
 use Rattle.fields.specs.Laws.{all}
 use Rattle.fields.proofs.Laws.{laws}
 use Rattle.touches.specs.Operands.{Operand, «R[A]», «R[A+1]», «R[A+2]», «R[A+3]», «R[A+1…A+B-1]», «R[A+1…A+B]», locationOf}
-use Rattle.touches.specs.Cases.{OwnEdge, noEdge, «p+1», «p+2», «p+1-Bx», «p+1+sBx», Accesses}
+use Rattle.touches.specs.Accesses.{OwnEdge, noEdge, «p+1», «p+2», «p+1-Bx», «p+1+sBx», Accesses}
 use Rattle.touches.specs.Table.{operandNumber, operandFrom, edgeNumber, opcodesOf}
 use Rattle.steps.specs.Executions.{Access, Arm, goOf}
 use Rattle.touches.specs.Cells.{Cell, register, upToTop, names}
