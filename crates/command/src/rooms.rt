@@ -3,28 +3,26 @@
 // beside them half of one for a function's words, in crate `owner`.
 ghost use mathlib.Core.Path.{_≡_};
 ghost use lib.ListN.{length};
-
-// Bytes of a file.
-pub const FILE_BYTES: usize = 4194304;
-
-// Functions of a file.
-pub const MOST_FUNCTIONS: usize = 131072;
+ghost use Rattle.common.specs.Limits.{fileBytes, mostFunctions, weightCount};
+use common::limits::FILE_BYTES;
+use common::limits::MOST_FUNCTIONS;
+use common::limits::WEIGHTS;
 
 pub fn bytes() -> [u8; FILE_BYTES]
-    ensures { λ r. ⌜ 4194304 ≡ length r ⌝ }
+    ensures { λ r. ⌜ fileBytes ≡ length r ⌝ }
 {
     [0; FILE_BYTES]
 }
 
 pub fn places() -> [u64; MOST_FUNCTIONS]
-    ensures { λ r. ⌜ 131072 ≡ length r ⌝ }
+    ensures { λ r. ⌜ mostFunctions ≡ length r ⌝ }
 {
     [0; MOST_FUNCTIONS]
 }
 
 // What each opcode weighs where nothing else is said.
-pub fn weights() -> [u8; 128]
-    ensures { λ r. ⌜ 128 ≡ length r ⌝ }
+pub fn weights() -> [u8; WEIGHTS]
+    ensures { λ r. ⌜ weightCount ≡ length r ⌝ }
 {
-    [1; 128]
+    [1; WEIGHTS]
 }

@@ -42,7 +42,10 @@ mostQuantum = 1000
 abbrev pub mostServices : ℕ
 mostServices = 4294967295
 
--- request C-17: "128 weights of 1 to 255": a weight is a byte
+-- request C-17: "128 weights of 1 to 255": so many, and a weight is a byte
+abbrev pub weightCount : ℕ
+weightCount = 128
+
 abbrev pub heaviestWeight : ℕ
 heaviestWeight = 255
 
@@ -66,3 +69,14 @@ intMax = 2147483647
 -- llimits.h: LUAI_MAXSHORTLEN; "A string's tag is 4 up to 40 bytes and 20 above"
 abbrev pub shortLength : ℕ
 shortLength = 40
+
+-- request C-14: ranges of registers "use 16 bits": so many registers there are
+abbrev pub mostRegisters : ℕ
+mostRegisters = 65536
+
+-- the owner's command: bytes of a file, and functions in it, that it has room for; a larger one is refused by 6
+abbrev pub fileBytes : ℕ
+fileBytes = 4194304
+
+abbrev pub mostFunctions : ℕ
+mostFunctions = 131072

@@ -30,6 +30,9 @@ pub const MOST_QUANTUM: u32 = 1000;
 // Document 01, "Meter", RULES 4: a meter's services stay at this.
 pub const MOST_SERVICES: u32 = 4294967295;
 
+// Number 18: a weight for each of the low seven bits (request C-17).
+pub const WEIGHTS: usize = 128;
+
 // Number 11: a meter's count is at most so much for each word up to the last (request C-17).
 pub const HEAVIEST_WEIGHT: usize = 255;
 
@@ -46,3 +49,11 @@ pub const INT_MAX: usize = 2147483647;
 
 // LUAI_MAXSHORTLEN.
 pub const SHORT_LENGTH: usize = 40;
+
+// Registers are numbers of 16 bits, so many of them (request C-14).
+pub const MOST_REGISTERS: usize = 65536;
+
+// Number 6, of the owner's command: bytes of a file, and functions in it.
+pub const FILE_BYTES: usize = 4194304;
+
+pub const MOST_FUNCTIONS: usize = 131072;

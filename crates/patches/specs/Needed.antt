@@ -11,7 +11,16 @@ use lib.ListN.{length}
 use Rattle.common.specs.Numbers.{«ACCEPTED», «REACHES_INVALID»}
 use Rattle.fields.specs.declared.version.Version.{Version}
 use Rattle.fields.specs.declared.version.Version.the-variants.{Lua54, Lua53}
-use Rattle.fields.specs.lua54.Opcodes.{«OP_MOVE», «OP_LOADKX», «OP_ADD», «OP_MMBIN», «OP_RETURN0», «OP_TFORCALL», «OP_TFORLOOP», «OP_EXTRAARG»}
+use Rattle.fields.specs.lua54.Opcodes.{
+  «OP_MOVE»,
+  «OP_LOADKX»,
+  «OP_ADD»,
+  «OP_MMBIN»,
+  «OP_RETURN0»,
+  «OP_TFORCALL»,
+  «OP_TFORLOOP»,
+  «OP_EXTRAARG»,
+}
 use Rattle.fields.specs.lua53.Opcodes as opcodes53
 use Rattle.graph.specs.Graph.{Reachable}
 use Rattle.graph.specs.Marks.{markOf}

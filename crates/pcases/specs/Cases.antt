@@ -7,7 +7,7 @@ use mathlib.Core.Bool.{Bool, true}
 use mathlib.Core.List.{List, [], _∷_, _++_}
 use lib.IntN.{ℤ, pos}
 use lib.ListN.{length, replicate}
-use Rattle.common.specs.Limits.{heaviestWeight}
+use Rattle.common.specs.Limits.{heaviestWeight, weightCount}
 use Rattle.fields.specs.lua54.Opcodes.{«OP_MOVE», «OP_LOADI», «OP_FORLOOP»}
 use Rattle.fields.specs.lua54.Events.{«TM_ADD»}
 use Rattle.fields.specs.lua54.Word.{opcodeOf, aOf, sbxOf}
@@ -20,7 +20,6 @@ use Rattle.sweep.specs.Steps.{servesOf}
 use Rattle.steps.specs.lua54.Successors.{successorsOf}
 use Rattle.steps.specs.lua53.Successors.{successorsOf as successorsOf53}
 use Rattle.runs.specs.Run.{runOf}
-use Rattle.runs.specs.Weights.{weightCount}
 use Rattle.runs.specs.Counted.{ones}
 use Rattle.values.specs.declared.ir.TypedOperand.{TypedOperand}
 use Rattle.values.specs.declared.ir.TypedOperand.the-variants as O

@@ -5,11 +5,11 @@ ghost use Rattle.runs.specs.Outcome.{Searched, Decided};
 ghost use Rattle.runs.specs.Counted.{ones};
 ghost use Rattle.service.specs.Pass.{Sizes};
 use common::limits::MOST_WORDS;
+use common::limits::WEIGHTS;
 use common::numbers::*;
 use fields::version::Version;
 use runs::Run;
 use runs::inner::measure_run;
-use runs::weighing::WEIGHTS;
 
 // The number by which the run refuses n words and slices of these lengths, or 0. Its place is 0.
 pub(crate) fn size_refusal(n: usize, marks: usize, lengths: usize) -> u8

@@ -1,6 +1,6 @@
 -- The fields of a word as lopcodes.h of Lua 5.3.6 takes them, in the header's own shape. C's operators, MASK1
--- and getarg are as in 5.4.8 (specs/lua54/Lopcodes.antt); sizes and positions are not. `Agreement` says that they
--- are those of specs/lua53/Word.antt.
+-- and getarg are as in 5.4.8 (specs/Bits.antt); sizes and positions are not. `Agreement` says that they are
+-- those of Word.antt.
 -- Assumes nothing.
 use Prim.Native.Nat.{ℕ, _+_, _-_}
 use mathlib.Core.Path.{_≡_}

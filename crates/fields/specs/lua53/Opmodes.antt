@@ -6,7 +6,21 @@ use Prim.Native.Nat.{ℕ}
 use mathlib.Core.Path.{_≡_}
 use mathlib.Core.List.{List, [], _∷_, map}
 use Rattle.fields.specs.lua53.Opcodes as op
-use Rattle.fields.specs.lua53.Table.{OpMode, iABC, iABx, iAsBx, iAx, modeOf, Companion, alone, jumpAfter, extraAfter, extraAfterUnlessC, loopAfter, companionOf}
+use Rattle.fields.specs.lua53.Table.{
+  OpMode,
+  iABC,
+  iABx,
+  iAsBx,
+  iAx,
+  modeOf,
+  Companion,
+  alone,
+  jumpAfter,
+  extraAfter,
+  extraAfterUnlessC,
+  loopAfter,
+  companionOf,
+}
 
 -- enum OpArgMask
 pub data OpArgMask : Type 0 where

@@ -5,7 +5,25 @@ use Prim.Native.Nat.{ℕ}
 use mathlib.Core.Path.{_≡_}
 use mathlib.Core.List.{List, [], _∷_, map}
 use Rattle.fields.specs.lua54.Opcodes as op
-use Rattle.fields.specs.lua54.Table.{OpMode54, iABC, iABx, iAsBx, iAx, isJ, modeOf, Companion, alone, metamethodAfter, arithmeticBefore, jumpAfter, extraAfter, extraAfterIfK, callAtTarget, loopAfter, companionOf}
+use Rattle.fields.specs.lua54.Table.{
+  OpMode54,
+  iABC,
+  iABx,
+  iAsBx,
+  iAx,
+  isJ,
+  modeOf,
+  Companion,
+  alone,
+  metamethodAfter,
+  arithmeticBefore,
+  jumpAfter,
+  extraAfter,
+  extraAfterIfK,
+  callAtTarget,
+  loopAfter,
+  companionOf,
+}
 
 -- opmode(mm, ot, it, t, a, m), and the opcode that the comment beside it names
 pub data Opmode : Type 0 where

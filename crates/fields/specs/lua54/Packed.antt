@@ -2,7 +2,14 @@
 -- packs them, eight opcodes to a number.
 -- Assumes nothing.
 use Prim.Native.Nat.{ℕ, _+_, _*_}
-use Rattle.fields.specs.lua54.Table.{classNumber, classOf, companionNumber, companionOf, fallbackNumber, fallbackOf}
+use Rattle.fields.specs.lua54.Table.{
+  classNumber,
+  classOf,
+  companionNumber,
+  companionOf,
+  fallbackNumber,
+  fallbackOf,
+}
 
 -- the companion and the step class of an opcode in a byte
 abbrev pub companionAndClass : ℕ → ℕ

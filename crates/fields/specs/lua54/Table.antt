@@ -6,7 +6,16 @@ use Prim.Native.Nat.{ℕ, zero, suc}
 use mathlib.Core.List.{List, [], _∷_}
 use Rattle.fields.specs.Rows.{Row, row, lookup}
 use Rattle.fields.specs.lua54.Opcodes as op
-use Rattle.fields.specs.lua54.Events.{«TM_INDEX», «TM_NEWINDEX», «TM_LEN», «TM_UNM», «TM_BNOT», «TM_CONCAT», «TM_CALL», «TM_CLOSE»}
+use Rattle.fields.specs.lua54.Events.{
+  «TM_INDEX»,
+  «TM_NEWINDEX»,
+  «TM_LEN»,
+  «TM_UNM»,
+  «TM_BNOT»,
+  «TM_CONCAT»,
+  «TM_CALL»,
+  «TM_CLOSE»,
+}
 
 -- Column 0, the mode: the Rust's OpMode54 by `mode`; unknown opcodes have none.
 pub data OpMode54 : Type 0 where

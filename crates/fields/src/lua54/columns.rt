@@ -1,4 +1,5 @@
-// The numbers that stand in the opcode table, a group for each column. specs/lua54/Table.antt says what each means.
+// The numbers that stand in the opcode table, a group for each column. specs/lua54/Table.antt says what each
+// means.
 
 pub const NO_MODE: u8 = 0;
 

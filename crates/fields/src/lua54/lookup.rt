@@ -3,7 +3,17 @@ ghost use mathlib.Core.Path.{_≡_};
 ghost use Prim.Native.Nat.{_+_, _*_, _<_};
 ghost use lib.ListN.{getD};
 ghost use Rattle.fields.specs.lua54.Word.{opcodeOf};
-ghost use Rattle.fields.specs.lua54.Table.{opcodeTable, modeNumber, modeOf, classNumber, classOf, companionNumber, companionOf, fallbackNumber, fallbackOf};
+ghost use Rattle.fields.specs.lua54.Table.{
+  opcodeTable,
+  modeNumber,
+  modeOf,
+  classNumber,
+  classOf,
+  companionNumber,
+  companionOf,
+  fallbackNumber,
+  fallbackOf,
+};
 use crate::bits::byte;
 use crate::lua54::packed::companion_and_class;
 use crate::lua54::packed::eight_fallbacks;

@@ -1,5 +1,5 @@
 // The opcode table: for each of the 128 opcode values its mode, step class, companion wanted and fallback
-// rule. Document 01 asks for one constant table of 512 numbers; specs/lua54/Table.antt says what stands in it.
+// rule. Document 01 asks for one constant table of 512 numbers; specs/lua54/Table.antt has its meaning.
 use crate::lua54::columns::*;
 use crate::lua54::events::*;
 

@@ -7,7 +7,15 @@ use mathlib.Core.Bool.{Bool, true, false}
 use mathlib.Core.List.{List}
 use Prim.Native.Nat.{ℕ, _+_}
 use lib.ListN.{length}
-use Rattle.fields.specs.lua53.Table.{Companion, alone, jumpAfter, extraAfter, extraAfterUnlessC, loopAfter, companionOf}
+use Rattle.fields.specs.lua53.Table.{
+  Companion,
+  alone,
+  jumpAfter,
+  extraAfter,
+  extraAfterUnlessC,
+  loopAfter,
+  companionOf,
+}
 use Rattle.graph.specs.Graph.{In}
 use Rattle.sweep.specs.Steps.{isInvalid, listOf}
 use Rattle.steps.specs.lua53.Successors.{opcodeAt, successorsOf}

@@ -10,7 +10,18 @@ use Prim.Native.Nat.{ℕ, _+_, _-_, _<_}
 use lib.ListN.{length, getD}
 use Rattle.fields.specs.lua54.Opcodes.{«OP_TFORPREP»}
 use Rattle.fields.specs.lua54.Word.{bxOf}
-use Rattle.fields.specs.lua54.Table.{Companion, alone, metamethodAfter, arithmeticBefore, jumpAfter, extraAfter, extraAfterIfK, callAtTarget, loopAfter, companionOf}
+use Rattle.fields.specs.lua54.Table.{
+  Companion,
+  alone,
+  metamethodAfter,
+  arithmeticBefore,
+  jumpAfter,
+  extraAfter,
+  extraAfterIfK,
+  callAtTarget,
+  loopAfter,
+  companionOf,
+}
 use Rattle.graph.specs.Graph.{In, Reachable}
 use Rattle.patches.specs.Alike.{SameAt}
 use Rattle.sweep.specs.declared.edges.Successors.the-variants.{One}

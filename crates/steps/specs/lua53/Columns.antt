@@ -4,7 +4,25 @@
 use Prim.Native.Nat.{ℕ}
 use mathlib.Core.List.{List, [], _∷_}
 use lib.ListN.{getD}
-use Rattle.fields.specs.lua53.Table.{StepClass, following, returning, branching, comparing, skipping, skippingIfC, skippingUnlessC, jumping, looping, invalid, Companion, alone, jumpAfter, extraAfter, extraAfterUnlessC, loopAfter}
+use Rattle.fields.specs.lua53.Table.{
+  StepClass,
+  following,
+  returning,
+  branching,
+  comparing,
+  skipping,
+  skippingIfC,
+  skippingUnlessC,
+  jumping,
+  looping,
+  invalid,
+  Companion,
+  alone,
+  jumpAfter,
+  extraAfter,
+  extraAfterUnlessC,
+  loopAfter,
+}
 
 -- the way back from fields' classNumber
 abbrev pub classes : List StepClass

@@ -8,7 +8,27 @@ use lib.IntN.{pos, _+ℤ_}
 use lib.ListN.{length, getD}
 use Rattle.fields.specs.lua53.Opcodes.{«OP_JMP», «OP_TFORLOOP», «OP_EXTRAARG»}
 use Rattle.fields.specs.lua53.Word.{opcodeOf, aOf, cOf, sbxOf}
-use Rattle.fields.specs.lua53.Table.{StepClass, following, returning, branching, comparing, skipping, skippingIfC, skippingUnlessC, jumping, looping, invalid, classOf, Companion, alone, jumpAfter, extraAfter, extraAfterUnlessC, loopAfter, companionOf}
+use Rattle.fields.specs.lua53.Table.{
+  StepClass,
+  following,
+  returning,
+  branching,
+  comparing,
+  skipping,
+  skippingIfC,
+  skippingUnlessC,
+  jumping,
+  looping,
+  invalid,
+  classOf,
+  Companion,
+  alone,
+  jumpAfter,
+  extraAfter,
+  extraAfterUnlessC,
+  loopAfter,
+  companionOf,
+}
 use Rattle.sweep.specs.declared.edges.Successors.{Successors}
 use Rattle.sweep.specs.declared.edges.Successors.the-variants.{Invalid, Stop}
 use Rattle.sweep.specs.Steps.{unless, one, two}

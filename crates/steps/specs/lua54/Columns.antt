@@ -4,7 +4,28 @@
 use Prim.Native.Nat.{ℕ}
 use mathlib.Core.List.{List, [], _∷_}
 use lib.ListN.{getD}
-use Rattle.fields.specs.lua54.Table.{StepClass, following, returning, branching, skipping, skippingIfK, jumping, looping, preparing, entering, invalid, Companion, alone, metamethodAfter, arithmeticBefore, jumpAfter, extraAfter, extraAfterIfK, callAtTarget, loopAfter}
+use Rattle.fields.specs.lua54.Table.{
+  StepClass,
+  following,
+  returning,
+  branching,
+  skipping,
+  skippingIfK,
+  jumping,
+  looping,
+  preparing,
+  entering,
+  invalid,
+  Companion,
+  alone,
+  metamethodAfter,
+  arithmeticBefore,
+  jumpAfter,
+  extraAfter,
+  extraAfterIfK,
+  callAtTarget,
+  loopAfter,
+}
 
 -- the way back from fields' classNumber
 abbrev pub classes : List StepClass

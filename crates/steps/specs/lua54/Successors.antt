@@ -6,9 +6,41 @@ use mathlib.Core.List.{List}
 use lib.Dec.{ltb, leb, eqb}
 use lib.IntN.{pos, _+ℤ_, _-ℤ_}
 use lib.ListN.{length, getD}
-use Rattle.fields.specs.lua54.Opcodes.{«OP_ADDI», «OP_SHR», «OP_MMBIN», «OP_MMBINK», «OP_JMP», «OP_TFORCALL», «OP_TFORLOOP», «OP_EXTRAARG»}
+use Rattle.fields.specs.lua54.Opcodes.{
+  «OP_ADDI»,
+  «OP_SHR»,
+  «OP_MMBIN»,
+  «OP_MMBINK»,
+  «OP_JMP»,
+  «OP_TFORCALL»,
+  «OP_TFORLOOP»,
+  «OP_EXTRAARG»,
+}
 use Rattle.fields.specs.lua54.Word.{opcodeOf, kOf, bxOf, sjOf}
-use Rattle.fields.specs.lua54.Table.{StepClass, following, returning, branching, skipping, skippingIfK, jumping, looping, preparing, entering, invalid, classOf, Companion, alone, metamethodAfter, arithmeticBefore, jumpAfter, extraAfter, extraAfterIfK, callAtTarget, loopAfter, companionOf}
+use Rattle.fields.specs.lua54.Table.{
+  StepClass,
+  following,
+  returning,
+  branching,
+  skipping,
+  skippingIfK,
+  jumping,
+  looping,
+  preparing,
+  entering,
+  invalid,
+  classOf,
+  Companion,
+  alone,
+  metamethodAfter,
+  arithmeticBefore,
+  jumpAfter,
+  extraAfter,
+  extraAfterIfK,
+  callAtTarget,
+  loopAfter,
+  companionOf,
+}
 use Rattle.graph.specs.Graph.{member}
 use Rattle.sweep.specs.declared.edges.Successors.{Successors}
 use Rattle.sweep.specs.declared.edges.Successors.the-variants.{Invalid, Stop}
