@@ -74,7 +74,7 @@ shortLength = 40
 abbrev pub mostRegisters : ℕ
 mostRegisters = 65536
 
--- the owner's command: bytes of a file, and functions in it, that it has room for; a larger one is refused by 6
+-- the owner's command: bytes of a file, and functions in it, that there is room for; more are refused by 6
 abbrev pub fileBytes : ℕ
 fileBytes = 4194304
 
