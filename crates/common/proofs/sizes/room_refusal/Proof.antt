@@ -1,6 +1,4 @@
-use mathlib.Core.Path.{_≡_}
 use borrow.Author.Tests.{lt-ltb, le-ltb}
-use Rattle.common.specs.Limits.{mostWords}
 use Rattle.common.specs.Chain.{roomNumber}
 use Rattle.common.proofs.sizes.room_refusal.Statement.{statement}
 use Rattle.common.proofs.sizes.room_refusal.Tie as tie
