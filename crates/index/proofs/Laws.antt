@@ -114,13 +114,17 @@ module _ (d : Function) (fs : List Function) where
   abbrev None : ℕ → ℕ → Type 0
   None n at = (i : ℕ) → i < n → getD fs i d .endAt ≤ at
 
-  stands-in : (outer at n : ℕ) → Nearest n at (standsIn outer (seenOf n) at) ⊎ None n at
+  -- the one of the first n that a position stands in
+  abbrev innermost : ℕ → ℕ → ℕ → ℕ
+  innermost outer n at = standsIn outer (seenOf n) at
+
+  stands-in : (outer at n : ℕ) → Nearest n at (innermost outer n at) ⊎ None n at
   unfolding standsIn seenOf
   stands-in outer at zero = inr (λ i h. absurd (omega arith))
   stands-in outer at (suc n) = go (ltb at (getD fs n d .endAt)) refl (stands-in outer at n)
     where
-      later : getD fs n d .endAt ≤ at → Nearest n at (standsIn outer (seenOf n) at) ⊎ None n at
-          → Nearest (suc n) at (standsIn outer (seenOf n) at) ⊎ None (suc n) at
+      later : getD fs n d .endAt ≤ at → Nearest n at (innermost outer n at) ⊎ None n at
+          → Nearest (suc n) at (innermost outer n at) ⊎ None (suc n) at
       later l (inl x) =
           inl (record {
             before = omega (arith, x .before);
@@ -141,8 +145,8 @@ module _ (d : Function) (fs : List Function) where
           end : (i : ℕ) → i < suc n → (i ≡ n) ⊎ (i < n)
           end i b = ⊎-elim (λ c. inl (omega arith)) (λ c. inr c) (split n i)
 
-      go : (b : Bool) → ltb at (getD fs n d .endAt) ≡ b → Nearest n at (standsIn outer (seenOf n) at) ⊎ None n at
-          → Nearest (suc n) at (cond b n (standsIn outer (seenOf n) at)) ⊎ None (suc n) at
+      go : (b : Bool) → ltb at (getD fs n d .endAt) ≡ b → Nearest n at (innermost outer n at) ⊎ None n at
+          → Nearest (suc n) at (cond b n (innermost outer n at)) ⊎ None (suc n) at
       go true h x = inl (record { before = omega arith; goes-on = ltb-true at (getD fs n d .endAt) h; nearest = λ i a b. absurd (omega (arith, a, b)) })
       go false h x = later (ltb-false at (getD fs n d .endAt) h) x
 

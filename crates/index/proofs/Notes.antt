@@ -342,6 +342,10 @@ pub record Midway (level : ℕ) (bytes : List ℕ) (start n outer first : ℕ) (
       → Wrote (several (loadFunction level) n bytes start) outer first pl₀ pa₀ pl′ pa′
 
 module _ (level : ℕ) (bytes : List ℕ) (start n outer first : ℕ) (pl₀ pa₀ : List ℕ) where
+  -- all of them
+  abbrev whole : Result (List Function)
+  whole = several (loadFunction level) n bytes start
+
   pub midway-none : Midway level bytes start n outer first pl₀ pa₀ pl₀ pa₀ start 0 0
   midway-none =
       let z : n ≡ n - 0 = omega arith in
@@ -415,20 +419,20 @@ module _ (level : ℕ) (bytes : List ℕ) (start n outer first : ℕ) (pl₀ pa�
       -- or a refusal
       pub midway-refused :
           (next : Cursor) (e : Refusal) → next ≡ step length (loadFunction level) bytes (At at 0) → next ≡ Refused e
-          → (next ≡ cursorOf length (several (loadFunction level) n bytes start))
-          × Wrote (several (loadFunction level) n bytes start) outer first pl₀ pa₀ pl₁ pa₁
+          → (next ≡ cursorOf length whole)
+          × Wrote whole outer first pl₀ pa₀ pl₁ pa₁
       unfolding step
       midway-refused next x e k = go (loadFunction level bytes at) refl (sym e ∙ k)
         where
           go : (X : Result (List Function)) → loadFunction level bytes at ≡ X → cursorOf length X ≡ Refused x
-              → (next ≡ cursorOf length (several (loadFunction level) n bytes start))
-              × Wrote (several (loadFunction level) n bytes start) outer first pl₀ pa₀ pl₁ pa₁
+              → (next ≡ cursorOf length whole)
+              × Wrote whole outer first pl₀ pa₀ pl₁ pa₁
           go (done fs past) d q = absurd (true≢false (cc))
           go (refused y) d q =
               let s : several (loadFunction level) (n - i) bytes at ≡ refused y =
               ap (λ (k : ℕ). several (loadFunction level) k bytes at) still ∙ one-refused level bytes (n - (i + 1)) total at y d in
-              let t : several (loadFunction level) n bytes start ≡ refused y =
-              refusal-of (several (loadFunction level) n bytes start)
+              let t : whole ≡ refused y =
+              refusal-of whole
               (m .counted ∙ ap (totalled total) s) in
               (k ∙ sym q ∙ ap (cursorOf length) (sym t), subst (λ (X : Result (List Function)). Wrote X outer first pl₀ pa₀ pl₁ pa₁) (sym t) tt)
             where
@@ -437,14 +441,14 @@ module _ (level : ℕ) (bytes : List ℕ) (start n outer first : ℕ) (pl₀ pa�
               refusal-of (refused z) r = let v : z ≡ y = cc in ap refused v
 
     pub midway-done : n ≤ i
-        → (At at total ≡ cursorOf length (several (loadFunction level) n bytes start))
-        × Wrote (several (loadFunction level) n bytes start) outer first pl₀ pa₀ pl pa
+        → (At at total ≡ cursorOf length whole)
+        × Wrote whole outer first pl₀ pa₀ pl pa
     unfolding several valuesOf parentsFrom
     midway-done h =
         let z : n - i ≡ 0 = omega arith in
         let y : total + 0 ≡ total = omega arith in (
           ap (At at) (sym y) ∙ ap (λ (k : ℕ). totalled total (several (loadFunction level) k bytes at)) (sym z) ∙ sym (m .counted)
-              ∙ totalled-none (several (loadFunction level) n bytes start),
+              ∙ totalled-none whole,
           m .rest pl pa
               (subst (λ (k : ℕ). Wrote (several (loadFunction level) k bytes at) outer (first + total) pl pa pl pa) (sym z)
               (λ a b. (put-laws .none pl (first + total), put-laws .none pa (first + total)))),

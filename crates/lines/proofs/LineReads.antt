@@ -19,22 +19,24 @@ use Rattle.lines.proofs.Ldebug as ldebug
 
 module _ (bytes : List ℕ) where
   -- ---- lineinfo
+  -- a vector of n, in m bytes
+  abbrev block : ℕ → ℕ → ℕ → Result Vector
+  block m n start = bind (loadBlock m bytes start) (λ _ at₂. done (record { start = start; count = n }) at₂)
+
   block-same : (n start : ℕ) (v : Vector) (past : ℕ)
-      → bind (loadBlock (1 * n) bytes start) (λ _ at₂. done (record { start = start; count = n }) at₂) ≡ done v past
-      → bind (loadBlock n bytes start) (λ _ at₂. done (record { start = start; count = n }) at₂) ≡ done v past
+      → block (1 * n) n start ≡ done v past → block n n start ≡ done v past
   block-same n start v past e =
       let z : n ≡ 1 * n = omega arith in
-      ap (λ (m : ℕ). bind (loadBlock m bytes start) (λ _ at₂. done (record { start = start; count = n }) at₂)) z ∙ e
+      ap (λ (m : ℕ). block m n start) z ∙ e
 
   limited : (n start : ℕ) (v : Vector) (past : ℕ) (b : Bool)
-      → only b (bind (loadBlock (1 * n) bytes start) (λ _ at₂. done (record { start = start; count = n }) at₂)) ≡ done v past
-      → bind (loadBlock n bytes start) (λ _ at₂. done (record { start = start; count = n }) at₂) ≡ done v past
+      → only b (block (1 * n) n start) ≡ done v past → block n n start ≡ done v past
   limited n start v past true e = block-same n start v past e
   limited n start v past false e = absurd (true≢false (cc))
 
   counted : (v : Vector) (past : ℕ) (X : Result ℕ)
-      → bind X (λ n at₁. only (leb n intMax) (bind (loadBlock (1 * n) bytes at₁) (λ _ at₂. done (record { start = at₁; count = n }) at₂))) ≡ done v past
-      → bind X (λ n at₁. bind (loadBlock n bytes at₁) (λ _ at₂. done (record { start = at₁; count = n }) at₂)) ≡ done v past
+      → bind X (λ n at₁. only (leb n intMax) (block (1 * n) n at₁)) ≡ done v past
+      → bind X (λ n at₁. block n n at₁) ≡ done v past
   counted v past (done n start) e = limited n start v past (leb n intMax) e
   counted v past (refused x) e = absurd (true≢false (cc))
 
