@@ -47,22 +47,26 @@ wrongBy o c j x l =
 abbrev isNone : StepClass → Bool
 isNone x = eqb (classNumber x) (classNumber invalid)
 
+abbrev standsFor : ℕ → Bool → Bool → Bool → Bool → Bool
+standsFor o c j x l = cond (isNone (classOf o)) false (standsBy (companionOf o) c j x l)
+
+abbrev agrees : ℕ → Bool → Bool → Bool → Bool → Bool
+agrees o c j x l = Bool·beq (standsFor o c j x l) (not (wrongBy o c j x l))
+
 companion-right : ℕ → Bool
-companion-right o =
-    both λ c. both λ j. both λ x. both λ l.
-    Bool·beq (cond (isNone (classOf o)) false (standsBy (companionOf o) c j x l)) (not (wrongBy o c j x l))
+companion-right o = both λ c. both λ j. both λ x. both (agrees o c j x)
 
 companions-right : T (all companion-right 64)
 unfolding companion-right classOf companionOf
 companions-right = tt
 
-companion-is : (o : ℕ) → o < 64 → (c j x l : Bool) → cond (isNone (classOf o)) false (standsBy (companionOf o) c j x l) ≡ not (wrongBy o c j x l)
+companion-is : (o : ℕ) → o < 64 → (c j x l : Bool) → standsFor o c j x l ≡ not (wrongBy o c j x l)
 unfolding companion-right
 companion-is o h c j x l =
-    agreed _ _ (either (λ l. Bool·beq (cond (isNone (classOf o)) false (standsBy (companionOf o) c j x l)) (not (wrongBy o c j x l)))
-    (either (λ x. both λ l. Bool·beq (cond (isNone (classOf o)) false (standsBy (companionOf o) c j x l)) (not (wrongBy o c j x l)))
-    (either (λ j. both λ x. both λ l. Bool·beq (cond (isNone (classOf o)) false (standsBy (companionOf o) c j x l)) (not (wrongBy o c j x l)))
-    (either (λ c. both λ j. both λ x. both λ l. Bool·beq (cond (isNone (classOf o)) false (standsBy (companionOf o) c j x l)) (not (wrongBy o c j x l)))
+    agreed _ _ (either (agrees o c j x)
+    (either (λ x. both (agrees o c j x))
+    (either (λ j. both λ x. both (agrees o c j x))
+    (either (λ c. both λ j. both λ x. both (agrees o c j x))
     (laws .each-below companion-right 64 companions-right o h) c) j) x) l)
 
 -- The column of step classes.
