@@ -3,10 +3,9 @@
 // beside them half of one for a function's words, in crate `owner`.
 ghost use mathlib.Core.Path.{_≡_};
 ghost use lib.ListN.{length};
-ghost use Rattle.common.specs.Limits.{fileBytes, mostFunctions, weightCount};
+ghost use Rattle.common.specs.Limits.{fileBytes, mostFunctions};
 use common::limits::FILE_BYTES;
 use common::limits::MOST_FUNCTIONS;
-use common::limits::WEIGHTS;
 
 pub fn bytes() -> [u8; FILE_BYTES]
     ensures { λ r. ⌜ fileBytes ≡ length r ⌝ }
@@ -21,8 +20,8 @@ pub fn places() -> [u64; MOST_FUNCTIONS]
 }
 
 // What each opcode weighs where nothing else is said.
-pub fn weights() -> [u8; WEIGHTS]
-    ensures { λ r. ⌜ weightCount ≡ length r ⌝ }
+pub fn weights() -> [u8; 128]
+    ensures { λ r. ⌜ 128 ≡ length r ⌝ }
 {
-    [1; WEIGHTS]
+    [1; 128]
 }

@@ -42,10 +42,7 @@ mostQuantum = 1000
 abbrev pub mostServices : ℕ
 mostServices = 4294967295
 
--- request C-17: "128 weights of 1 to 255": so many, and a weight is a byte
-abbrev pub weightCount : ℕ
-weightCount = 128
-
+-- request C-17: "128 weights of 1 to 255": a weight is a byte
 abbrev pub heaviestWeight : ℕ
 heaviestWeight = 255
 

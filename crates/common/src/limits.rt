@@ -30,9 +30,6 @@ pub const MOST_QUANTUM: u32 = 1000;
 // Document 01, "Meter", RULES 4: a meter's services stay at this.
 pub const MOST_SERVICES: u32 = 4294967295;
 
-// Number 18: a weight for each of the low seven bits (request C-17).
-pub const WEIGHTS: usize = 128;
-
 // Number 11: a meter's count is at most so much for each word up to the last (request C-17).
 pub const HEAVIEST_WEIGHT: usize = 255;
 

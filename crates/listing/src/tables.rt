@@ -11,9 +11,9 @@ use crate::paper::BUFFER;
 use crate::paper::PAGE;
 use crate::rows::put_listing;
 use common::limits::MOST_LINES;
-use common::limits::WEIGHTS;
 use fields::version::Version;
 use runs::Run;
+use runs::weighing::WEIGHTS;
 use sheet::Sheet;
 use sheet::inner::put_text;
 

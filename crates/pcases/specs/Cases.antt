@@ -7,7 +7,8 @@ use mathlib.Core.Bool.{Bool, true}
 use mathlib.Core.List.{List, [], _∷_, _++_}
 use lib.IntN.{ℤ, pos}
 use lib.ListN.{length, replicate}
-use Rattle.common.specs.Limits.{heaviestWeight, weightCount}
+use Rattle.common.specs.Limits.{heaviestWeight}
+use Rattle.runs.specs.Weights.{weightCount}
 use Rattle.fields.specs.lua54.Opcodes.{«OP_MOVE», «OP_LOADI», «OP_FORLOOP»}
 use Rattle.fields.specs.lua54.Events.{«TM_ADD»}
 use Rattle.fields.specs.lua54.Word.{opcodeOf, aOf, sbxOf}

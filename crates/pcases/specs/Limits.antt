@@ -4,7 +4,8 @@
 -- Assumes nothing.
 use Prim.Native.Nat.{ℕ}
 use mathlib.Core.Path.{_≡_}
-use Rattle.common.specs.Limits.{mostWords, mostConstants, mostNames, mostLines, heaviestWeight, weightCount}
+use Rattle.common.specs.Limits.{mostWords, mostConstants, mostNames, mostLines, heaviestWeight}
+use Rattle.runs.specs.Weights.{weightCount}
 
 pub record Limits : Type 0 where
   -- "more than 32,768 words"

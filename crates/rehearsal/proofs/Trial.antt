@@ -3,7 +3,8 @@
 use Prim.Native.Nat.{ℕ, zero, suc, _≤_}
 use native.Mathlib.Omega.{arith}
 use lib.ListN.{getD, replicate}
-use Rattle.common.specs.Limits.{heaviestWeight, weightCount}
+use Rattle.common.specs.Limits.{heaviestWeight}
+use Rattle.runs.specs.Weights.{weightCount}
 use Rattle.runs.specs.Counted.{ones}
 
 most-one : (n i : ℕ) → getD (replicate n 1) i 0 ≤ 1

@@ -8,7 +8,7 @@ use Rattle.fields.specs.declared.version.Version.{Version}
 use Rattle.fields.specs.declared.version.Version.the-variants.{Lua54, Lua53}
 use Rattle.sweep.specs.Steps.{Below}
 use Rattle.runs.specs.Script.{Script, stepsOf, slotOf, scriptOf, graphOf, Sound}
-use Rattle.common.specs.Limits.{weightCount}
+use Rattle.runs.specs.Weights.{weightCount}
 use Rattle.sweep.proofs.Laws as sweep
 use Rattle.steps.proofs.Laws as steps
 

@@ -11,8 +11,7 @@ use lib.ListN.{length, getD}
 use Rattle.common.specs.Lowest.{lowestFrom}
 use Rattle.common.proofs.Lowest.{lowest-laws}
 use Rattle.common.proofs.Order.{split, same-or-not}
-use Rattle.common.specs.Limits.{weightCount}
-use Rattle.runs.specs.Weights.{isZeroAt, lowestZero, refusesWeights, weightsPlace}
+use Rattle.runs.specs.Weights.{weightCount, isZeroAt, lowestZero, refusesWeights, weightsPlace}
 use Rattle.runs.specs.Laws.{Weighing}
 
 -- what `lowestZero` is

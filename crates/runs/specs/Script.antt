@@ -18,7 +18,7 @@ use Rattle.sweep.specs.declared.edges.Successors.{Successors}
 use Rattle.sweep.specs.Steps.{listOf, servesOf, Below}
 use Rattle.steps.specs.lua54.Successors as steps54
 use Rattle.steps.specs.lua53.Successors as steps53
-use Rattle.common.specs.Limits.{weightCount}
+use Rattle.runs.specs.Weights.{weightCount}
 
 pub record Script : Type 0 where
   -- n, the number of words

@@ -7,7 +7,11 @@ use Prim.Native.Nat.{ℕ, _≤_}
 use lib.Dec.{ltb, eqb}
 use lib.ListN.{length, getD}
 use Rattle.common.specs.Lowest.{lowestFrom}
-use Rattle.common.specs.Limits.{weightCount, heaviestWeight}
+use Rattle.common.specs.Limits.{heaviestWeight}
+
+-- "128 weights of 1 to 255"
+abbrev pub weightCount : ℕ
+weightCount = 128
 
 -- "a weight of 0"
 abbrev pub isZeroAt : List ℕ → ℕ → Bool

@@ -5,7 +5,7 @@ ghost use Rattle.runs.specs.Run.{runOf, marksAfter, lengthsAfter};
 ghost use Rattle.sweep.specs.SearchInvariants.{Lent};
 ghost use Rattle.runs.specs.Script.{scriptOf};
 ghost use Rattle.runs.specs.Outcome.{Searched, Decided};
-ghost use Rattle.common.specs.Limits.{weightCount};
+ghost use Rattle.runs.specs.Weights.{weightCount};
 use crate::script::settle_script;
 use crate::script::slot_mask;
 use crate::weighing::refuses_weights;

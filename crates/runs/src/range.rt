@@ -1,7 +1,7 @@
 // The longest run by a lowest and by a highest weight for every opcode (request C-18).
 ghost use mathlib.Core.Path.{_≡_};
 ghost use lib.ListN.{length};
-ghost use Rattle.common.specs.Limits.{weightCount};
+ghost use Rattle.runs.specs.Weights.{weightCount};
 ghost use Rattle.runs.specs.Script.{scriptOf};
 ghost use Rattle.sweep.specs.SearchInvariants.{Lent};
 ghost use Rattle.runs.specs.Range.{
@@ -15,10 +15,10 @@ ghost use Rattle.runs.specs.Range.{
 ghost use Rattle.runs.specs.Outcome.{Searched, DecidedBoth};
 use crate::longest::search_words;
 use crate::script::slot_mask;
+use crate::weighing::WEIGHTS;
 use crate::weighing::refuses_weights;
 use crate::weighing::weights_place;
 use common::Answer;
-use common::limits::WEIGHTS;
 use common::numbers::*;
 use common::sizes::room_refusal;
 use common::widths::smaller_size;

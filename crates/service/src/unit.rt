@@ -2,10 +2,10 @@
 ghost use Rattle.runs.specs.Script.{scriptOf};
 ghost use Rattle.runs.specs.Outcome.{Searched, Decided};
 ghost use Rattle.runs.specs.Counted.{ones};
-use common::limits::WEIGHTS;
 use fields::version::Version;
 use runs::Run;
 use runs::inner::measure_run;
+use runs::weighing::WEIGHTS;
 
 // The run of words that are searched: their lengths take the place of their entries.
 pub(crate) fn unit_run(version: Version, words: &[u32], marks: &[u8], lengths: &mut [u32]) -> Run

@@ -3,7 +3,7 @@ use mathlib.Core.Bool.{Bool}
 use mathlib.Core.Logic.{⊎-elim}
 use Prim.Native.Nat.{_+_, _-_}
 use native.Mathlib.Omega.{arith}
-use Rattle.common.specs.Limits.{weightCount}
+use Rattle.runs.specs.Weights.{weightCount}
 use Rattle.runs.proofs.BothTables.{Refusing, refusing-none, refusing-zero, refusing-positive, refusing-above, refusing-ordered, refusing-done}
 use Rattle.runs.proofs.range.has_refused.Statement.{statement}
 use Rattle.runs.proofs.range.has_refused.Tie as tie

@@ -4,7 +4,7 @@ use native.Mathlib.Omega.{arith}
 use borrow.Author.Tests.{lt-ltb, le-ltb}
 use Rattle.common.specs.Lowest.{lowestFrom}
 use Rattle.common.proofs.Lowest.{lowest-laws}
-use Rattle.common.specs.Limits.{weightCount}
+use Rattle.runs.specs.Weights.{weightCount}
 use Rattle.runs.specs.Range.{isAbove, lowestAbove}
 use Rattle.runs.proofs.range.lowest_above.Statement.{statement}
 use Rattle.runs.proofs.range.lowest_above.Tie as tie

@@ -2,8 +2,7 @@ use mathlib.Core.Path.{_≡_, sym, _∙_}
 use mathlib.Core.Bool.{false}
 use borrow.Author.Needs.{needs}
 use lib.ListN.{length}
-use Rattle.common.specs.Limits.{weightCount}
-use Rattle.runs.specs.Weights.{refusesWeights}
+use Rattle.runs.specs.Weights.{weightCount, refusesWeights}
 use Rattle.runs.proofs.Weights.{weight-laws}
 use Rattle.runs.proofs.BothTables.{ranges-of, refusing-left, range-low, range-high, range-above, range-passed}
 use Rattle.runs.proofs.range.range_refusal.Statement.{statement}

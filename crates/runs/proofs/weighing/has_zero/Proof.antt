@@ -3,7 +3,7 @@ use mathlib.Core.Bool.{Bool}
 use mathlib.Core.Logic.{⊎-elim}
 use Prim.Native.Nat.{_+_, _-_}
 use native.Mathlib.Omega.{arith}
-use Rattle.common.specs.Limits.{weightCount}
+use Rattle.runs.specs.Weights.{weightCount}
 use Rattle.runs.proofs.Weights.{Zeros, zeros-none, zeros-here, zeros-on, zeros-done}
 use Rattle.runs.proofs.weighing.has_zero.Statement.{statement}
 use Rattle.runs.proofs.weighing.has_zero.Tie as tie

@@ -4,8 +4,7 @@ use native.Mathlib.Omega.{arith}
 use borrow.Author.Tests.{eq-eqb, ne-eqb}
 use Rattle.common.specs.Lowest.{lowestFrom}
 use Rattle.common.proofs.Lowest.{lowest-laws}
-use Rattle.common.specs.Limits.{weightCount}
-use Rattle.runs.specs.Weights.{isZeroAt}
+use Rattle.runs.specs.Weights.{weightCount, isZeroAt}
 use Rattle.runs.proofs.Weights.{place-count, place-zero}
 use Rattle.runs.proofs.weighing.weights_place.Statement.{statement}
 use Rattle.runs.proofs.weighing.weights_place.Tie as tie
