@@ -19,14 +19,15 @@ use Rattle.graph.specs.Assignment.{cut, someBelow, readsUnset, unsetAt, lowestU
 use Rattle.graph.proofs.Laws as graph
 use Rattle.runs.specs.Script.{lua54, graphOf}
 use Rattle.sweep.specs.Steps.{isInvalid}
-use Rattle.steps.specs.Successors.{successorsOf}
+use Rattle.steps.specs.lua54.Successors.{successorsOf}
 use Rattle.runs.specs.Run.{reachesInvalid, lowestInvalid}
 use Rattle.touches.specs.Touches.{touchesOf}
 use Rattle.touches.specs.Meaning.{rangesIn}
 use Rattle.assignment.specs.Uses.{readsBy, setsBy, registersOf, usageOf}
 use Rattle.assignment.specs.Answers.{unsetOf}
 use Rattle.assignment.specs.declared.search.Seen.{Seen}
-use Rattle.assignment.specs.Blocks.{mostRegisters, hasBit, losesBit, graphAt, Sees, Hits, BlockSearched, RegistersEnd, marked, unsetBelow, Rest}
+use Rattle.common.specs.Limits.{mostRegisters}
+use Rattle.assignment.specs.Blocks.{hasBit, losesBit, graphAt, Sees, Hits, BlockSearched, RegistersEnd, marked, unsetBelow, Rest}
 use Rattle.assignment.proofs.Bits.{zero-bit, full-every, some-bit}
 use Rattle.assignment.proofs.Some.{none-of, some-at, none-at, some-stays}
 use Rattle.assignment.proofs.Moves.{without-in, in-without}

@@ -16,7 +16,7 @@ use Rattle.fields.specs.declared.version.Version.the-variants.{Lua54}
 use Rattle.sweep.specs.declared.edges.Successors.{Successors}
 use Rattle.sweep.specs.declared.edges.Successors.the-variants.{One, Two}
 use Rattle.sweep.specs.Steps.{Below}
-use Rattle.steps.specs.Successors.{successorsOf}
+use Rattle.steps.specs.lua54.Successors.{successorsOf}
 use Rattle.runs.proofs.Laws as runs
 use Rattle.assignment.specs.Blocks.{«EVERY», WordWaits, Paged, Finds, SearchRoom, JoinAsks, SpreadAsks, Started}
 

@@ -17,7 +17,8 @@ use Rattle.touches.specs.declared.answer.Touches.{Touches}
 use Rattle.touches.specs.Meaning.{rangesIn}
 use Rattle.assignment.specs.declared.search.Seen.{Seen}
 use Rattle.assignment.specs.Uses.{inRange, inRanges, readsBy, setsBy, endOf}
-use Rattle.assignment.specs.Blocks.{mostRegisters, nextIn, «ALL», hasBit, HoldsBits, HitsBy, BlockNotes}
+use Rattle.common.specs.Limits.{mostRegisters}
+use Rattle.assignment.specs.Blocks.{nextIn, «ALL», hasBit, HoldsBits, HitsBy, BlockNotes}
 use Rattle.assignment.proofs.Within.{next-from}
 use Rattle.assignment.proofs.Bits.{and-bit, or-bit, zero-bit, full, full-power, full-all, full-every, full-few, not-bit, full-bit, small-bit, some-bit}
 

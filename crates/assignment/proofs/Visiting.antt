@@ -10,7 +10,7 @@ use lib.Bits.{and-le-l}
 use lib.Dec.{ltb}
 use lib.ListN.{length, getD, set, length-set}
 use lib.Seq.{getD-set-other}
-use Rattle.common.specs.Limits.{mostWords}
+use Rattle.common.specs.Limits.{mostWords, mostRegisters}
 use Rattle.common.proofs.Order.{split, same-or-not}
 use Rattle.common.proofs.Stores.{at-set}
 use Rattle.graph.specs.Graph.{In, Lawful, Reachable}
@@ -21,13 +21,13 @@ use Rattle.sweep.specs.declared.edges.Successors.{Successors}
 use Rattle.sweep.specs.declared.edges.Successors.the-variants.{Invalid, Stop, One, Two}
 use Rattle.runs.specs.Script.{lua54, graphOf}
 use Rattle.sweep.specs.Steps.{listOf}
-use Rattle.steps.specs.Successors.{successorsOf}
+use Rattle.steps.specs.lua54.Successors.{successorsOf}
 use Rattle.runs.proofs.Laws as runs
 use Rattle.touches.specs.declared.answer.Touches.{Touches}
 use Rattle.touches.specs.Touches.{touchesOf}
 use Rattle.assignment.specs.Uses.{setsBy}
 use Rattle.assignment.specs.declared.search.Seen.{Seen}
-use Rattle.assignment.specs.Blocks.{mostRegisters, «EVERY», bitCount, hasBit, HoldsBits, WordWaits}
+use Rattle.assignment.specs.Blocks.{«EVERY», bitCount, hasBit, HoldsBits, WordWaits}
 use Rattle.assignment.specs.Blocks.{Paged, Next, SearchRoom, leaves, Steps, Spreads, BlockNotes}
 use Rattle.assignment.specs.Blocks.{Started, losesBit, graphAt, Hits, Done, Under, Searching}
 use Rattle.assignment.specs.Blocks.{BlockVisits, left, BlockSearched}

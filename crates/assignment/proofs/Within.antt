@@ -11,7 +11,8 @@ use lib.ListN.{length, getD, take}
 use Rattle.touches.specs.declared.answer.Range.{Range}
 use Rattle.touches.specs.Meaning.{Within}
 use Rattle.assignment.specs.Uses.{inRange, inRanges, endOf}
-use Rattle.assignment.specs.Blocks.{mostRegisters, nextRegister, nextIn}
+use Rattle.common.specs.Limits.{mostRegisters}
+use Rattle.assignment.specs.Blocks.{nextRegister, nextIn}
 
 -- the test is that of the relation
 in-within : (r : ℕ) (xs : List Range) → inRanges r xs ≡ true → Within r xs

@@ -10,7 +10,7 @@ use Prim.Native.Nat.{ℕ, zero, suc, _+_, _*_, _-_, _/_, _%_, _≤_, _<_, min, m
 use lib.Bits.{bitAnd, bitOr}
 use lib.Dec.{leb, ltb, eqb}
 use lib.ListN.{length, getD, set}
-use Rattle.common.specs.Limits.{mostWords}
+use Rattle.common.specs.Limits.{mostWords, mostRegisters}
 use Rattle.common.specs.Lowest.{lowest}
 use Rattle.graph.specs.Graph.{Graph, In, Reachable}
 use Rattle.graph.specs.Assignment.{cut, someBelow, readsUnset}
@@ -19,7 +19,7 @@ use Rattle.sweep.specs.declared.edges.Successors.{Successors}
 use Rattle.sweep.specs.declared.edges.Successors.the-variants.{Invalid, Stop, One, Two}
 use Rattle.runs.specs.Script.{lua54, graphOf}
 use Rattle.sweep.specs.Steps.{isInvalid, Below}
-use Rattle.steps.specs.Successors.{successorsOf}
+use Rattle.steps.specs.lua54.Successors.{successorsOf}
 use Rattle.touches.specs.declared.answer.Range.{Range}
 use Rattle.touches.specs.declared.answer.Touches.{Touches}
 use Rattle.touches.specs.Touches.{touchesOf}
@@ -28,10 +28,6 @@ use Rattle.assignment.specs.declared.search.Seen.{Seen}
 use Rattle.assignment.specs.Uses.{readsBy, setsBy, endOf, readsEnd, usageOf}
 
 -- Sets of registers
-
--- registers are numbers of 16 bits, so many of them
-abbrev pub mostRegisters : ℕ
-mostRegisters = 65536
 
 -- the lowest register from r on in a range, and in one of several; past all registers if there is none
 abbrev pub nextRegister : ℕ → Range → ℕ

@@ -6,21 +6,14 @@ ghost use lib.Dec.{ltb};
 ghost use lib.ListN.{length};
 ghost use Rattle.touches.specs.Meaning.{rangesIn};
 ghost use Rattle.assignment.specs.Uses.{inRange, inRanges, endOf, setsBy};
-ghost use Rattle.assignment.specs.Blocks.{
-  mostRegisters,
-  nextRegister,
-  nextIn,
-  TouchesListed,
-  HoldsBits,
-};
+ghost use Rattle.common.specs.Limits.{mostRegisters};
+ghost use Rattle.assignment.specs.Blocks.{nextRegister, nextIn, TouchesListed, HoldsBits};
+use common::limits::MOST_REGISTERS;
 use common::widths::larger_size;
 use common::widths::smaller_size;
 use touches::Touches;
 use touches::answer::Range;
 use touches::answer::Ranges;
-
-// Registers are numbers of 16 bits, so many of them.
-pub(crate) const MOST_REGISTERS: usize = 65536;
 
 // So many registers a block has.
 pub(crate) const BLOCK: usize = 63;

@@ -8,7 +8,8 @@ ghost use lib.ListN.{length};
 ghost use Rattle.common.specs.Lists.{over};
 ghost use Rattle.sweep.specs.Steps.{isInvalid};
 ghost use Rattle.touches.specs.Table.{accessTable};
-ghost use Rattle.assignment.specs.Blocks.{mostRegisters, TouchesListed, SearchRoom, JoinAsks, Joins};
+ghost use Rattle.common.specs.Limits.{mostRegisters};
+ghost use Rattle.assignment.specs.Blocks.{TouchesListed, SearchRoom, JoinAsks, Joins};
 ghost use Rattle.assignment.specs.Blocks.{
   SpreadAsks,
   Spreads,
@@ -18,14 +19,14 @@ ghost use Rattle.assignment.specs.Blocks.{
   BlockSearched,
 };
 use crate::ranges::BLOCK;
-use crate::ranges::MOST_REGISTERS;
 use crate::ranges::in_ranges;
 use crate::ranges::next_in;
 use crate::ranges::set_by;
 use crate::waiting::PAGE;
 use crate::waiting::next_waiting;
+use common::limits::MOST_REGISTERS;
 use common::widths::smaller_size;
-use steps::successors::successors;
+use steps::lua54::successors::successors;
 use sweep::edges::Successors;
 use touches::Touches;
 use touches::word::touches_in;

@@ -242,6 +242,10 @@ module _ (lang : List ℕ → Script) (callee : Name) where
     abbrev Weighs : Fml
     Weighs = ShrSlice (named 1) κ₂ u8 .own ts (t ∷ [])
 
+    -- the callee's tokens
+    abbrev tokens : Item 𝓤
+    tokens = ‵ (flft κ q) ⊛ ‵ (flft κ₂ q₂) ⊛ ‵ ftrue
+
     abbrev Arg : Type 0
     Arg = RefT (List ℕ) × (RefT (List ℕ) × (RefT Meters × (ℕ × (ℕ × (ℕ × Unit {0})))))
 
@@ -272,7 +276,7 @@ module _ (lang : List ℕ → Script) (callee : Name) where
 
     asked : ent 𝓤 (onEntry 𝓤 H A step.signature (κ, (κ₂, tt)) (q, (q₂, tt)) y passed) (Stepped 𝓤 H A .pre to)
     asked =
-        qed W ((‵ (flft κ q) ⊛ ‵ (flft κ₂ q₂) ⊛ ‵ ftrue)
+        qed W (tokens
         ∷ ‵ (owns
         (ShrSlice (named 0) κ u32 ∷ ShrSlice (named 1) κ₂ u8 ∷ T.the-row ∷ u32 ∷ u32 ∷ usize ∷ []) y
         passed)
@@ -290,11 +294,11 @@ module _ (lang : List ℕ → Script) (callee : Name) where
     exits : (a : FlatAnswer) (h′ : Meters) → a ≡ found .answer → h′ ≡ found .meters → Is N.the-row a (answer-vals a)
         → ent 𝓤
         (⋆ 𝓤 H A (‵ (fobs γ (T.the-row .coded .code h′)) ∷ ‵ (fbor κ′ (Body (mem T.the-row) b o γ))
-        ∷ ‵ (flft κ′ q′) ∷ (‵ (flft κ q) ⊛ ‵ (flft κ₂ q₂) ⊛ ‵ ftrue) ∷ ‵ Weighs ∷ ‵ Own ∷ []))
+        ∷ ‵ (flft κ′ q′) ∷ tokens ∷ ‵ Weighs ∷ ‵ Own ∷ []))
         (Post (only (answer-vals a)))
     exits a h′ ea eh is =
         qed W (‵ (fobs γ (T.the-row .coded .code h′)) ∷ ‵ (fbor κ′ (Body (mem T.the-row) b o γ))
-        ∷ ‵ (flft κ′ q′) ∷ (‵ (flft κ q) ⊛ ‵ (flft κ₂ q₂) ⊛ ‵ ftrue) ∷ ‵ Weighs ∷ ‵ Own ∷ []) ∵
+        ∷ ‵ (flft κ′ q′) ∷ tokens ∷ ‵ Weighs ∷ ‵ Own ∷ []) ∵
         suffices ! _ (ends-at 𝓤 H A f.ended stayed (clauses 𝓤) W
         (((κ, (κ₂, (κ′, tt))), (q, (q₂, (q′, tt))), tt, x, at), tt) (only (answer-vals a)) a
         (tt, (tt, (h′, (tt, (tt, (tt, tt)))))) (tt, (tt, (tt, (tt, (tt, (tt, tt))))))) $
@@ -320,7 +324,7 @@ module _ (lang : List ℕ → Script) (callee : Name) where
 
       abbrev After : Meters → Fed → List (Item 𝓤)
       After h′ r =
-          (‵ (flft κ q) ⊛ ‵ (flft κ₂ q₂) ⊛ ‵ ftrue) ∷ ‵ (cellAt fullShare (T.the-row .mir) (vals h′) b o)
+          tokens ∷ ‵ (cellAt fullShare (T.the-row .mir) (vals h′) b o)
           ∷ ‵ (fobor κ′ q′ (Body (mem T.the-row) b o γ)) ∷ ‵ (fobs γ (T.the-row .coded .code h))
           ∷ ‵ (fauth γ (T.the-row .coded .code h)) ∷ ‵ Weighs ∷ ‵ Own
           ∷ ‵ (fat fullShare T′.mir l₈ 0 (only (vals h))) ∷ ‵ (fdies T′.mir l₈) ∷ ‵ (fat fullShare F′.mir l₇ 0 (only (fed-vals r))) ∷ ‵ (fdies F′.mir l₇)
@@ -456,7 +460,7 @@ module _ (lang : List ℕ → Script) (callee : Name) where
           (λ u.
           use1 W
           (later (some
-          (λ (r : Fed). ((‵ (flft κ q) ⊛ ‵ (flft κ₂ q₂) ⊛ ‵ ftrue) ⊛ ‵ (F.the-row .own r (u ∷ [])))
+          (λ (r : Fed). (tokens ⊛ ‵ (F.the-row .own r (u ∷ [])))
           ⊛ raw (ensured 𝓤 H A step.ended (own-clauses 𝓤) (κ, (κ₂, tt)) y tt r))))
           (id⊢ 𝓤 _) $
           await ! tt $ pick ! (λ r.

@@ -28,20 +28,24 @@ module _ (g : Scale) (ms : Meters) (i s q : ℕ) where
   abbrev f : Fed
   f = feedOf g (meterOf ms i) q
 
+  -- all four then
+  abbrev sum : ℕ
+  sum = sumOf (withMeter ms i (f .meter))
+
   -- what holds of the outcomes of a feed, each with what led to it, holds of the feed
   outcomes : (P : FedFour → Type 0)
       → P (refusedFour «NO_SCRIPT» ms)
       → P (refusedFour «BUDGET_RANGE» ms)
       → (eqb (f .answer .number) «ACCEPTED» ≡ false → P (record { meters = ms; answer = f .answer }))
-      → (i ≤ 3 → f .answer .number ≡ «ACCEPTED» → s < sumOf (withMeter ms i (f .meter)) → P (refusedFour «OVER_BUDGET» ms))
-      → (f .answer .number ≡ «ACCEPTED» → sumOf (withMeter ms i (f .meter)) ≤ s → P (record { meters = withMeter ms i (f .meter); answer = f .answer }))
+      → (i ≤ 3 → f .answer .number ≡ «ACCEPTED» → s < sum → P (refusedFour «OVER_BUDGET» ms))
+      → (f .answer .number ≡ «ACCEPTED» → sum ≤ s → P (record { meters = withMeter ms i (f .meter); answer = f .answer }))
       → P (feedFourOf g ms i s q)
   unfolding feedFourOf settleFour
   outcomes P none range refused over accepted =
-      go (ltb lastScript i) refl (isOutOfRange s) (eqb (f .answer .number) «ACCEPTED») refl (ltb s (sumOf (withMeter ms i (f .meter)))) refl
+      go (ltb lastScript i) refl (isOutOfRange s) (eqb (f .answer .number) «ACCEPTED») refl (ltb s sum) refl
     where
       go : (t : Bool) → ltb lastScript i ≡ t → (u v : Bool) → eqb (f .answer .number) «ACCEPTED» ≡ v
-          → (w : Bool) → ltb s (sumOf (withMeter ms i (f .meter))) ≡ w
+          → (w : Bool) → ltb s sum ≡ w
           → P (refuseIf t (refusedFour «NO_SCRIPT» ms)
           (refuseIf u (refusedFour «BUDGET_RANGE» ms) (refuseIf (not v)
           (record { meters = ms; answer = f .answer }) (refuseIf w (refusedFour «OVER_BUDGET» ms)
@@ -82,7 +86,7 @@ module _ (g : Scale) (ms : Meters) (i s q : ℕ) where
         le-ltb lastScript i l,
         r,
         eq-eqb (f .answer .number) «ACCEPTED» e,
-        lt-ltb s (sumOf (withMeter ms i (f .meter)))
+        lt-ltb s sum
             (subst (λ (k : ℕ). s < k) (sym (sum-after ms (f .meter) i l)) b),
       )
 
@@ -98,7 +102,7 @@ module _ (g : Scale) (ms : Meters) (i s q : ℕ) where
   -- a feed that neither 20 nor 21 refuses is answered neither
   settled-plain : (n : ℕ) → turnsBack n ≡ true → (n ≡ «OVER_BUDGET» → ⊥) → settleFour ms i s f .answer .number ≡ n → ⊥
   unfolding settleFour
-  settled-plain n b d = go (not (eqb (f .answer .number) «ACCEPTED»)) (ltb s (sumOf (withMeter ms i (f .meter))))
+  settled-plain n b d = go (not (eqb (f .answer .number) «ACCEPTED»)) (ltb s sum)
     where
       plain : f .answer .number ≡ n → ⊥
       plain h = true≢false (sym b ∙ ap turnsBack (sym h) ∙ fed-plain g (meterOf ms i) q .own)
@@ -142,7 +146,7 @@ module _ (g : Scale) (ms : Meters) (i s q : ℕ) where
       → (feedFourOf g ms i s q .answer .number ≡ «ACCEPTED») × (feedFourOf g ms i s q .meters ≡ withMeter ms i (f .meter))
   unfolding feedFourOf settleFour
   taken l r e b =
-      let w = le-ltb s (sumOf (withMeter ms i (f .meter))) (subst (λ (k : ℕ). k ≤ s) (sym (sum-after ms (f .meter) i l)) b) in
+      let w = le-ltb s sum (subst (λ (k : ℕ). k ≤ s) (sym (sum-after ms (f .meter) i l)) b) in
       (rw (le-ltb lastScript i l, r, eq-eqb (f .answer .number) «ACCEPTED» e, w) e, rw (le-ltb lastScript i l, r, eq-eqb (f .answer .number) «ACCEPTED» e, w))
 
 range : (s : ℕ) → (isOutOfRange s ≡ false) ↔ ((0 < s) × (s ≤ 16777216))

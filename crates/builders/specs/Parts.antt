@@ -3,7 +3,7 @@
 use Prim.Native.Nat.{ℕ, _+_, _-_}
 use mathlib.Core.List.{List, [], _∷_}
 use lib.Dec.{eqb, leb}
-use Rattle.fields.specs.Events.{«TM_LEN», «TM_EQ», «TM_ADD»}
+use Rattle.fields.specs.lua54.Events.{«TM_LEN», «TM_EQ», «TM_ADD»}
 use Rattle.values.specs.declared.ir.TypedOperand.{TypedOperand}
 use Rattle.values.specs.declared.ir.TypedOperand.the-variants as O
 use Rattle.values.specs.declared.ir.EffectTarget.{EffectTarget}

@@ -19,7 +19,7 @@ ghost use Rattle.builders.specs.Parts.{
   results,
 };
 use crate::builders::*;
-use fields::events::*;
+use fields::lua54::events::*;
 use values::ir::EffectTarget;
 use values::ir::Reads;
 use values::ir::TypedOperand;

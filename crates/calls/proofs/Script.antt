@@ -11,7 +11,7 @@ use lib.ListN.{length}
 use Rattle.common.specs.Numbers.{«ACCEPTED»}
 use Rattle.common.specs.Lowest.{lowestFrom}
 use Rattle.common.proofs.Order.{split}
-use Rattle.fields.specs.Table.{classOf, companionOf}
+use Rattle.fields.specs.lua54.Table.{classOf, companionOf}
 use Rattle.graph.specs.Graph.{Graph, In, Along, Path}
 use Rattle.graph.specs.Marks.{leads, markOf}
 use Rattle.graph.specs.Longest.{within, heaviest, lengthOf, most, longest, first}
@@ -19,7 +19,7 @@ use Rattle.graph.specs.Meaning.{Meaning}
 use Rattle.graph.proofs.Laws as graph
 use Rattle.graph.proofs.Meaning.{meaning}
 use Rattle.sweep.specs.Steps.{unless, one, ordered, two, servesOf}
-use Rattle.steps.specs.Successors.{opcodeAt, isBetween, companionPresent, successorsOf}
+use Rattle.steps.specs.lua54.Successors.{opcodeAt, isBetween, companionPresent, successorsOf}
 use Rattle.fields.specs.declared.version.Version.{Version}
 use Rattle.runs.specs.Script.{Script, scriptOf, lua54, graphOf, weightOf, Sound}
 use Rattle.runs.specs.Weights.{lowestZero, refusesWeights, Weighs}
@@ -104,16 +104,19 @@ module _ (weights : List ℕ) (weighs : Weighs weights) (ws : Script) (sound : S
 -- The functions of a script.
 
 module _ (weights : List ℕ) (rest : Script → ℕ → ℕ) where
+  abbrev functions : List Script → List GraphFunction
+  functions script = functionsFrom weights rest script
+
   abbrev pub Named : List Script → GraphFunction → Type 0
   Named script f = (ws : Script) × In ws script × (f ≡ functionOf weights rest ws)
 
-  pub named : (script : List Script) (f : GraphFunction) → In f (functionsFrom weights rest script) → Named script f
+  pub named : (script : List Script) (f : GraphFunction) → In f (functions script) → Named script f
   named [] f i = absurd i
   named (ws ∷ script) f (inl e) = (ws, inl refl, e)
   named (ws ∷ script) f (inr i) = let n = named script f i in (n .0, inr (n .1), n .2)
 
   largest-is : (script : List Script) → ((ws : Script) → In ws script → longestRun (functionOf weights rest ws) ≡ longestOf (runAnswerOf weights ws))
-      → largestRun (functionsFrom weights rest script) ≡ largestAnswer weights script
+      → largestRun (functions script) ≡ largestAnswer weights script
   largest-is [] h = refl
   largest-is (ws ∷ script) h = ap₂ max (h ws (inl refl)) (largest-is script (λ vs i. h vs (inr i)))
 
@@ -141,7 +144,7 @@ module _ (weights : List ℕ) (rest : Script → ℕ → ℕ) where
               a rest (n .2) (subst (λ (h : GraphFunction). Path (h .graph) (a .words)) (n .2) path);
         }
 
-    bounded-by : (moves : List Move) (c : Control) → Bounded (functionsFrom weights rest script) moves c → ScriptBounded weights rest script moves c
+    bounded-by : (moves : List Move) (c : Control) → Bounded (functions script) moves c → ScriptBounded weights rest script moves c
     bounded-by moves c b =
         record {
           answers = answers;
@@ -150,9 +153,9 @@ module _ (weights : List ℕ) (rest : Script → ℕ → ℕ) where
           meters = λ a i. metered a (named script (a .function) (b .known a i)) (b .paths a i);
         }
 
-    bounded : (moves : List Move) → Run (functionsFrom weights rest script) idle moves → ScriptBounded weights rest script moves (controlAfter idle moves)
+    bounded : (moves : List Move) → Run (functions script) idle moves → ScriptBounded weights rest script moves (controlAfter idle moves)
     bounded moves r =
-        bounded-by moves (controlAfter idle moves) (calls-bounded (functionsFrom weights rest script) (λ f i. fit-of f (named script f i)) moves r)
+        bounded-by moves (controlAfter idle moves) (calls-bounded (functions script) (λ f i. fit-of f (named script f i)) moves r)
 
 pub scripts-bounded : ScriptsBounded
 scripts-bounded = bounded

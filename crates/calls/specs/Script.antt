@@ -8,7 +8,7 @@ use mathlib.Core.List.{List, [], _∷_}
 use Prim.Native.Nat.{ℕ, _*_, _≤_, _<_, max}
 use lib.ListN.{length, replicate}
 use Rattle.common.specs.Numbers.{«ACCEPTED»}
-use Rattle.fields.specs.Opcodes.{«OP_MOVE», «OP_CALL», «OP_RETURN0»}
+use Rattle.fields.specs.lua54.Opcodes.{«OP_MOVE», «OP_CALL», «OP_RETURN0»}
 use Rattle.fields.specs.declared.version.Version.{Version}
 use Rattle.graph.specs.Graph.{In}
 use Rattle.runs.specs.declared.longest.Run.{Run}

@@ -1,6 +1,6 @@
 -- `specs/Places.antt` holds of the function that is chosen. Assumes nothing.
 use mathlib.Core.Path.{_≡_, refl, sym, _∙_, ap}
-use mathlib.Core.Bool.{Bool, true, false}
+use mathlib.Core.Bool.{Bool, true, false, true≢false}
 use mathlib.Core.List.{List, [], _∷_}
 use Prim.Native.Nat.{ℕ, zero, suc, _+_, _*_, _/_, _%_, _^_, _≤_, _<_}
 use native.Mathlib.Omega.{arith}
@@ -134,7 +134,7 @@ accepted-few k bytes f at h = go (leb (length bytes) mostBytes) refl h
   where
     go : (b : Bool) → leb (length bytes) mostBytes ≡ b → only b (bind (undump bytes 0) (pick k)) ≡ done f at → length bytes ≤ mostBytes
     go true e h = leb-true (length bytes) mostBytes e
-    go false e h = absurd (let z : _≡_ {A = ℕ} 0 1 = cc in omega arith)
+    go false e h = absurd (true≢false (cc))
 
 pub places : (k : ℕ) (bytes : List ℕ) (f : Function) (at : ℕ) → chosen k bytes ≡ done f at → Places bytes f
 places k bytes f at h = places-of bytes (accepted-few k bytes f at h) f (stands-as (chosen k bytes) h (chosen-stands bytes k))

@@ -3,21 +3,18 @@
 // beside them half of one for a function's words, in crate `owner`.
 ghost use mathlib.Core.Path.{_≡_};
 ghost use lib.ListN.{length};
-
-// Bytes of a file.
-pub const FILE_BYTES: usize = 4194304;
-
-// Functions of a file.
-pub const MOST_FUNCTIONS: usize = 131072;
+ghost use Rattle.common.specs.Limits.{fileBytes, mostFunctions};
+use common::limits::FILE_BYTES;
+use common::limits::MOST_FUNCTIONS;
 
 pub fn bytes() -> [u8; FILE_BYTES]
-    ensures { λ r. ⌜ 4194304 ≡ length r ⌝ }
+    ensures { λ r. ⌜ fileBytes ≡ length r ⌝ }
 {
     [0; FILE_BYTES]
 }
 
 pub fn places() -> [u64; MOST_FUNCTIONS]
-    ensures { λ r. ⌜ 131072 ≡ length r ⌝ }
+    ensures { λ r. ⌜ mostFunctions ≡ length r ⌝ }
 {
     [0; MOST_FUNCTIONS]
 }

@@ -23,17 +23,25 @@ answer number place = record { number = number; place = place }
 abbrev pub accepted : Answer
 accepted = answer «ACCEPTED» 0
 
--- 1, 6 and 7, in this order: of n words, whether a lent result slice is too short for them, and what the
--- later checks say
-abbrev pub refuseSizes : {X : Type 0} → (ℕ → X) → ℕ → Bool → X → X
-refuseSizes refused n short later =
+-- 1 and 6, in this order: of n words, whether a lent result slice is too short for them, and what the later
+-- checks say
+abbrev pub refuseRoom : {X : Type 0} → (ℕ → X) → ℕ → Bool → X → X
+refuseRoom refused n short later =
     -- "more than 32,768 words"
     refuseIf (ltb mostWords n) (refused «TOO_MANY_WORDS»)
     -- "a lent result slice shorter than the words"
-    (refuseIf short (refused «SHORT_SLICE»)
+    (refuseIf short (refused «SHORT_SLICE») later)
+
+-- and 7 after them
+abbrev pub refuseSizes : {X : Type 0} → (ℕ → X) → ℕ → Bool → X → X
+refuseSizes refused n short later =
+    refuseRoom refused n short
     -- "no words"
-    (refuseIf (eqb n 0) (refused «NO_WORDS») later))
+    (refuseIf (eqb n 0) (refused «NO_WORDS») later)
 
 -- their number alone, 0 if none refuses: of n words, and the length of the shortest lent result slice
+unfoldable pub roomNumber : ℕ → ℕ → ℕ
+roomNumber n room = refuseRoom (λ (number : ℕ). number) n (ltb room n) «ACCEPTED»
+
 unfoldable pub sizesNumber : ℕ → ℕ → ℕ
 sizesNumber n room = refuseSizes (λ (number : ℕ). number) n (ltb room n) «ACCEPTED»

@@ -66,3 +66,14 @@ intMax = 2147483647
 -- llimits.h: LUAI_MAXSHORTLEN; "A string's tag is 4 up to 40 bytes and 20 above"
 abbrev pub shortLength : ℕ
 shortLength = 40
+
+-- request C-14: ranges of registers "use 16 bits": so many registers there are
+abbrev pub mostRegisters : ℕ
+mostRegisters = 65536
+
+-- the owner's command: bytes of a file, and functions in it, that there is room for; more are refused by 6
+abbrev pub fileBytes : ℕ
+fileBytes = 4194304
+
+abbrev pub mostFunctions : ℕ
+mostFunctions = 131072

@@ -46,3 +46,11 @@ pub const INT_MAX: usize = 2147483647;
 
 // LUAI_MAXSHORTLEN.
 pub const SHORT_LENGTH: usize = 40;
+
+// Registers are numbers of 16 bits, so many of them (request C-14).
+pub const MOST_REGISTERS: usize = 65536;
+
+// Number 6, of the owner's command: bytes of a file, and functions in it.
+pub const FILE_BYTES: usize = 4194304;
+
+pub const MOST_FUNCTIONS: usize = 131072;

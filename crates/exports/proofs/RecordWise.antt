@@ -10,6 +10,7 @@ use lib.ListN.{length, take, drop}
 use lib.Seq.{take-at, drop-at}
 use borrow.Author.Tests.{eq-eqb, eqb-true, eqb-false}
 use Rattle.common.specs.Chain.{choose}
+use Rattle.values.specs.declared.ir.SemanticInstruction.{SemanticInstruction}
 use Rattle.records.specs.Lift.{liftOf}
 use Rattle.records.specs.Refusals.{answerOf, planOf}
 use Rattle.records.proofs.Laws.{plan-laws}
@@ -18,34 +19,41 @@ use Rattle.common.proofs.Put.{put-laws}
 use Rattle.exports.proofs.Counted.{length-numbers, length-records}
 
 module _ (words tags payloads names : List ℕ) where
+  -- the first n records' numbers
+  abbrev written : ℕ → List ℕ
+  written n = recordsNumbers words tags payloads names n
+
+  abbrev lift : ℕ → SemanticInstruction
+  lift i = liftOf words tags payloads names i
+
   -- the numbers of record i, of n records and whatever stands behind them
   nth-record : (n i : ℕ) (rest : List ℕ) → i < n
-      → take 53 (drop (53 * i) (recordsNumbers words tags payloads names n ++ rest)) ≡ numbersOf (liftOf words tags payloads names i)
+      → take 53 (drop (53 * i) (written n ++ rest)) ≡ numbersOf (lift i)
   unfolding recordsNumbers
   nth-record zero i rest h = absurd (omega arith)
   nth-record (suc n) i rest h =
-      rw (append-assoc (recordsNumbers words tags payloads names n) (numbersOf (liftOf words tags payloads names n)) rest)
-      (go (eqb i n) refl (λ k. nth-record n i (numbersOf (liftOf words tags payloads names n) ++ rest) k))
+      rw (append-assoc (written n) (numbersOf (lift n)) rest)
+      (go (eqb i n) refl (λ k. nth-record n i (numbersOf (lift n) ++ rest) k))
     where
       all : List ℕ
-      all = recordsNumbers words tags payloads names n ++ (numbersOf (liftOf words tags payloads names n) ++ rest)
+      all = written n ++ (numbersOf (lift n) ++ rest)
 
-      go : (t : Bool) → eqb i n ≡ t → (i < n → take 53 (drop (53 * i) all) ≡ numbersOf (liftOf words tags payloads names i))
-          → take 53 (drop (53 * i) all) ≡ numbersOf (liftOf words tags payloads names i)
+      go : (t : Bool) → eqb i n ≡ t → (i < n → take 53 (drop (53 * i) all) ≡ numbersOf (lift i))
+          → take 53 (drop (53 * i) all) ≡ numbersOf (lift i)
       go true e lower =
           rw (
             eqb-true i n e,
-            drop-at (recordsNumbers words tags payloads names n)
-                (numbersOf (liftOf words tags payloads names n) ++ rest) (53 * n)
+            drop-at (written n)
+                (numbersOf (lift n) ++ rest) (53 * n)
                 (length-records words tags payloads names n),
           )
-          (take-at (numbersOf (liftOf words tags payloads names n)) rest 53 (length-numbers (liftOf words tags payloads names n)))
+          (take-at (numbersOf (lift n)) rest 53 (length-numbers (lift n)))
       go false e lower = let d : i ≡ n → ⊥ = eqb-false i n e in lower (omega arith)
 
   module _ (bytes : ℕ) (numbers : List ℕ) where
     -- the list after so many records
     abbrev after : ℕ → List ℕ
-    after n = recordsNumbers words tags payloads names n ++ drop (53 * n) numbers
+    after n = written n ++ drop (53 * n) numbers
 
     abbrev accepts : Bool
     accepts = eqb (answerOf (length words) tags payloads names bytes (roomIn numbers) .number) 0
@@ -59,14 +67,14 @@ module _ (words tags payloads names : List ℕ) where
     none = refl
 
     all-lifted : (i : ℕ) → i < length words
-        → take 53 (drop (53 * i) (after (choose true (length words) 0))) ≡ numbersOf (liftOf words tags payloads names i)
+        → take 53 (drop (53 * i) (after (choose true (length words) 0))) ≡ numbersOf (lift i)
     unfolding choose
     all-lifted i h = nth-record (length words) i (drop (53 * length words) numbers) h
 
     past : (t : Bool) → drop (53 * length words) (after (choose t (length words) 0)) ≡ drop (53 * length words) numbers
     unfolding choose recordsNumbers
     past true =
-        drop-at (recordsNumbers words tags payloads names (length words))
+        drop-at (written (length words))
         (drop (53 * length words) numbers) (53 * length words)
         (length-records words tags payloads names (length words))
     past false = refl
@@ -75,9 +83,9 @@ module _ (words tags payloads names : List ℕ) where
     kept =
         let n = planOf (length words) tags payloads names bytes (roomIn numbers) .count in
         let w = plan-laws words tags payloads names bytes (roomIn numbers) in
-        let k : length (recordsNumbers words tags payloads names n) ≡ 53 * n = length-records words tags payloads names n in
-        rw (← k) (ap length (sym (put-laws .start numbers (recordsNumbers words tags payloads names n)))
-        ∙ put-laws .length-put numbers 0 (recordsNumbers words tags payloads names n)
+        let k : length (written n) ≡ 53 * n = length-records words tags payloads names n in
+        rw (← k) (ap length (sym (put-laws .start numbers (written n)))
+        ∙ put-laws .length-put numbers 0 (written n)
         (omega (arith, w .within-room, k)))
 
     pub record-wise : RecordWise words tags payloads names bytes numbers

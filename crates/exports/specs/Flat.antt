@@ -24,7 +24,7 @@ use Rattle.records.specs.Refusals.{answerOf, planOf}
 use Rattle.numbered.specs.declared.parts.FlatSlot.{FlatSlot}
 use Rattle.numbered.specs.declared.parts.FlatPair.{FlatPair}
 use Rattle.numbered.specs.Parts.{flatOperand, flatTarget, flatEffect, flatFallback, flatPc, flatConfidence}
-use Rattle.fields.specs.declared.word.RawInstruction54.{RawInstruction54}
+use Rattle.fields.specs.declared.lua54.word.RawInstruction54.{RawInstruction54}
 use Rattle.exports.specs.declared.c.FlatFields.{FlatFields}
 
 -- A record's numbers, in RECORD.md's order

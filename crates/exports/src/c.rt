@@ -2,19 +2,19 @@
 ghost use mathlib.Core.Path.{_≡_};
 ghost use lib.ListN.{length};
 ghost use Rattle.runs.specs.Script.{lua54};
-ghost use Rattle.steps.specs.Successors.{successorsOf};
+ghost use Rattle.steps.specs.lua54.Successors.{successorsOf};
 ghost use Rattle.runs.specs.Run.{runOf, marksAfter, lengthsAfter};
 ghost use Rattle.runs.specs.Flat.{flatSuccessors, flatRun};
-ghost use Rattle.fields.specs.Word.{fieldsOf, opcodeOf};
-ghost use Rattle.fields.specs.Table.{modeNumber, modeOf};
+ghost use Rattle.fields.specs.lua54.Word.{fieldsOf, opcodeOf};
+ghost use Rattle.fields.specs.lua54.Table.{modeNumber, modeOf};
 ghost use Rattle.exports.specs.Flat.{flatFields, numbersAfter, liftAnswer};
 use crate::lifted::RECORD_LENGTH;
 use crate::lifted::put_records;
 use common::c::FlatAnswer;
-use fields::lookup::mode;
+use fields::lua54::lookup::mode;
+use fields::lua54::word::RawInstruction54;
+use fields::lua54::word::decode;
 use fields::version::Version;
-use fields::word::RawInstruction54;
-use fields::word::decode;
 use records::refusals::planned;
 use runs::c::FlatRun;
 use runs::c::FlatSuccessors;
@@ -25,7 +25,7 @@ use runs::c::flat_successors;
 pub extern "C" fn lawendeb_successors(words: &[u32], p: usize) -> FlatSuccessors
     ensures { λ r. ⌜ r ≡ flatSuccessors (successorsOf (now (words .entry)) p) ⌝ }
 {
-    flat_successors(steps::successors::successors(words, p))
+    flat_successors(steps::lua54::successors::successors(words, p))
 }
 
 #[no_mangle]

@@ -3,7 +3,7 @@ ghost use mathlib.Core.Path.{_≡_};
 ghost use Rattle.families.specs.Families as F;
 use builders::builders::*;
 use builders::parts::*;
-use fields::word::RawInstruction54;
+use fields::lua54::word::RawInstruction54;
 use values::ir::EffectTarget;
 use values::ir::ImplicitEffect;
 use values::ir::OptionalPc;

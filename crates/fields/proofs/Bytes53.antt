@@ -3,11 +3,11 @@
 use Prim.Native.Nat.{ℕ, _/_, _%_, _<_}
 use mathlib.Core.Path.{_≡_}
 use native.Mathlib.Omega.{arith}
-use Rattle.fields.specs.Table53.{StepClass, following, returning, branching, comparing, skipping}
-use Rattle.fields.specs.Table53.{skippingIfC, skippingUnlessC, jumping, looping, invalid, classNumber}
-use Rattle.fields.specs.Table53.{classOf, companionNumber, companionOf, modeOf, companionAndClass}
-use Rattle.fields.specs.Table53.{modeByte}
-use Rattle.fields.specs.Packed.{eightOf, byteOf}
+use Rattle.fields.specs.lua53.Table.{StepClass, following, returning, branching, comparing, skipping}
+use Rattle.fields.specs.lua53.Table.{skippingIfC, skippingUnlessC, jumping, looping, invalid, classNumber}
+use Rattle.fields.specs.lua53.Table.{classOf, companionNumber, companionOf, modeOf, companionAndClass}
+use Rattle.fields.specs.lua53.Table.{modeByte}
+use Rattle.fields.specs.Bits.{eightOf, byteOf}
 use Rattle.fields.proofs.Bytes.{byte-at}
 
 pub steps-byte : (o : ℕ) → o < 64 → byteOf (eightOf companionAndClass (o / 8)) o ≡ companionAndClass o

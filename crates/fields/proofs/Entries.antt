@@ -7,7 +7,7 @@ use Prim.Native.Nat.{ℕ, zero, suc, _+_, _*_, _<_}
 use native.Mathlib.Omega.{arith}
 use lib.Dec.{T, eqb, eqb→eq}
 use lib.ListN.{getD}
-use Rattle.fields.specs.Table.{modeNumber, modeOf, classNumber, classOf, companionNumber, companionOf, fallbackNumber, fallbackOf, rowsOf, opcodeTable}
+use Rattle.fields.specs.lua54.Table.{modeNumber, modeOf, classNumber, classOf, companionNumber, companionOf, fallbackNumber, fallbackOf, rowsOf, opcodeTable}
 
 abbrev columnsOf : ℕ → List ℕ
 columnsOf o =

@@ -2,7 +2,7 @@
 -- Assumes nothing.
 use Prim.Native.Nat.{_/_, _^_}
 use lib.Bits.{and-mask}
-use Rattle.fields.specs.Lopcodes.{Agreement}
+use Rattle.fields.specs.lua54.Lopcodes.{Agreement}
 
 pub agreement : Agreement
 agreement word =

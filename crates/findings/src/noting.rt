@@ -1,16 +1,16 @@
 // What there is to say of a word of the run.
-use fields::opcodes::OP_ADDI;
-use fields::opcodes::OP_CALL;
-use fields::opcodes::OP_EQ;
-use fields::opcodes::OP_JMP;
-use fields::opcodes::OP_SHR;
-use fields::opcodes::OP_TAILCALL;
-use fields::opcodes::OP_TESTSET;
-use fields::opcodes::OP_TFORCALL;
-use fields::word::opcode;
+use fields::lua54::opcodes::OP_ADDI;
+use fields::lua54::opcodes::OP_CALL;
+use fields::lua54::opcodes::OP_EQ;
+use fields::lua54::opcodes::OP_JMP;
+use fields::lua54::opcodes::OP_SHR;
+use fields::lua54::opcodes::OP_TAILCALL;
+use fields::lua54::opcodes::OP_TESTSET;
+use fields::lua54::opcodes::OP_TFORCALL;
+use fields::lua54::word::opcode;
 use pages::word_at;
 use std::num::wrapping_add_usize;
-use steps::successors::successors;
+use steps::lua54::successors::successors;
 use sweep::edges::Successors;
 use sweep::edges::serves;
 

@@ -2,16 +2,17 @@
 // known of it. It lies on the stack.
 ghost use mathlib.Core.Path.{_≡_};
 ghost use lib.ListN.{length};
+ghost use Rattle.common.specs.Limits.{mostWords};
 use common::limits::MOST_WORDS;
 
 pub fn words() -> [u32; MOST_WORDS]
-    ensures { λ r. ⌜ 32768 ≡ length r ⌝ }
+    ensures { λ r. ⌜ mostWords ≡ length r ⌝ }
 {
     [0; MOST_WORDS]
 }
 
 pub fn marks() -> [u8; MOST_WORDS]
-    ensures { λ r. ⌜ 32768 ≡ length r ⌝ }
+    ensures { λ r. ⌜ mostWords ≡ length r ⌝ }
 {
     [0; MOST_WORDS]
 }

@@ -94,15 +94,19 @@ module _ (w p : ℕ) where
       go rec false = rec
 
 module _ (g : Graph) (law : Lawful g) (w : ℕ) where
+  -- a word's edges that cross
+  abbrev edgesOf : ℕ → List Edge
+  edgesOf k = crossingFrom w k (g .successors k)
+
   -- a word's edges, if it is reachable
   abbrev ofWord : ℕ → List Edge
-  ofWord k = cond (eqb (markOf g k) 1) (crossingFrom w k (g .successors k)) []
+  ofWord k = cond (eqb (markOf g k) 1) (edgesOf k) []
 
-  of-word : (k : ℕ) (e : Edge) → EdgeListed e (ofWord k) → (markOf g k ≡ 1) × EdgeListed e (crossingFrom w k (g .successors k))
+  of-word : (k : ℕ) (e : Edge) → EdgeListed e (ofWord k) → (markOf g k ≡ 1) × EdgeListed e (edgesOf k)
   of-word k e i = go (eqb (markOf g k) 1) refl i
     where
-      go : (b : Bool) → eqb (markOf g k) 1 ≡ b → EdgeListed e (cond b (crossingFrom w k (g .successors k)) [])
-          → (markOf g k ≡ 1) × EdgeListed e (crossingFrom w k (g .successors k))
+      go : (b : Bool) → eqb (markOf g k) 1 ≡ b → EdgeListed e (cond b (edgesOf k) [])
+          → (markOf g k ≡ 1) × EdgeListed e (edgesOf k)
       go true t j = (eqb-true (markOf g k) 1 t, j)
       go false t j = absurd j
 
@@ -137,7 +141,7 @@ module _ (g : Graph) (law : Lawful g) (w : ℕ) where
       here =
           subst
           (λ (b : Bool).
-          EdgeListed (record { from = p; to = q }) (cond b (crossingFrom w p (g .successors p)) []))
+          EdgeListed (record { from = p; to = q }) (cond b (edgesOf p) []))
           (sym (eq-eqb (markOf g p) 1 (marking g law .one p r))) (is-from w p (g .successors p) q i c)
 
   below-once : ((p : ℕ) → Different (g .successors p)) → (k : ℕ) → k ≤ g .size → EachOnce (crossingBelow g w k)
@@ -147,7 +151,7 @@ module _ (g : Graph) (law : Lawful g) (w : ℕ) where
       once-both (ofWord k) (crossingBelow g w k) (own (eqb (markOf g k) 1)) (below-once d k (omega arith))
       (λ e i j. omega (arith, from-is w k (g .successors k) e (of-word k e i .1) .0, below-is k (omega arith) e j .0))
     where
-      own : (b : Bool) → EachOnce (cond b (crossingFrom w k (g .successors k)) [])
+      own : (b : Bool) → EachOnce (cond b (edgesOf k) [])
       own true = from-once w k (g .successors k) (d k)
       own false = tt
 

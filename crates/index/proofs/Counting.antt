@@ -1,6 +1,6 @@
 -- All functions of a chunk: how many there are, and what is told and stored of them. Assumes nothing.
 use mathlib.Core.Path.{_≡_, refl, sym, ap, subst, _∙_}
-use mathlib.Core.Bool.{Bool, true, false, cond, _&&_}
+use mathlib.Core.Bool.{Bool, true, false, cond, _&&_, true≢false}
 use mathlib.Core.List.{List, [], _∷_, _++_}
 use Prim.Native.Nat.{ℕ, zero, suc, _+_, _-_, _≤_, _<_}
 use native.Mathlib.Omega.{arith}
@@ -85,7 +85,7 @@ module _ (bytes : List ℕ) where
             (omega (arith, y), ap tally.All z ∙ ap tallied (sym (all-of l ∙ e)))
         go (refused x) e =
             let g : Past at s ≡ Stopped x = sym p ∙ stopped x e in
-            absurd (let z : _≡_ {A = ℕ} 0 1 = cc in omega arith)
+            absurd (true≢false (cc))
 
     pub none-found : (at : ℕ) (s : Search) (a : Layout) → w ≡ Past at s → s ≡ Found a → tally.Not Malformed ≡ tallied (functionsOf bytes)
     none-found at s a p q = go (undump bytes 0) refl
@@ -94,10 +94,10 @@ module _ (bytes : List ℕ) where
         go (done fs past) e =
             let f = found fs past e in
             let g : Past at (Found a) ≡ Past past (Left (mostBytes - length fs)) = ap (Past at) (sym q) ∙ sym p ∙ f .1 in
-            absurd (let z : _≡_ {A = ℕ} 0 1 = cc in omega arith)
+            absurd (true≢false (cc))
         go (refused x) e =
             let g : Past at s ≡ Stopped x = sym p ∙ stopped x e in
-            absurd (let z : _≡_ {A = ℕ} 0 1 = cc in omega arith)
+            absurd (true≢false (cc))
 
     pub was-stopped : (e : Refusal) → w ≡ Stopped e → tally.Not e ≡ tallied (functionsOf bytes)
     was-stopped e p = go (undump bytes 0) refl
@@ -106,7 +106,7 @@ module _ (bytes : List ℕ) where
         go (done fs past) d =
             let f = found fs past d in
             let g : Stopped e ≡ Past past (Left (mostBytes - length fs)) = sym p ∙ f .1 in
-            absurd (let z : _≡_ {A = ℕ} 0 1 = cc in omega arith)
+            absurd (true≢false (cc))
         go (refused x) d =
             let g : Stopped e ≡ Stopped x = sym p ∙ stopped x d in
             let y : e ≡ x = cc in
@@ -139,7 +139,7 @@ module _ (bytes : List ℕ) (a b : ℕ) (t : FunctionTally) (h : t ≡ tallied (
   refusal-of e k = go (listedIn bytes a b) (sym h ∙ k)
     where
       go : (X : Result (List Function)) → tallied X ≡ tally.Not e → X ≡ refused e
-      go (done fs at) d = absurd (let z : _≡_ {A = ℕ} 0 1 = cc in omega arith)
+      go (done fs at) d = absurd (true≢false (cc))
       go (refused x) d = let y : x ≡ e = cc in ap refused y
 
   pub nothing-stored : (part : List Function → List ℕ) (e : Refusal) (out : List ℕ) → t ≡ tally.Not e → out ≡ afterAll part (listedIn bytes a b) out
@@ -166,15 +166,15 @@ module _ (bytes : List ℕ) (a b : ℕ) where
         for-places = leb-true (length fs) a ea;
         for-parents = leb-true (length fs) b eb;
       }
-  fitting fs at true false ea eb u n d = absurd (let z : _≡_ {A = ℕ} 0 1 = cc in omega arith)
-  fitting fs at false t ea eb u n d = absurd (let z : _≡_ {A = ℕ} 0 1 = cc in omega arith)
+  fitting fs at true false ea eb u n d = absurd (true≢false (cc))
+  fitting fs at false t ea eb u n d = absurd (true≢false (cc))
 
   in-room : (s : Bool) (X : Result (List Function)) → undump bytes 0 ≡ X → (n : ℕ)
       → tallied (bind (only s X) (roomForAll a b)) ≡ tally.All n
       → Room bytes a b (bind (only s X) (roomForAll a b))
   in-room true (done fs at) u n d = fitting fs at (leb (length fs) a) (leb (length fs) b) refl refl u n d
-  in-room true (refused x) u n d = absurd (let z : _≡_ {A = ℕ} 0 1 = cc in omega arith)
-  in-room false X u n d = absurd (let z : _≡_ {A = ℕ} 0 1 = cc in omega arith)
+  in-room true (refused x) u n d = absurd (true≢false (cc))
+  in-room false X u n d = absurd (true≢false (cc))
 
   room-for : (t : FunctionTally) (n : ℕ) → t ≡ tallied (listedIn bytes a b) → t ≡ tally.All n → Room bytes a b (listedIn bytes a b)
   unfolding listedIn functionsOf

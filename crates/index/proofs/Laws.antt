@@ -1,7 +1,7 @@
 -- All functions of a chunk, by number and by place. Assumes nothing.
 use mathlib.Core.Path.{_≡_, refl, sym, ap, subst, _∙_}
 use mathlib.Core.Logic.{_⊎_, inl, inr, ⊎-elim}
-use mathlib.Core.Bool.{Bool, true, false, cond}
+use mathlib.Core.Bool.{Bool, true, false, cond, true≢false}
 use mathlib.Core.List.{List, [], _∷_}
 use Prim.Native.Nat.{ℕ, zero, suc, _+_, _≤_, _<_}
 use native.Mathlib.Omega.{arith}
@@ -114,13 +114,17 @@ module _ (d : Function) (fs : List Function) where
   abbrev None : ℕ → ℕ → Type 0
   None n at = (i : ℕ) → i < n → getD fs i d .endAt ≤ at
 
-  stands-in : (outer at n : ℕ) → Nearest n at (standsIn outer (seenOf n) at) ⊎ None n at
+  -- the one of the first n that a position stands in
+  abbrev innermost : ℕ → ℕ → ℕ → ℕ
+  innermost outer n at = standsIn outer (seenOf n) at
+
+  stands-in : (outer at n : ℕ) → Nearest n at (innermost outer n at) ⊎ None n at
   unfolding standsIn seenOf
   stands-in outer at zero = inr (λ i h. absurd (omega arith))
   stands-in outer at (suc n) = go (ltb at (getD fs n d .endAt)) refl (stands-in outer at n)
     where
-      later : getD fs n d .endAt ≤ at → Nearest n at (standsIn outer (seenOf n) at) ⊎ None n at
-          → Nearest (suc n) at (standsIn outer (seenOf n) at) ⊎ None (suc n) at
+      later : getD fs n d .endAt ≤ at → Nearest n at (innermost outer n at) ⊎ None n at
+          → Nearest (suc n) at (innermost outer n at) ⊎ None (suc n) at
       later l (inl x) =
           inl (record {
             before = omega (arith, x .before);
@@ -141,8 +145,8 @@ module _ (d : Function) (fs : List Function) where
           end : (i : ℕ) → i < suc n → (i ≡ n) ⊎ (i < n)
           end i b = ⊎-elim (λ c. inl (omega arith)) (λ c. inr c) (split n i)
 
-      go : (b : Bool) → ltb at (getD fs n d .endAt) ≡ b → Nearest n at (standsIn outer (seenOf n) at) ⊎ None n at
-          → Nearest (suc n) at (cond b n (standsIn outer (seenOf n) at)) ⊎ None (suc n) at
+      go : (b : Bool) → ltb at (getD fs n d .endAt) ≡ b → Nearest n at (innermost outer n at) ⊎ None n at
+          → Nearest (suc n) at (cond b n (innermost outer n at)) ⊎ None (suc n) at
       go true h x = inl (record { before = omega arith; goes-on = ltb-true at (getD fs n d .endAt) h; nearest = λ i a b. absurd (omega (arith, a, b)) })
       go false h x = later (ltb-false at (getD fs n d .endAt) h) x
 
@@ -159,11 +163,11 @@ record FromFirst (bytes : List ℕ) (fs : List Function) (at : ℕ) : Type 0 whe
 module _ (bytes : List ℕ) (fs : List Function) (at : ℕ) where
   from-byte : (X : Result ℕ) → bind X (λ _ p. loadFunction 31 bytes p) ≡ done fs at → FromFirst bytes fs at
   from-byte (done b p) e = record { first = p; whole = e }
-  from-byte (refused x) e = absurd (let z : _≡_ {A = ℕ} 0 1 = cc in omega arith)
+  from-byte (refused x) e = absurd (true≢false (cc))
 
   from-header : (X : Result (Unit {0})) → bind X (λ _ p. bind (loadByte bytes p) (λ _ q. loadFunction 31 bytes q)) ≡ done fs at → FromFirst bytes fs at
   from-header (done u p) e = from-byte (loadByte bytes p) e
-  from-header (refused x) e = absurd (let z : _≡_ {A = ℕ} 0 1 = cc in omega arith)
+  from-header (refused x) e = absurd (true≢false (cc))
 
   from-first : undump bytes 0 ≡ done fs at → FromFirst bytes fs at
   unfolding undump
@@ -179,7 +183,7 @@ module _ (bytes : List ℕ) (fs : List Function) (at : ℕ) where
     where
       go : (b : Bool) → leb (length bytes) mostBytes ≡ b → only b (undump bytes 0) ≡ done fs at → Both
       go true h d = record { short = leb-true (length bytes) mostBytes h; all = d }
-      go false h d = absurd (let z : _≡_ {A = ℕ} 0 1 = cc in omega arith)
+      go false h d = absurd (true≢false (cc))
 
   module _ (e : functionsOf bytes ≡ done fs at) where
     -- every byte of the functions is the main one's
@@ -247,7 +251,7 @@ unfolding functionsOf chosen
 refusing bytes e k h = go (leb (length bytes) mostBytes) (undump bytes 0) h
   where
     go : (b : Bool) (X : Result (List Function)) → only b X ≡ refused e → only b (bind X (pick k)) ≡ refused e
-    go true (done fs at) d = absurd (let z : _≡_ {A = ℕ} 0 1 = cc in omega arith)
+    go true (done fs at) d = absurd (true≢false (cc))
     go true (refused x) d = let y : x ≡ e = cc in ap refused y
     go false X d = let y = d in again y
       where

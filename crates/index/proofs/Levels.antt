@@ -1,5 +1,6 @@
 -- A function that is read with some levels left is read the same with more. Assumes nothing.
 use mathlib.Core.Path.{_≡_, refl, sym, ap, _∙_}
+use mathlib.Core.Bool.{true≢false}
 use mathlib.Core.List.{List, [], _∷_, _++_}
 use Prim.Native.Nat.{ℕ, zero, suc, _≤_}
 use native.Mathlib.Omega.{arith}
@@ -16,7 +17,7 @@ bind-same (refused x) f g b p h e = e
 bind-grows : {A B : Type 0} (X Y : Result A) (f g : A → ℕ → Result B) (b : B) (p : ℕ) → ((a : A) (at : ℕ) → X ≡ done a at → Y ≡ done a at)
     → ((a : A) (at : ℕ) → f a at ≡ done b p → g a at ≡ done b p) → bind X f ≡ done b p → bind Y g ≡ done b p
 bind-grows (done a at) Y f g b p y h e = rw (y a at refl) (h a at e)
-bind-grows (refused x) Y f g b p y h e = absurd (let z : _≡_ {A = ℕ} 0 1 = cc in omega arith)
+bind-grows (refused x) Y f g b p y h e = absurd (true≢false (cc))
 
 module _ (bytes : List ℕ) where
   -- what one reader reads, the other does
@@ -44,7 +45,7 @@ module _ (bytes : List ℕ) where
   none-grows : (s : Reader (List Function)) (n at : ℕ) (fs : List Function) (p : ℕ) → noneOf n bytes at ≡ done fs p → several s n bytes at ≡ done fs p
   unfolding noneOf several
   none-grows s zero at fs p e = e
-  none-grows s (suc n) at fs p e = absurd (let z : _≡_ {A = ℕ} 0 1 = cc in omega arith)
+  none-grows s (suc n) at fs p e = absurd (true≢false (cc))
 
   protos-grow : (level m : ℕ) → level ≤ m → Grows (loadProtos level) (loadProtos m)
   unfolding loadProtos

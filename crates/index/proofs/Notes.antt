@@ -1,6 +1,6 @@
 -- What is stored of the functions that are read. Assumes nothing.
 use mathlib.Core.Path.{_≡_, refl, sym, ap, subst, _∙_}
-use mathlib.Core.Bool.{Bool, true, false}
+use mathlib.Core.Bool.{Bool, true, false, true≢false}
 use mathlib.Core.List.{List, [], _∷_, _++_}
 use Prim.Native.Nat.{ℕ, zero, suc, _+_, _-_, _≤_, _<_}
 use native.Mathlib.Omega.{arith}
@@ -143,40 +143,40 @@ module _ (level : ℕ) (bytes : List ℕ) (at₀ : ℕ) (fs : List Function) (pa
         cursor = refl;
         within = p;
       }
-  i7 at₁ code at₂ ks n at₄ inner at₅ at₆ p (refused x) e = absurd (let z : _≡_ {A = ℕ} 0 1 = cc in omega arith)
+  i7 at₁ code at₂ ks n at₄ inner at₅ at₆ p (refused x) e = absurd (true≢false (cc))
 
   i6 : (at₁ : ℕ) (code : List ℕ) (at₂ : ℕ) (ks : List Constant) (n at₄ : ℕ) (inner : List Function) (at₅ : ℕ) → P bytes at₄ ≡ done inner at₅
       → (X : Result (List ℕ)) → Is (bind X (then6 bytes P at₀ at₁ code at₂ ks n inner at₅)) → FunctionRead level bytes at₀ (At at₄ n) fs past
   i6 at₁ code at₂ ks n at₄ inner at₅ p (done z at₆) e = i7 at₁ code at₂ ks n at₄ inner at₅ at₆ p (loadNames n bytes at₆) e
-  i6 at₁ code at₂ ks n at₄ inner at₅ p (refused x) e = absurd (let z : _≡_ {A = ℕ} 0 1 = cc in omega arith)
+  i6 at₁ code at₂ ks n at₄ inner at₅ p (refused x) e = absurd (true≢false (cc))
 
   i5 : (at₁ : ℕ) (code : List ℕ) (at₂ : ℕ) (ks : List Constant) (n at₄ : ℕ) (X : Result (List Function)) → P bytes at₄ ≡ X
       → Is (bind X (then5 bytes P at₀ at₁ code at₂ ks n)) → FunctionRead level bytes at₀ (At at₄ n) fs past
   i5 at₁ code at₂ ks n at₄ (done inner at₅) p e = i6 at₁ code at₂ ks n at₄ inner at₅ p (loadLines bytes at₅) e
-  i5 at₁ code at₂ ks n at₄ (refused x) p e = absurd (let z : _≡_ {A = ℕ} 0 1 = cc in omega arith)
+  i5 at₁ code at₂ ks n at₄ (refused x) p e = absurd (true≢false (cc))
 
   i4 : (at₁ : ℕ) (code : List ℕ) (at₂ : ℕ) (ks : List Constant) (X : Result ℕ)
       → Is (bind X (then4 bytes P at₀ at₁ code at₂ ks)) → FunctionRead level bytes at₀ (cursorOf same X) fs past
   i4 at₁ code at₂ ks (done n at₄) e = i5 at₁ code at₂ ks n at₄ (P bytes at₄) refl e
-  i4 at₁ code at₂ ks (refused x) e = absurd (let z : _≡_ {A = ℕ} 0 1 = cc in omega arith)
+  i4 at₁ code at₂ ks (refused x) e = absurd (true≢false (cc))
 
   i3 : (at₁ : ℕ) (code : List ℕ) (at₂ : ℕ) (X : Result (List Constant))
       → Is (bind X (then3 bytes P at₀ at₁ code at₂)) → FunctionRead level bytes at₀ (step same loadUpvalues bytes (cursorOf length X)) fs past
   unfolding step
   i3 at₁ code at₂ (done ks at₃) e = i4 at₁ code at₂ ks (loadUpvalues bytes at₃) e
-  i3 at₁ code at₂ (refused x) e = absurd (let z : _≡_ {A = ℕ} 0 1 = cc in omega arith)
+  i3 at₁ code at₂ (refused x) e = absurd (true≢false (cc))
 
   i2 : (at₁ : ℕ) (X : Result (List ℕ)) → Is (bind X (then2 bytes P at₀ at₁))
       → FunctionRead level bytes at₀ (step same loadUpvalues bytes (step length loadConstants bytes (cursorOf length X))) fs past
   unfolding step
   i2 at₁ (done code at₂) e = i3 at₁ code at₂ (loadConstants bytes at₂) e
-  i2 at₁ (refused x) e = absurd (let z : _≡_ {A = ℕ} 0 1 = cc in omega arith)
+  i2 at₁ (refused x) e = absurd (true≢false (cc))
 
   i1 : (X : Result ℕ) → Is (bind X (then1 bytes P at₀))
       → FunctionRead level bytes at₀ (step same loadUpvalues bytes (step length loadConstants bytes (step length loadCode bytes (cursorOf same X)))) fs past
   unfolding step
   i1 (done a at₁) e = i2 at₁ (loadCode bytes at₁) e
-  i1 (refused x) e = absurd (let z : _≡_ {A = ℕ} 0 1 = cc in omega arith)
+  i1 (refused x) e = absurd (true≢false (cc))
 
   pub function-read : (v : ℕ) → loadFunction level bytes at₀ ≡ done fs past
       → FunctionRead level bytes at₀
@@ -342,6 +342,10 @@ pub record Midway (level : ℕ) (bytes : List ℕ) (start n outer first : ℕ) (
       → Wrote (several (loadFunction level) n bytes start) outer first pl₀ pa₀ pl′ pa′
 
 module _ (level : ℕ) (bytes : List ℕ) (start n outer first : ℕ) (pl₀ pa₀ : List ℕ) where
+  -- all of them
+  abbrev whole : Result (List Function)
+  whole = several (loadFunction level) n bytes start
+
   pub midway-none : Midway level bytes start n outer first pl₀ pa₀ pl₀ pa₀ start 0 0
   midway-none =
       let z : n ≡ n - 0 = omega arith in
@@ -410,41 +414,41 @@ module _ (level : ℕ) (bytes : List ℕ) (start n outer first : ℕ) (pl₀ pa�
                 subst (λ (t : ℕ). Midway level bytes start n outer first pl₀ pa₀ pl₁ pa₁ behind (total + t) (i + 1)) y
                     (subst (λ (b : ℕ). Midway level bytes start n outer first pl₀ pa₀ pl₁ pa₁ b (total + length fs) (i + 1)) x r),
               )
-          go (refused x) d q = absurd (let z : _≡_ {A = ℕ} 0 1 = cc in omega arith)
+          go (refused x) d q = absurd (true≢false (cc))
 
       -- or a refusal
       pub midway-refused :
           (next : Cursor) (e : Refusal) → next ≡ step length (loadFunction level) bytes (At at 0) → next ≡ Refused e
-          → (next ≡ cursorOf length (several (loadFunction level) n bytes start))
-          × Wrote (several (loadFunction level) n bytes start) outer first pl₀ pa₀ pl₁ pa₁
+          → (next ≡ cursorOf length whole)
+          × Wrote whole outer first pl₀ pa₀ pl₁ pa₁
       unfolding step
       midway-refused next x e k = go (loadFunction level bytes at) refl (sym e ∙ k)
         where
           go : (X : Result (List Function)) → loadFunction level bytes at ≡ X → cursorOf length X ≡ Refused x
-              → (next ≡ cursorOf length (several (loadFunction level) n bytes start))
-              × Wrote (several (loadFunction level) n bytes start) outer first pl₀ pa₀ pl₁ pa₁
-          go (done fs past) d q = absurd (let z : _≡_ {A = ℕ} 0 1 = cc in omega arith)
+              → (next ≡ cursorOf length whole)
+              × Wrote whole outer first pl₀ pa₀ pl₁ pa₁
+          go (done fs past) d q = absurd (true≢false (cc))
           go (refused y) d q =
               let s : several (loadFunction level) (n - i) bytes at ≡ refused y =
               ap (λ (k : ℕ). several (loadFunction level) k bytes at) still ∙ one-refused level bytes (n - (i + 1)) total at y d in
-              let t : several (loadFunction level) n bytes start ≡ refused y =
-              refusal-of (several (loadFunction level) n bytes start)
+              let t : whole ≡ refused y =
+              refusal-of whole
               (m .counted ∙ ap (totalled total) s) in
               (k ∙ sym q ∙ ap (cursorOf length) (sym t), subst (λ (X : Result (List Function)). Wrote X outer first pl₀ pa₀ pl₁ pa₁) (sym t) tt)
             where
               refusal-of : (X : Result (List Function)) → totalled 0 X ≡ Refused y → X ≡ refused y
-              refusal-of (done fs past) r = absurd (let z : _≡_ {A = ℕ} 0 1 = cc in omega arith)
+              refusal-of (done fs past) r = absurd (true≢false (cc))
               refusal-of (refused z) r = let v : z ≡ y = cc in ap refused v
 
     pub midway-done : n ≤ i
-        → (At at total ≡ cursorOf length (several (loadFunction level) n bytes start))
-        × Wrote (several (loadFunction level) n bytes start) outer first pl₀ pa₀ pl pa
+        → (At at total ≡ cursorOf length whole)
+        × Wrote whole outer first pl₀ pa₀ pl pa
     unfolding several valuesOf parentsFrom
     midway-done h =
         let z : n - i ≡ 0 = omega arith in
         let y : total + 0 ≡ total = omega arith in (
           ap (At at) (sym y) ∙ ap (λ (k : ℕ). totalled total (several (loadFunction level) k bytes at)) (sym z) ∙ sym (m .counted)
-              ∙ totalled-none (several (loadFunction level) n bytes start),
+              ∙ totalled-none whole,
           m .rest pl pa
               (subst (λ (k : ℕ). Wrote (several (loadFunction level) k bytes at) outer (first + total) pl pa pl pa) (sym z)
               (λ a b. (put-laws .none pl (first + total), put-laws .none pa (first + total)))),
@@ -507,7 +511,7 @@ module _ (bytes : List ℕ) (level : ℕ) (c count : Cursor) (e : count ≡ step
       where
         go : (d : Cursor) → c ≡ d → step same loadInt bytes d ≡ At start n → Counted
         go (At at v) k q = record { at = at; value = v; cursor = k; int = done-is (loadInt bytes at) (cursorOf same (loadInt bytes at)) start n refl q }
-        go (Refused y) k q = absurd (let z : _≡_ {A = ℕ} 0 1 = cc in omega arith)
+        go (Refused y) k q = absurd (true≢false (cc))
 
     pub none-within : level ≡ 0 → n ≡ 0 → Done (At start 0) pl pa
     unfolding loadProtos noneOf valuesOf parentsFrom

@@ -1,9 +1,8 @@
 -- The head of a function. Assumes nothing.
 use mathlib.Core.Path.{_≡_, refl, sym, ap, _∙_}
-use mathlib.Core.Bool.{Bool, true, false}
+use mathlib.Core.Bool.{Bool, true, false, true≢false}
 use mathlib.Core.List.{List}
 use Prim.Native.Nat.{ℕ, _≤_}
-use native.Mathlib.Omega.{arith}
 use Rattle.lundump.specs.declared.reading.Refusal.{Refusal}
 use Rattle.lundump.specs.declared.reading.Cursor.{Cursor}
 use Rattle.lundump.specs.declared.reading.Cursor.the-variants.{At, Refused}
@@ -110,7 +109,7 @@ module _ (bytes : List ℕ) (at : ℕ) where
   no-source s e r h k q = go (loadStringN bytes at) (sym h ∙ k)
     where
       go : (X : Result Text) → placedOf X ≡ placed.Refused e → r ≡ headTold (bind X (λ t at₁. then1 bytes t at₁))
-      go (done t at₁) d = absurd (let z : _≡_ {A = ℕ} 0 1 = cc in omega arith)
+      go (done t at₁) d = absurd (true≢false (cc))
       go (refused x) d = let w : e ≡ x = cc in q ∙ ap headRefused w
 
   pub with-source : (s : Placed) (source past : ℕ) (r : FlatHead) → s ≡ placedOf (loadStringN bytes at) → s ≡ placed.At source past
@@ -124,7 +123,7 @@ module _ (bytes : List ℕ) (at : ℕ) where
           let w : source ≡ nameNumber t = cc in
           let y : past ≡ at₁ = cc in
           q ∙ ap (λ (n : ℕ). told n d l p v x) w ∙ told-is bytes t past d l p v x ed el ep ev ex ∙ ap (λ (n : ℕ). headTold (then1 bytes t n)) y
-      go (refused x′) c = absurd (let z : _≡_ {A = ℕ} 0 1 = cc in omega arith)
+      go (refused x′) c = absurd (true≢false (cc))
 
 -- the chosen function
 module _ (bytes : List ℕ) (k : Choice) (m : Located) (h : m ≡ locatedOf (chosenBy k bytes)) where
@@ -133,7 +132,7 @@ module _ (bytes : List ℕ) (k : Choice) (m : Located) (h : m ≡ locatedOf (cho
   not-there e r j q = go (chosenBy k bytes) (sym h ∙ j)
     where
       go : (X : Result Function) → locatedOf X ≡ Not e → r ≡ headTold (bind X (λ f _. readHead bytes (f .firstAt)))
-      go (done f at) d = absurd (let z : _≡_ {A = ℕ} 0 1 = cc in omega arith)
+      go (done f at) d = absurd (true≢false (cc))
       go (refused x) d = let w : e ≡ x = cc in q ∙ ap headRefused w
 
   pub there : (l : Layout) (r : FlatHead) → m ≡ Here l → r ≡ headTold (readHead bytes (l .«first_at»)) → r ≡ headTold (headOf k bytes)
@@ -142,14 +141,14 @@ module _ (bytes : List ℕ) (k : Choice) (m : Located) (h : m ≡ locatedOf (cho
     where
       go : (X : Result Function) → locatedOf X ≡ Here l → r ≡ headTold (bind X (λ f _. readHead bytes (f .firstAt)))
       go (done f at) d = let w : l ≡ layoutOf f = cc in q ∙ ap (λ (x : Layout). headTold (readHead bytes (x .«first_at»))) w
-      go (refused x) d = absurd (let z : _≡_ {A = ℕ} 0 1 = cc in omega arith)
+      go (refused x) d = absurd (true≢false (cc))
 
   pub within-bytes : (l : Layout) → m ≡ Here l → BytesBounded bytes
   within-bytes l j = go (chosenBy k bytes) refl (sym h ∙ j)
     where
       go : (X : Result Function) → chosenBy k bytes ≡ X → locatedOf X ≡ Here l → BytesBounded bytes
       go (done f at) e d = short-enough bytes k f at e
-      go (refused x) e d = absurd (let z : _≡_ {A = ℕ} 0 1 = cc in omega arith)
+      go (refused x) e d = absurd (true≢false (cc))
 
 -- the laws
 module _ (bytes : List ℕ) where
@@ -193,7 +192,7 @@ module _ (bytes : List ℕ) where
       go : (X : Result Head) → readHead bytes (f .firstAt) ≡ X → bind X size ≡ done stack (f .codeAt)
           → (h : Head) × (readHead bytes (f .firstAt) ≡ done h (f .codeAt))
       go (done h at) r d = let w : at ≡ f .codeAt = cc in (h, r ∙ ap (done h) w)
-      go (refused x) r d = absurd (let z : _≡_ {A = ℕ} 0 1 = cc in omega arith)
+      go (refused x) r d = absurd (true≢false (cc))
 
 has-head : (k : Choice) (bytes : List ℕ) (f : Function) (at : ℕ) → chosenBy k bytes ≡ done f at → (h : Head) × (headOf k bytes ≡ done h (f .codeAt))
 unfolding headOf

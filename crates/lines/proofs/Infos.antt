@@ -1,6 +1,6 @@
 -- The lines of a function, word after word. Assumes nothing.
 use mathlib.Core.Path.{_≡_, refl, sym, ap, subst, _∙_}
-use mathlib.Core.Bool.{Bool, true, false, cond, false≢true}
+use mathlib.Core.Bool.{Bool, true, false, cond, false≢true, true≢false}
 use mathlib.Core.List.{List, [], _∷_, _++_, append-assoc, append-nil}
 use Prim.Native.Nat.{ℕ, zero, suc, _+_, _-_, _*_, _/_, _%_, _≤_, _<_, zero-le}
 use native.Mathlib.Omega.{arith}
@@ -48,7 +48,7 @@ unsigned-most limit x at (b ∷ bs) v past e =
         → only s (cond t (done (x * 128 + b % 128) (at + 1)) (unsignedFrom (limit / 128) (x * 128 + b % 128) (at + 1) bs)) ≡ done v past → v ≤ limit
     go true true h r d = let k : x * 128 + b % 128 ≡ v = cc in let l = ltb-true x (limit / 128) h in omega arith
     go true false h r d = r d
-    go false t h r d = absurd (let z : _≡_ {A = ℕ} 0 1 = cc in omega arith)
+    go false t h r d = absurd (true≢false (cc))
 
 int-most : (bytes : List ℕ) (at v past : ℕ) → loadInt bytes at ≡ done v past → v ≤ intMax
 unfolding loadUnsigned
@@ -102,7 +102,7 @@ abs-low bytes at a past e = first (loadInt bytes at) e
     second : (pc : ℕ) (X : Result ℕ) (middle : ℕ) → loadInt bytes middle ≡ X
         → bind X (λ line at₂. done (record { pc = pc; line = line }) at₂) ≡ done a past → a .line ≤ intMax
     second pc (done line p) middle h d = let k : line ≡ a .line = cc in let m = int-most bytes middle line p h in omega arith
-    second pc (refused x) middle h d = absurd (let z : _≡_ {A = ℕ} 0 1 = cc in omega arith)
+    second pc (refused x) middle h d = absurd (true≢false (cc))
 
     first : (X : Result ℕ)
         → bind X
@@ -110,7 +110,7 @@ abs-low bytes at a past e = first (loadInt bytes at) e
         ≡ done a past
         → a .line ≤ intMax
     first (done pc middle) d = second pc (loadInt bytes middle) middle refl d
-    first (refused x) d = absurd (let z : _≡_ {A = ℕ} 0 1 = cc in omega arith)
+    first (refused x) d = absurd (true≢false (cc))
 
 abs-ends : (bytes : List ℕ) (left at : ℕ) → nextAbs left bytes at ≡ next.Ends → absFrom left bytes at ≡ []
 unfolding nextAbs absFrom
@@ -118,7 +118,7 @@ abs-ends bytes zero at e = refl
 abs-ends bytes (suc n) at e = go (readAbs bytes at) e
   where
     go : (X : Result AbsLine) → nextAbsRead X ≡ next.Ends → Rattle.lines.specs.Lines.andMore X (λ at₁. absFrom n bytes at₁) ≡ []
-    go (done a p) d = absurd (let z : _≡_ {A = ℕ} 0 1 = cc in omega arith)
+    go (done a p) d = absurd (true≢false (cc))
     go (refused x) d = refl
 
 pub record Next (bytes : List ℕ) (left at pc line past : ℕ) : Type 0 where
@@ -132,11 +132,11 @@ abs-cons bytes n at a p h = rw h
 
 pub abs-next : (bytes : List ℕ) (left at pc line past : ℕ) → nextAbs left bytes at ≡ next.At pc line past → Next bytes left at pc line past
 unfolding nextAbs absFrom
-abs-next bytes zero at pc line past e = absurd (let z : _≡_ {A = ℕ} 0 1 = cc in omega arith)
+abs-next bytes zero at pc line past e = absurd (true≢false (cc))
 abs-next bytes (suc n) at pc line past e = go (readAbs bytes at) refl e
   where
     go : (X : Result AbsLine) → readAbs bytes at ≡ X → nextAbsRead X ≡ next.At pc line past → Next bytes (suc n) at pc line past
-    go (refused x) h d = absurd (let z : _≡_ {A = ℕ} 0 1 = cc in omega arith)
+    go (refused x) h d = absurd (true≢false (cc))
     go (done a p) h d =
         let x : a .pc ≡ pc = cc in
         let y : a .line ≡ line = cc in

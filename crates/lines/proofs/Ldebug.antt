@@ -99,19 +99,23 @@ abbrev base : ℕ → ℕ → Base
 base pc line = record { from = pc; line = line }
 
 module _ (info : List ℕ) where
+  -- the line, a byte further
+  abbrev lineAt : ℕ → ℕ → ℕ
+  lineAt line pc = lineMoved line (getD info pc 0)
+
   -- the walk, a step further
-  walk-on : (t pc line : ℕ) → pc ≤ t → upTo info t (base pc line) ≡ upTo info t (base (pc + 1) (lineMoved line (getD info pc 0)))
+  walk-on : (t pc line : ℕ) → pc ≤ t → upTo info t (base pc line) ≡ upTo info t (base (pc + 1) (lineAt line pc))
   unfolding walked
   walk-on t pc line h = let z : t + 1 - pc ≡ suc (t + 1 - (pc + 1)) = omega arith in ap (λ (k : ℕ). walked k info pc line) z
 
   own-step : (t pc line : ℕ) (xs : List AbsLine) → pc ≤ t
-      → upTo info t (baseBy t xs (base pc line)) ≡ upTo info t (baseBy t xs (base (pc + 1) (lineMoved line (getD info pc 0))))
+      → upTo info t (baseBy t xs (base pc line)) ≡ upTo info t (baseBy t xs (base (pc + 1) (lineAt line pc)))
   own-step t pc line [] h = walk-on t pc line h
   own-step t pc line (a ∷ xs) h = go (leb (a .pc) t)
     where
       go : (b : Bool)
           → upTo info t (cond b (baseBy t xs (baseAt a)) (base pc line)) ≡ upTo info t
-          (cond b (baseBy t xs (baseAt a)) (base (pc + 1) (lineMoved line (getD info pc 0))))
+          (cond b (baseBy t xs (baseAt a)) (base (pc + 1) (lineAt line pc)))
       go true = refl
       go false = walk-on t pc line h
 
@@ -137,11 +141,10 @@ module _ (info : List ℕ) where
   module _ (n pc : ℕ) (rec : Right n (pc + 1)) (line k t : ℕ) (e : pc + k ≡ t) (l : t < length info) (h : k < suc n) where
     by-byte : (xs : List AbsLine) → Rises (pc + 1) xs
         → getD
-        (lineMoved line (getD info pc 0)
-        ∷ linesFrom n (lineMoved line (getD info pc 0)) (pc + 1) xs (drop (pc + 1) info))
+        (lineAt line pc ∷ linesFrom n (lineAt line pc) (pc + 1) xs (drop (pc + 1) info))
         k 0
         ≡ upTo info t (baseBy t xs (base pc line))
-    by-byte xs r = one-more n pc rec (lineMoved line (getD info pc 0)) xs r k t e l h ∙ sym (own-step t pc line xs (omega arith))
+    by-byte xs r = one-more n pc rec (lineAt line pc) xs r k t e l h ∙ sym (own-step t pc line xs (omega arith))
 
     by-abs : (a : AbsLine) (xs : List AbsLine) → a .pc ≡ pc → Rises (a .pc + 1) xs
         → getD (a .line ∷ linesFrom n (a .line) (pc + 1) xs (drop (pc + 1) info)) k 0 ≡ upTo info t (baseBy t (a ∷ xs) (base pc line))
@@ -153,8 +156,7 @@ module _ (info : List ℕ) where
     either : (a : AbsLine) (xs : List AbsLine) → Rises pc (a ∷ xs) → (b : Bool) → eqb (a .pc) pc ≡ b
         → getD
         (cond b (a .line ∷ linesFrom n (a .line) (pc + 1) xs (drop (pc + 1) info))
-        (lineMoved line (getD info pc 0)
-        ∷ linesFrom n (lineMoved line (getD info pc 0)) (pc + 1) (a ∷ xs) (drop (pc + 1) info)))
+        (lineAt line pc ∷ linesFrom n (lineAt line pc) (pc + 1) (a ∷ xs) (drop (pc + 1) info)))
         k 0
         ≡ upTo info t (baseBy t (a ∷ xs) (base pc line))
     either a xs r true d = by-abs a xs (eqb-true (a .pc) pc d) (r .1)

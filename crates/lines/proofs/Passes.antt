@@ -1,6 +1,6 @@
 -- A chosen function: what is told of it, and what is filled. Assumes nothing.
 use mathlib.Core.Path.{_≡_, refl, sym, _∙_, ap}
-use mathlib.Core.Bool.{Bool, true, false, cond, _&&_}
+use mathlib.Core.Bool.{Bool, true, false, cond, _&&_, true≢false}
 use mathlib.Core.List.{List, [], _∷_, _++_}
 use Prim.Native.Nat.{ℕ, _≤_, _<_}
 use native.Mathlib.Omega.{arith}
@@ -96,7 +96,7 @@ module _ (bytes : List ℕ) where
 
   within : (f : Function) (at : ℕ) (b : Bool) (X : Result Function) → leb (length bytes) mostBytes ≡ b → only b X ≡ done f at → BytesBounded bytes
   within f at true X e h = leb-true _ _ e
-  within f at false X e h = absurd (let z : _≡_ {A = ℕ} 0 1 = cc in omega arith)
+  within f at false X e h = absurd (true≢false (cc))
 
   pub short-enough : (c : Choice) (f : Function) (at : ℕ) → chosenBy c bytes ≡ done f at → BytesBounded bytes
   unfolding chosen functionAt
@@ -119,10 +119,10 @@ module _ (bytes : List ℕ) where
         payloads = leb-true _ _ ec;
         names = leb-true _ _ ed;
       }
-  all-fit f rooms true true true false ea eb ec ed h = absurd (let z : _≡_ {A = ℕ} 0 1 = cc in omega arith)
-  all-fit f rooms true true false d ea eb ec ed h = absurd (let z : _≡_ {A = ℕ} 0 1 = cc in omega arith)
-  all-fit f rooms true false c d ea eb ec ed h = absurd (let z : _≡_ {A = ℕ} 0 1 = cc in omega arith)
-  all-fit f rooms false b c d ea eb ec ed h = absurd (let z : _≡_ {A = ℕ} 0 1 = cc in omega arith)
+  all-fit f rooms true true true false ea eb ec ed h = absurd (true≢false (cc))
+  all-fit f rooms true true false d ea eb ec ed h = absurd (true≢false (cc))
+  all-fit f rooms true false c d ea eb ec ed h = absurd (true≢false (cc))
+  all-fit f rooms false b c d ea eb ec ed h = absurd (true≢false (cc))
 
   fit : (f : Function) (rooms : Rooms) → fits f rooms ≡ true → All f rooms
   unfolding fits
@@ -147,12 +147,12 @@ module _ (bytes : List ℕ) where
           payloads = a .payloads;
           names = a .names;
         }
-    with-room f at false b e s o h = absurd (let z : _≡_ {A = ℕ} 0 1 = cc in omega arith)
+    with-room f at false b e s o h = absurd (true≢false (cc))
 
     located : (X : Result Function) → chosenBy k bytes ≡ X → filledBy k bytes rooms ≡ bind X (roomFor rooms)
         → OneRead bytes X → Here l ≡ locatedOf (bind X (roomFor rooms)) → Filled k rooms l
     located (done f at) c e s h = with-room f at (fits f rooms) refl e s (short-enough k f at c) h
-    located (refused x) c e s h = absurd (let z : _≡_ {A = ℕ} 0 1 = cc in omega arith)
+    located (refused x) c e s h = absurd (true≢false (cc))
 
     pub is-filled : (m : Located) → m ≡ locatedOf (filledBy k bytes rooms) → m ≡ Here l → Filled k rooms l
     unfolding filledBy
@@ -160,7 +160,7 @@ module _ (bytes : List ℕ) where
 
   -- ---- a refusal
   refused-by : (X : Result Function) (e : Refusal) → Not e ≡ locatedOf X → X ≡ refused e
-  refused-by (done f at) e h = absurd (let z : _≡_ {A = ℕ} 0 1 = cc in omega arith)
+  refused-by (done f at) e h = absurd (true≢false (cc))
   refused-by (refused x) e h = let p : x ≡ e = cc in ap refused p
 
   module _ (k : Choice) (rooms : Rooms) (m : Located) (h : m ≡ locatedOf (filledBy k bytes rooms)) (e : Refusal) (j : m ≡ Not e) where

@@ -38,10 +38,10 @@ fn line(words: &[u32], lengths: &[u32], p: usize) -> [u8; 31]
     requires { ⌜ (p < length (now words)) × (p < length (now lengths)) ⌝ }
     ensures { λ r. ⌜ r ≡ lineAt (now (words .entry)) (now (lengths .entry)) p ⌝ }
 {
-    let s = steps::successors::successors(words, p);
+    let s = steps::lua54::successors::successors(words, p);
     sheet::row(
         p,
-        fields::word::opcode(words[p]),
+        fields::lua54::word::opcode(words[p]),
         first_cell(s),
         second_cell(s),
         lengths[p],

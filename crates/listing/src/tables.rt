@@ -10,8 +10,10 @@ ghost use Rattle.listing.specs.Claims.{pageLength, EnoughRead};
 use crate::paper::BUFFER;
 use crate::paper::PAGE;
 use crate::rows::put_listing;
+use common::limits::MOST_LINES;
 use fields::version::Version;
 use runs::Run;
+use runs::weighing::WEIGHTS;
 use sheet::Sheet;
 use sheet::inner::put_text;
 
@@ -34,9 +36,9 @@ fn put_run(words: &[u32], page: &mut [u8]) -> usize
     ensures { λ _. ⌜ now (page .exit) ≡ put (now (page .entry)) 0 (runText (now (words .entry))) ⌝ }
 {
     let n = words.len();
-    let mut marks = [0u8; 4096];
-    let mut lengths = [0u32; 4096];
-    let weights = [1u8; 128];
+    let mut marks = [0u8; MOST_LINES];
+    let mut lengths = [0u32; MOST_LINES];
+    let weights = [1u8; WEIGHTS];
     let run = runs::longest_run(
         Version::Lua54,
         words,
@@ -60,7 +62,7 @@ fn put_answer(text: &[u8], page: &mut [u8]) -> usize
     ensures { λ r. ⌜ r ≡ length (listingAnswer (now (text .entry))) ⌝ }
     ensures { λ _. ⌜ now (page .exit) ≡ put (now (page .entry)) 0 (listingAnswer (now (text .entry))) ⌝ }
 {
-    let mut words = [0u32; 4096];
+    let mut words = [0u32; MOST_LINES];
     let s = sheet::read(text, &mut words);
     match s {
         Sheet::Words(n) => {

@@ -2,7 +2,7 @@
 -- number of its opcode's mode.
 -- Assumes nothing.
 use Prim.Native.Nat.{ℕ}
-use Rattle.fields.specs.declared.word53.RawInstruction53.{RawInstruction53}
+use Rattle.fields.specs.declared.lua53.word.RawInstruction53.{RawInstruction53}
 use Rattle.lua53.specs.declared.c.FlatFields.{FlatFields}
 
 abbrev pub flatFields : ℕ → RawInstruction53 → FlatFields

@@ -1,7 +1,7 @@
 // The C interface: each symbol is one of 5.4's with `_53` behind it.
 ghost use mathlib.Core.Path.{_≡_};
-ghost use Rattle.fields.specs.Word53.{fieldsOf, opcodeOf};
-ghost use Rattle.fields.specs.Table53.{modeNumber, modeOf};
+ghost use Rattle.fields.specs.lua53.Word.{fieldsOf, opcodeOf};
+ghost use Rattle.fields.specs.lua53.Table.{modeNumber, modeOf};
 ghost use Rattle.lua53.specs.Flat.{flatFields};
 ghost use lib.ListN.{length};
 ghost use Rattle.fields.specs.declared.version.Version.the-variants.{Lua53};
@@ -24,10 +24,10 @@ ghost use Rattle.service.specs.Flat.{flatNearest, flatCrossed};
 ghost use Rattle.touches.specs.Touches.{touchesFor};
 use common::c::FlatAnswer;
 use common::c::flat_answer;
-use fields::packed53::mode;
+use fields::lua53::packed::mode;
+use fields::lua53::word::RawInstruction53;
+use fields::lua53::word::decode;
 use fields::version::Version;
-use fields::word53::RawInstruction53;
-use fields::word53::decode;
 use ranges::FlatRange;
 use ranges::flat_range;
 use runs::c::FlatRun;

@@ -1,9 +1,9 @@
 -- One reader after another, as cursors see it.
 -- Assumes nothing.
 use mathlib.Core.Path.{_≡_, refl, sym, _∙_, ap}
+use mathlib.Core.Bool.{true≢false}
 use mathlib.Core.List.{List}
 use Prim.Native.Nat.{ℕ}
-use native.Mathlib.Omega.{arith}
 use Rattle.lundump.specs.declared.reading.Refusal.{Refusal}
 use Rattle.lundump.specs.declared.reading.Cursor.{Cursor}
 use Rattle.lundump.specs.declared.reading.Cursor.the-variants.{At, Refused}
@@ -13,7 +13,7 @@ use Rattle.lundump.specs.Cursors.{step, cursorOf, valued, same, none}
 -- the first of two refuses
 module _ {A B : Type 0} (f : A → ℕ) (g : B → ℕ) where
   stop : (X : Result A) (k : A → ℕ → Result B) (e : Refusal) → cursorOf f X ≡ Refused e → cursorOf f X ≡ cursorOf g (bind X k)
-  stop (done a at) k e h = absurd (let z : _≡_ {A = ℕ} 0 1 = cc in omega arith)
+  stop (done a at) k e h = absurd (true≢false (cc))
   stop (refused x) k e h = refl
 
   pub stopped : (r : Reader A) (K : A → Reader B) (bytes : List ℕ) (c d : Cursor) (e : Refusal)
@@ -29,14 +29,14 @@ module _ {B : Type 0} (g : B → ℕ) where
       let p : at₁ ≡ at = cc in
       let q : a ≡ n = cc in
       rw (p, q)
-  reach (refused x) k at n h = absurd (let z : _≡_ {A = ℕ} 0 1 = cc in omega arith)
+  reach (refused x) k at n h = absurd (true≢false (cc))
 
   pub reached : (r : Reader ℕ) (K : ℕ → Reader B) (bytes : List ℕ) (c d x : Cursor) (at n : ℕ)
       → d ≡ step same r bytes c → d ≡ At at n → x ≡ cursorOf g (K n bytes at)
       → x ≡ step g (λ b at. bind (r b at) (λ a at₁. K a b at₁)) bytes c
   unfolding step
   reached r K bytes (At at₀ v) d x at n h k l = l ∙ reach (r bytes at₀) (λ a at₁. K a bytes at₁) at n (sym h ∙ k)
-  reached r K bytes (Refused e) d x at n h k l = absurd (let z : _≡_ {A = ℕ} 0 1 = cc in omega arith)
+  reached r K bytes (Refused e) d x at n h k l = absurd (true≢false (cc))
 
 -- the second goes on whatever was read
 module _ {A B : Type 0} (f : A → ℕ) (g : B → ℕ) (r : Reader A) (s : Reader B) (bytes : List ℕ) where

@@ -1,7 +1,7 @@
 -- What a part of a function comes to, once its count is read.
 -- Assumes nothing.
 use mathlib.Core.Path.{_≡_, refl, _∙_, ap}
-use mathlib.Core.Bool.{Bool, true, false}
+use mathlib.Core.Bool.{Bool, true, false, true≢false}
 use mathlib.Core.List.{List}
 use Prim.Native.Nat.{ℕ, zero, suc, _+_, _*_, _-_, _≤_, _<_}
 use native.Mathlib.Omega.{arith}
@@ -78,7 +78,7 @@ module _ (bytes : List ℕ) (upvalues at : ℕ) (names : List Text) (next : ℕ)
 
   from-int : (X : Result ℕ) → bind X (λ n at₁. namesFrom upvalues n bytes at₁) ≡ done names next → length names ≡ upvalues
   from-int (done n start) h = from-count n start h
-  from-int (refused e) h = absurd (let z : _≡_ {A = ℕ} 0 1 = cc in omega arith)
+  from-int (refused e) h = absurd (true≢false (cc))
 
   pub names-length : loadNames upvalues bytes at ≡ done names next → length names ≡ upvalues
   unfolding loadNames
@@ -92,12 +92,12 @@ module _ (bytes : List ℕ) where
     where
       by-block : (n start : ℕ) (X : Result (Unit {0})) → bind X (λ _ at₂. done (record { start = start; count = n }) at₂) ≡ done v next → v .count ≡ n
       by-block n start (done u at₂) h = let e : record { start = start; count = n } ≡ v = cc in rw (← e)
-      by-block n start (refused x) h = absurd (let z : _≡_ {A = ℕ} 0 1 = cc in omega arith)
+      by-block n start (refused x) h = absurd (true≢false (cc))
 
       by-limit : (n start : ℕ) (b : Bool) → leb n most ≡ b
           → only b (bind (loadBlock (each * n) bytes start) (λ _ at₂. done (record { start = start; count = n }) at₂)) ≡ done v next → v .count ≤ most
       by-limit n start true e h = let c = by-block n start (loadBlock (each * n) bytes start) h in omega (arith, leb-true n most e)
-      by-limit n start false e h = absurd (let z : _≡_ {A = ℕ} 0 1 = cc in omega arith)
+      by-limit n start false e h = absurd (true≢false (cc))
 
       by-count : (X : Result ℕ)
           → bind X (λ n at₁. only (leb n most)
@@ -105,7 +105,7 @@ module _ (bytes : List ℕ) where
           ≡ done v next
           → v .count ≤ most
       by-count (done n start) h = by-limit n start (leb n most) refl h
-      by-count (refused x) h = absurd (let z : _≡_ {A = ℕ} 0 1 = cc in omega arith)
+      by-count (refused x) h = absurd (true≢false (cc))
 
   pub few-words : (at : ℕ) (ws : List ℕ) (next : ℕ) → loadCode bytes at ≡ done ws next → length ws ≤ mostWords
   unfolding loadCode
@@ -118,7 +118,7 @@ module _ (bytes : List ℕ) where
           let w : wordsFrom (v .count) bytes (v .start) ≡ ws = cc in
           let c : v .count ≡ length ws = words-count (v .count) bytes (v .start) ∙ ap length w in
           omega (arith, vector-within mostWords 4 at v at₁ e)
-      by-vector (refused x) e h = absurd (let z : _≡_ {A = ℕ} 0 1 = cc in omega arith)
+      by-vector (refused x) e h = absurd (true≢false (cc))
 
   pub few-upvalues : (at n next : ℕ) → loadUpvalues bytes at ≡ done n next → n ≤ mostNames
   unfolding loadUpvalues
@@ -126,7 +126,7 @@ module _ (bytes : List ℕ) where
     where
       by-vector : (X : Result Vector) → loadVector mostNames 3 bytes at ≡ X → bind X (λ v at₁. done (v .count) at₁) ≡ done n next → n ≤ mostNames
       by-vector (done v at₁) e h = let c : v .count ≡ n = cc in omega (arith, vector-within mostNames 3 at v at₁ e)
-      by-vector (refused x) e h = absurd (let z : _≡_ {A = ℕ} 0 1 = cc in omega arith)
+      by-vector (refused x) e h = absurd (true≢false (cc))
 
   pub few-items : {A : Type 0} (most : ℕ) (r : ℕ → Reader A) (at : ℕ) (xs : List A) (next : ℕ) → loadItems most r bytes at ≡ done xs next → length xs ≤ most
   unfolding loadItems
@@ -134,8 +134,8 @@ module _ (bytes : List ℕ) where
     where
       by-limit : (n start : ℕ) (b : Bool) → leb n most ≡ b → only b (repeat r 0 n bytes start) ≡ done xs next → length xs ≤ most
       by-limit n start true e h = let c = repeat-length r bytes n 0 start xs next h in omega (arith, leb-true n most e)
-      by-limit n start false e h = absurd (let z : _≡_ {A = ℕ} 0 1 = cc in omega arith)
+      by-limit n start false e h = absurd (true≢false (cc))
 
       by-count : (X : Result ℕ) → bind X (λ n at₁. only (leb n most) (repeat r 0 n bytes at₁)) ≡ done xs next → length xs ≤ most
       by-count (done n start) h = by-limit n start (leb n most) refl h
-      by-count (refused x) h = absurd (let z : _≡_ {A = ℕ} 0 1 = cc in omega arith)
+      by-count (refused x) h = absurd (true≢false (cc))

@@ -1,5 +1,6 @@
 -- Constants behind their tags. Assumes nothing.
 use mathlib.Core.Path.{_≡_, refl, sym, _∙_, ap}
+use mathlib.Core.Bool.{true≢false}
 use mathlib.Core.List.{List}
 use Prim.Native.Nat.{ℕ, _+_, _*_, _≤_, _<_}
 use native.Mathlib.Omega.{arith}
@@ -138,11 +139,11 @@ valued bytes i at t p next (done k at₁) o h =
     let b : t ≡ tagOf k = cc in
     let c : p ≡ payloadOf k = cc in
     record { k = k; one = o ∙ ap (done k) (sym a); tag = b; payload = c }
-valued bytes i at t p next (refused e) o h = absurd (let z : _≡_ {A = ℕ} 0 1 = cc in omega arith)
+valued bytes i at t p next (refused e) o h = absurd (true≢false (cc))
 
 pub is-valued : (bytes : List ℕ) (i at t p next : ℕ) (x : Packed) → x ≡ packedOf (loadConstant i bytes at) → x ≡ packed.At t p next → Valued bytes i at t p next
 is-valued bytes i at t p next x q h = valued bytes i at t p next (loadConstant i bytes at) refl (sym h ∙ q)
 
 pub is-unpacked : (X : Result Constant) (e : Refusal) (x : Packed) → x ≡ packedOf X → x ≡ packed.Refused e → X ≡ refused e
-is-unpacked (done k at) e x p h = absurd (let z : _≡_ {A = ℕ} 0 1 = cc in omega arith)
+is-unpacked (done k at) e x p h = absurd (true≢false (cc))
 is-unpacked (refused y) e x p h = let q : y ≡ e = cc in ap refused q

@@ -1,6 +1,6 @@
 -- What a cursor says of the result that it stands for; strings, and constants behind their tags. Assumes nothing.
 use mathlib.Core.Path.{_≡_, refl, sym, _∙_, ap}
-use mathlib.Core.Bool.{Bool, true, false}
+use mathlib.Core.Bool.{Bool, true, false, true≢false}
 use mathlib.Core.List.{List}
 use Prim.Native.Nat.{ℕ, zero, suc, _+_, _-_, _≤_}
 use native.Mathlib.Omega.{arith}
@@ -22,7 +22,7 @@ use Rattle.lundump.proofs.Steps.{seen}
 
 -- ---- cursors back to results
 pub refused-is : {A : Type 0} (f : A → ℕ) (X : Result A) (d : Cursor) (e : Refusal) → d ≡ cursorOf f X → d ≡ Refused e → X ≡ refused e
-refused-is f (done a at) d e h k = absurd (let z : _≡_ {A = ℕ} 0 1 = cc in omega arith)
+refused-is f (done a at) d e h k = absurd (true≢false (cc))
 refused-is f (refused x) d e h k = let p : x ≡ e = cc in ap refused p
 
 pub done-is : (X : Result ℕ) (d : Cursor) (at n : ℕ) → d ≡ cursorOf same X → d ≡ At at n → X ≡ done n at
@@ -30,17 +30,17 @@ done-is (done a at₁) d at n h k =
     let p : at₁ ≡ at = cc in
     let q : a ≡ n = cc in
     rw (p, q)
-done-is (refused x) d at n h k = absurd (let z : _≡_ {A = ℕ} 0 1 = cc in omega arith)
+done-is (refused x) d at n h k = absurd (true≢false (cc))
 
 pub unit-is : (X : Result (Unit {0})) (d : Cursor) (at n : ℕ) → d ≡ cursorOf none X → d ≡ At at n → X ≡ done tt at
 unit-is (done tt at₁) d at n h k = let p : at₁ ≡ at = cc in ap (done tt) p
-unit-is (refused x) d at n h k = absurd (let z : _≡_ {A = ℕ} 0 1 = cc in omega arith)
+unit-is (refused x) d at n h k = absurd (true≢false (cc))
 
 -- a block that was read lies inside the bytes
 in-bytes : (size at : ℕ) (bytes : List ℕ) (b : Bool) → leb (at + size) (length bytes) ≡ b → (next : ℕ)
     → _≡_ {A = Result (Unit {0})} (only b (done tt (at + size))) (done tt next) → at + size ≤ length bytes
 in-bytes size at bytes true h next e = leb-true _ _ h
-in-bytes size at bytes false h next e = absurd (let z : _≡_ {A = ℕ} 0 1 = cc in omega arith)
+in-bytes size at bytes false h next e = absurd (true≢false (cc))
 
 pub block-inside : (size at : ℕ) (bytes : List ℕ) (next : ℕ) → loadBlock size bytes at ≡ done tt next → at + size ≤ length bytes
 unfolding loadBlock
@@ -78,21 +78,21 @@ module _ (bytes : List ℕ) (at : ℕ) (d : Cursor) (h : d ≡ cursorOf same (lo
 -- ---- what a string that was read stands for
 absent-is : (X : Result Text) (s : StringRead) (next : ℕ) → s ≡ stringRead X → s ≡ read.Absent next → X ≡ done absent next
 absent-is (done absent at) s next h k = let p : at ≡ next = cc in ap (done absent) p
-absent-is (done (text a b) at) s next h k = absurd (let z : _≡_ {A = ℕ} 0 1 = cc in omega arith)
-absent-is (refused x) s next h k = absurd (let z : _≡_ {A = ℕ} 0 1 = cc in omega arith)
+absent-is (done (text a b) at) s next h k = absurd (true≢false (cc))
+absent-is (refused x) s next h k = absurd (true≢false (cc))
 
 text-is : (X : Result Text) (s : StringRead) (start size next : ℕ) → s ≡ stringRead X → s ≡ read.Bytes start size next → X ≡ done (text start size) next
-text-is (done absent at) s start size next h k = absurd (let z : _≡_ {A = ℕ} 0 1 = cc in omega arith)
+text-is (done absent at) s start size next h k = absurd (true≢false (cc))
 text-is (done (text a b) at) s start size next h k =
     let p : a ≡ start = cc in
     let q : b ≡ size = cc in
     let t : at ≡ next = cc in
     rw (p, q, t)
-text-is (refused x) s start size next h k = absurd (let z : _≡_ {A = ℕ} 0 1 = cc in omega arith)
+text-is (refused x) s start size next h k = absurd (true≢false (cc))
 
 none-is : (X : Result Text) (s : StringRead) (e : Refusal) → s ≡ stringRead X → s ≡ read.Refused e → X ≡ refused e
-none-is (done absent at) s e h k = absurd (let z : _≡_ {A = ℕ} 0 1 = cc in omega arith)
-none-is (done (text a b) at) s e h k = absurd (let z : _≡_ {A = ℕ} 0 1 = cc in omega arith)
+none-is (done absent at) s e h k = absurd (true≢false (cc))
+none-is (done (text a b) at) s e h k = absurd (true≢false (cc))
 none-is (refused x) s e h k = let p : x ≡ e = cc in ap refused p
 
 module _ (bytes : List ℕ) (at : ℕ) (s : StringRead) (h : s ≡ stringRead (loadStringN bytes at)) where
@@ -113,16 +113,16 @@ module _ (bytes : List ℕ) (start size next : ℕ) where
       let p : from ≡ start = cc in
       let q : n ≡ size = cc in
       rw (p, q) at (block-inside n from bytes at₁ e)
-  inside-block n from (refused x) e h = absurd (let z : _≡_ {A = ℕ} 0 1 = cc in omega arith)
+  inside-block n from (refused x) e h = absurd (true≢false (cc))
 
   inside-string : (n from : ℕ) → stringOf n bytes from ≡ done (text start size) next → start + size ≤ length bytes
   unfolding stringOf
-  inside-string zero from h = absurd (let z : _≡_ {A = ℕ} 0 1 = cc in omega arith)
+  inside-string zero from h = absurd (true≢false (cc))
   inside-string (suc n) from h = inside-block n from (loadBlock n bytes from) refl h
 
   inside-size : (X : Result ℕ) → bind X (λ n at₁. stringOf n bytes at₁) ≡ done (text start size) next → start + size ≤ length bytes
   inside-size (done n from) h = inside-string n from h
-  inside-size (refused x) h = absurd (let z : _≡_ {A = ℕ} 0 1 = cc in omega arith)
+  inside-size (refused x) h = absurd (true≢false (cc))
 
   pub text-inside : (at : ℕ) → loadStringN bytes at ≡ done (text start size) next → start + size ≤ length bytes
   unfolding loadStringN
@@ -139,11 +139,11 @@ named bytes at v next (done t at₁) o h =
     let p : next ≡ at₁ = cc in
     let q : v ≡ nameNumber t = cc in
     record { t = t; one = o ∙ ap (done t) (sym p); value = q }
-named bytes at v next (refused e) o h = absurd (let z : _≡_ {A = ℕ} 0 1 = cc in omega arith)
+named bytes at v next (refused e) o h = absurd (true≢false (cc))
 
 pub is-named : (bytes : List ℕ) (at v next : ℕ) (s : Placed) → s ≡ placedOf (loadStringN bytes at) → s ≡ placed.At v next → Named bytes at v next
 is-named bytes at v next s p h = named bytes at v next (loadStringN bytes at) refl (sym h ∙ p)
 
 pub is-unplaced : (X : Result Text) (e : Refusal) (s : Placed) → s ≡ placedOf X → s ≡ placed.Refused e → X ≡ refused e
-is-unplaced (done t at) e s p h = absurd (let z : _≡_ {A = ℕ} 0 1 = cc in omega arith)
+is-unplaced (done t at) e s p h = absurd (true≢false (cc))
 is-unplaced (refused x) e s p h = let q : x ≡ e = cc in ap refused q

@@ -1,6 +1,7 @@
 -- Functions within functions, as the walk over them sees them.
 -- Assumes nothing.
 use mathlib.Core.Path.{_≡_, refl, sym, _∙_, ap}
+use mathlib.Core.Bool.{true≢false}
 use mathlib.Core.List.{List, [], _∷_, _++_}
 use Prim.Native.Nat.{ℕ, zero, suc, _-_}
 use native.Mathlib.Omega.{arith}
@@ -200,7 +201,7 @@ module _ (r : Reader (List Function)) (bytes : List ℕ) where
 module _ (bytes : List ℕ) (s : Search) where
   halted : (X : Result ℕ) (k : ℕ → ℕ → Result (List Function)) (e : Refusal) → cursorOf same X ≡ Refused e
       → Stopped (refusalOf (cursorOf same X)) ≡ walkOf s (bind X k)
-  halted (done a at) k e h = absurd (let z : _≡_ {A = ℕ} 0 1 = cc in omega arith)
+  halted (done a at) k e h = absurd (true≢false (cc))
   halted (refused x) k e h = refl
 
   counted-to : (X : Result ℕ) (k : ℕ → ℕ → Result (List Function)) (at n : ℕ) → cursorOf same X ≡ At at n → walkOf s (k n at) ≡ walkOf s (bind X k)
@@ -208,7 +209,7 @@ module _ (bytes : List ℕ) (s : Search) where
       let p : at₁ ≡ at = cc in
       let q : a ≡ n = cc in
       rw (p, q)
-  counted-to (refused x) k at n h = absurd (let z : _≡_ {A = ℕ} 0 1 = cc in omega arith)
+  counted-to (refused x) k at n h = absurd (true≢false (cc))
 
   pub no-count : (level : ℕ) (c d : Cursor) (x e : Refusal) → d ≡ step same loadInt bytes c → d ≡ Refused e
       → x ≡ refusalOf d → Stopped x ≡ walk (loadProtos level) bytes c s
@@ -223,13 +224,13 @@ module _ (bytes : List ℕ) (s : Search) where
   none-at : (c : Cursor) (at n : ℕ) → step same loadInt bytes c ≡ At at n → walkOf s (noneOf n bytes at) ≡ walk (loadProtos 0) bytes c s
   unfolding step walk loadProtos
   none-at (At at₀ v) at n p = counted-to (loadInt bytes at₀) (λ n at₁. noneOf n bytes at₁) at n p
-  none-at (Refused e) at n p = absurd (let z : _≡_ {A = ℕ} 0 1 = cc in omega arith)
+  none-at (Refused e) at n p = absurd (true≢false (cc))
 
   some-at : (l : ℕ) (c : Cursor) (at n : ℕ) → step same loadInt bytes c ≡ At at n
       → walkOf s (several (loadFunction l) n bytes at) ≡ walk (loadProtos (suc l)) bytes c s
   unfolding step walk loadProtos
   some-at l (At at₀ v) at n p = counted-to (loadInt bytes at₀) (λ n at₁. several (functionWith (loadProtos l)) n bytes at₁) at n p
-  some-at l (Refused e) at n p = absurd (let z : _≡_ {A = ℕ} 0 1 = cc in omega arith)
+  some-at l (Refused e) at n p = absurd (true≢false (cc))
 
   module _ (c d : Cursor) (at n : ℕ) (h : d ≡ step same loadInt bytes c) (k : d ≡ At at n) (level : ℕ) where
     -- no level is left, and none is needed

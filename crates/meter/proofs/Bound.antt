@@ -97,10 +97,13 @@ module _ (scale : Scale) (sound : Sound scale) where
 
   -- A path fed word by word is written down whole, and no word of it is refused.
 
+  abbrev modelOf : ℕ → List ℕ → ℕ → Model
+  modelOf x xs k = record { path = x ∷ xs; tally = k }
+
   abbrev Written : ℕ → List ℕ → ℕ → List ℕ → Type 0
   Written x xs k qs =
-      (modelAfter g (record { path = x ∷ xs; tally = k }) (feeds qs) .path ≡ x ∷ (xs ++ qs))
-      × (modelAnswers g (record { path = x ∷ xs; tally = k }) (feeds qs) ≡ replicate (length qs) 0)
+      (modelAfter g (modelOf x xs k) (feeds qs) .path ≡ x ∷ (xs ++ qs))
+      × (modelAnswers g (modelOf x xs k) (feeds qs) ≡ replicate (length qs) 0)
 
   after-word : (b : Model) (q : ℕ) → writes g (b .path) q ≡ true
       → (fed g b q ≡ record { path = b .path ++ (q ∷ []); tally = cond (servesTo g (b .path) q) (b .tally + 1) (b .tally) }) × (answerTo g b q ≡ 0)
@@ -109,9 +112,9 @@ module _ (scale : Scale) (sound : Sound scale) where
   written : (x : ℕ) (xs : List ℕ) (k : ℕ) (qs : List ℕ) → Along g (lastFrom x xs) qs → Written x xs k qs
   written x xs k [] a = (ap (λ (l : List ℕ). x ∷ l) (sym (append-nil xs)), refl)
   written x xs k (q ∷ qs) a =
-      let now : (fed g (record { path = x ∷ xs; tally = k }) q ≡ record { path = x ∷ (xs ++ (q ∷ [])); tally = cond (g .serves (lastFrom x xs) q) (k + 1) k })
-      × (answerTo g (record { path = x ∷ xs; tally = k }) q ≡ 0) =
-      after-word (record { path = x ∷ xs; tally = k }) q (laws .member-in q (g .successors (lastFrom x xs)) .1 (a .1)) in
+      let now : (fed g (modelOf x xs k) q ≡ record { path = x ∷ (xs ++ (q ∷ [])); tally = cond (g .serves (lastFrom x xs) q) (k + 1) k })
+      × (answerTo g (modelOf x xs k) q ≡ 0) =
+      after-word (modelOf x xs k) q (laws .member-in q (g .successors (lastFrom x xs)) .1 (a .1)) in
       let rest : Written x (xs ++ (q ∷ [])) (cond (g .serves (lastFrom x xs) q) (k + 1) k) qs =
       written x (xs ++ (q ∷ [])) (cond (g .serves (lastFrom x xs) q) (k + 1) k) qs (rw (last-more x xs q) (a .2)) in (
         ap (λ (b : Model). modelAfter g b (feeds qs) .path) (now .0) ∙ rest .0 ∙ ap (λ (l : List ℕ). x ∷ l) (append-assoc xs (q ∷ []) qs),

@@ -24,9 +24,13 @@ use Rattle.meter.specs.Changing.{bookCalled, bookAfter, bookAnswer, book
 use Rattle.meter.specs.Changing.{changingAnswers, Bytes, FollowsBook}
 use Rattle.meter.proofs.Calls.{more-services}
 
+-- the last word of a path that is not empty
+abbrev lastIn : Entry → List Entry → ℕ
+lastIn e es = lastFrom (e .word) (entryWords es)
+
 -- One word more at a path's end.
 
-last-on : (e : Entry) (es : List Entry) (f : Entry) → lastFrom (e .word) (entryWords (es ++ (f ∷ []))) ≡ f .word
+last-on : (e : Entry) (es : List Entry) (f : Entry) → lastIn e (es ++ (f ∷ [])) ≡ f .word
 last-on e [] f = refl
 last-on e (x ∷ es) f = last-on x es f
 
@@ -37,16 +41,16 @@ module _ (g : Graph) where
   any-on p [] f = or-false (g .serves p (f .word))
   any-on p (x ∷ es) f =
       rw (any-on (x .word) es f) (sym (or-assoc (g .serves p (x .word))
-      (anyServes g (x .word) (entryWords es)) (g .serves (lastFrom (x .word) (entryWords es)) (f .word))))
+      (anyServes g (x .word) (entryWords es)) (g .serves (lastIn x es) (f .word))))
 
   since-served : (e : Entry) (es : List Entry) (f : Entry)
-      → g .serves (lastFrom (e .word) (entryWords es)) (f .word) ≡ true
+      → g .serves (lastIn e es) (f .word) ≡ true
       → entriesSinceService g e (es ++ (f ∷ [])) ≡ f ∷ []
   since-served e [] f h = rw h
   since-served e (x ∷ es) f h = rw (any-on (x .word) es f, h, or-true, or-true) (since-served x es f h)
 
   since-more : (e : Entry) (es : List Entry) (f : Entry)
-      → g .serves (lastFrom (e .word) (entryWords es)) (f .word) ≡ false
+      → g .serves (lastIn e es) (f .word) ≡ false
       → entriesSinceService g e (es ++ (f ∷ [])) ≡ entriesSinceService g e es ++ (f ∷ [])
   since-more e [] f h = rw h
   since-more e (x ∷ es) f h =
@@ -64,11 +68,11 @@ module _ (g : Graph) where
 
   weighed-on : (e : Entry) (es : List Entry) (f : Entry)
       → weighedSince g (e ∷ (es ++ (f ∷ [])))
-      ≡ cond (g .serves (lastFrom (e .word) (entryWords es)) (f .word)) (f .weight)
+      ≡ cond (g .serves (lastIn e es) (f .word)) (f .weight)
       (weighedSince g (e ∷ es) + f .weight)
-  weighed-on e es f = go (g .serves (lastFrom (e .word) (entryWords es)) (f .word)) refl
+  weighed-on e es f = go (g .serves (lastIn e es) (f .word)) refl
     where
-      go : (t : Bool) → g .serves (lastFrom (e .word) (entryWords es)) (f .word) ≡ t
+      go : (t : Bool) → g .serves (lastIn e es) (f .word) ≡ t
           → weighedSince g (e ∷ (es ++ (f ∷ [])))
           ≡ cond t (f .weight) (weighedSince g (e ∷ es) + f .weight)
       go true h = ap entriesSum (since-served e es f h) ∙ omega arith
@@ -99,7 +103,7 @@ module _ (ws : Script) (sound : script.Sound ws) (few : ws .size ≤ mostWords) 
 
   abbrev Counted : List Entry → Type 0
   Counted [] = Unit {0}
-  Counted (e ∷ es) = Fits (lastFrom (e .word) (entryWords es)) (weighedSince g (e ∷ es))
+  Counted (e ∷ es) = Fits (lastIn e es) (weighedSince g (e ∷ es))
 
   -- a table that 18 lets through
   module _ (weights : List ℕ) (accepted : refusesWeights weights ≡ false) (bytes : (i : ℕ) → getD weights i 0 ≤ heaviestWeight) where
@@ -131,7 +135,7 @@ module _ (ws : Script) (sound : script.Sound ws) (few : ws .size ≤ mostWords) 
     counted-more [] q c h = let f = first-word q h in (omega (arith, f .0, f .1), omega (arith, some q), omega (arith, light q))
     counted-more (e ∷ es) q c h =
         rw (last-on e es (entry q), weighed-on g e es (entry q))
-        (fits-next (lastFrom (e .word) (entryWords es)) q (weighedSince g (e ∷ es)) (g .serves (lastFrom (e .word) (entryWords es)) q) refl h (c .2))
+        (fits-next (lastIn e es) q (weighedSince g (e ∷ es)) (g .serves (lastIn e es) q) refl h (c .2))
 
     counted-written : (b : Book) (q : ℕ) (t : Bool) → writes g (entryWords (b .path)) q ≡ t → Counted (b .path) → Counted (written ws b weights q t .path)
     counted-written b q true e c = counted-more (b .path) q c e
@@ -146,10 +150,10 @@ module _ (ws : Script) (sound : script.Sound ws) (few : ws .size ≤ mostWords) 
     not-foreign start k h (e ∷ es) c l =
         rw (
           le-ltb h (weighedSince g (e ∷ es)) l,
-          lt-leb (g .size) (lastFrom (e .word) (entryWords es)) (c .0),
+          lt-leb (g .size) (lastIn e es) (c .0),
           ne-eqb (weighedSince g (e ∷ es)) 0 (λ z. omega (arith, c .1, z)),
           le-ltb
-              (heaviestWeight * (lastFrom (e .word) (entryWords es) + 1)) (weighedSince g (e ∷ es)) (c .2),
+              (heaviestWeight * (lastIn e es + 1)) (weighedSince g (e ∷ es)) (c .2),
         )
 
     abbrev rises : List Entry → ℕ → ℕ → ℕ
@@ -195,8 +199,8 @@ module _ (ws : Script) (sound : script.Sound ws) (few : ws .size ≤ mostWords) 
     first-fed start k h q false u e d = rw (le-ltb mostWords (g .size) few, accepted, le-ltb h 0 (omega arith), e, or-true)
 
     next-fed : (start k h : ℕ) (e : Entry) (es : List Entry) (q : ℕ) (t u : Bool)
-        → follows g (lastFrom (e .word) (entryWords es)) q ≡ t
-        → g .serves (lastFrom (e .word) (entryWords es)) q ≡ u
+        → follows g (lastIn e es) q ≡ t
+        → g .serves (lastIn e es) q ≡ u
         → Counted (e ∷ es) → Covered (e ∷ es) h
         → feedOf (scaleOf ws weights) (shows start (record { path = e ∷ es; tally = k }) h) q ≡ Told start (record { path = e ∷ es; tally = k }) h q
     unfolding feedOf isStray movedTo showing
@@ -205,7 +209,7 @@ module _ (ws : Script) (sound : script.Sound ws) (few : ws .size ≤ mostWords) 
           le-ltb mostWords (g .size) few,
           accepted,
           not-foreign start k h (x ∷ es) c l,
-          lt-leb (g .size) q (step-inside (lastFrom (x .word) (entryWords es)) q e),
+          lt-leb (g .size) q (step-inside (lastIn x es) q e),
           e,
           d,
           last-on x es (entry q),
@@ -218,7 +222,7 @@ module _ (ws : Script) (sound : script.Sound ws) (few : ws .size ≤ mostWords) 
           le-ltb mostWords (g .size) few,
           accepted,
           not-foreign start k h (x ∷ es) c l,
-          lt-leb (g .size) q (step-inside (lastFrom (x .word) (entryWords es)) q e),
+          lt-leb (g .size) q (step-inside (lastIn x es) q e),
           e,
           d,
           last-on x es (entry q),
@@ -231,8 +235,8 @@ module _ (ws : Script) (sound : script.Sound ws) (few : ws .size ≤ mostWords) 
         → feedOf (scaleOf ws weights) (shows start (record { path = es; tally = k }) h) q ≡ Told start (record { path = es; tally = k }) h q
     fed-as start k h [] q c l = first-fed start k h q (eqb q 0) (ltb 0 (g .size)) refl refl
     fed-as start k h (e ∷ es) q c l =
-        next-fed start k h e es q (follows g (lastFrom (e .word) (entryWords es)) q)
-        (g .serves (lastFrom (e .word) (entryWords es)) q) refl refl c l
+        next-fed start k h e es q (follows g (lastIn e es) q)
+        (g .serves (lastIn e es) q) refl refl c l
 
   -- a table that 18 refuses
   refused-as : (weights : List ℕ) → refusesWeights weights ≡ true → (m : Meter) (q : ℕ)

@@ -57,8 +57,11 @@ module _ (n : ℕ) (m : Meter) where
   begun-none : m .begun ≡ 0 → isBegun m ≡ false
   begun-none h = ap not (eq-eqb (m .begun) 0 h)
 
+  abbrev countTest : Bool
+  countTest = eqb (m .count) 0 || ltb (255 * (m .last + 1)) (m .count)
+
   abbrev begunTest : Bool
-  begunTest = leb n (m .last) || (eqb (m .count) 0 || ltb (255 * (m .last + 1)) (m .count))
+  begunTest = leb n (m .last) || countTest
 
   abbrev newTest : Bool
   newTest = not (eqb (m .last) 0) || not (eqb (m .count) 0)
@@ -69,7 +72,7 @@ module _ (n : ℕ) (m : Meter) where
       (λ e. ⊎-elim (λ d. none (is-begun b) (eqb-true (m .count) 0 d))
       (λ d. much (is-begun b) (ltb-true (255 * (m .last + 1)) (m .count) d))
       (or-so (eqb (m .count) 0) (ltb (255 * (m .last + 1)) (m .count)) e))
-      (or-so (leb n (m .last)) (eqb (m .count) 0 || ltb (255 * (m .last + 1)) (m .count)) h)
+      (or-so (leb n (m .last)) countTest h)
 
   from-new : isBegun m ≡ false → newTest ≡ true → Foreign n m
   from-new b h =
@@ -99,12 +102,12 @@ module _ (n : ℕ) (m : Meter) where
   of-foreign : Foreign n m → isForeign n m ≡ true
   unfolding isForeign
   of-foreign (below h) = so-left (ltb (m .highest) (m .count)) (cond (isBegun m) begunTest newTest) (lt-ltb (m .highest) (m .count) h)
-  of-foreign (far b h) = of-begun (begun-so b) (so-left (leb n (m .last)) (eqb (m .count) 0 || ltb (255 * (m .last + 1)) (m .count)) (le-leb n (m .last) h))
+  of-foreign (far b h) = of-begun (begun-so b) (so-left (leb n (m .last)) countTest (le-leb n (m .last) h))
   of-foreign (none b h) =
-      of-begun (begun-so b) (so-right (leb n (m .last)) (eqb (m .count) 0 || ltb (255 * (m .last + 1)) (m .count))
+      of-begun (begun-so b) (so-right (leb n (m .last)) countTest
       (so-left (eqb (m .count) 0) (ltb (255 * (m .last + 1)) (m .count)) (eq-eqb (m .count) 0 h)))
   of-foreign (much b h) =
-      of-begun (begun-so b) (so-right (leb n (m .last)) (eqb (m .count) 0 || ltb (255 * (m .last + 1)) (m .count))
+      of-begun (begun-so b) (so-right (leb n (m .last)) countTest
       (so-right (eqb (m .count) 0) (ltb (255 * (m .last + 1)) (m .count)) (lt-ltb (255 * (m .last + 1)) (m .count) h)))
   of-foreign (last b h) = of-new (begun-none b) (so-left (not (eqb (m .last) 0)) (not (eqb (m .count) 0)) (so-not (eqb (m .last) 0) (ne-eqb (m .last) 0 h)))
   of-foreign (count b h) = of-new (begun-none b) (so-right (not (eqb (m .last) 0)) (not (eqb (m .count) 0)) (so-not (eqb (m .count) 0) (ne-eqb (m .count) 0 h)))
@@ -145,6 +148,10 @@ module _ (s : Scale) (m : Meter) (q : ℕ) where
 
 -- The chain.
 
+-- two things of which neither holds
+no : {A B : Type 0} → (A → ⊥) → (B → ⊥) → A ↔ B
+no f g = (λ h. absurd (f h), λ h. absurd (g h))
+
 module _ (m next : Meter) (p : ℕ) where
   abbrev chain : Bool → Bool → Bool → Bool → Fed
   chain a b c d =
@@ -169,10 +176,10 @@ module _ (m next : Meter) (p : ℕ) where
   by true b c d =
       record {
         one = (λ h. refl, λ h. refl);
-        eighteen = (λ h. absurd (omega (arith, h)), λ h. absurd (true≢false (h .0)));
-        eleven = (λ h. absurd (omega (arith, h)), λ h. absurd (true≢false (h .0)));
-        ten = (λ h. absurd (omega (arith, h)), λ h. absurd (true≢false (h .0)));
-        accepted = (λ h. absurd (omega (arith, h)), λ h. absurd (true≢false (h .0)));
+        eighteen = no (λ h. omega (arith, h)) (λ h. true≢false (h .0));
+        eleven = no (λ h. omega (arith, h)) (λ h. true≢false (h .0));
+        ten = no (λ h. omega (arith, h)) (λ h. true≢false (h .0));
+        accepted = no (λ h. omega (arith, h)) (λ h. true≢false (h .0));
         place-18 = λ h. absurd (omega (arith, h));
         no-place = λ h. refl;
         kept = λ h. refl;
@@ -180,11 +187,11 @@ module _ (m next : Meter) (p : ℕ) where
       }
   by false true c d =
       record {
-        one = (λ h. absurd (omega (arith, h)), λ h. absurd (false≢true h));
+        one = no (λ h. omega (arith, h)) false≢true;
         eighteen = (λ h. (refl, refl), λ h. refl);
-        eleven = (λ h. absurd (omega (arith, h)), λ h. absurd (true≢false (h .1)));
-        ten = (λ h. absurd (omega (arith, h)), λ h. absurd (true≢false (h .1)));
-        accepted = (λ h. absurd (omega (arith, h)), λ h. absurd (true≢false (h .1)));
+        eleven = no (λ h. omega (arith, h)) (λ h. true≢false (h .1));
+        ten = no (λ h. omega (arith, h)) (λ h. true≢false (h .1));
+        accepted = no (λ h. omega (arith, h)) (λ h. true≢false (h .1));
         place-18 = λ h. refl;
         no-place = λ h. absurd (h refl);
         kept = λ h. refl;
@@ -192,11 +199,11 @@ module _ (m next : Meter) (p : ℕ) where
       }
   by false false true d =
       record {
-        one = (λ h. absurd (omega (arith, h)), λ h. absurd (false≢true h));
-        eighteen = (λ h. absurd (omega (arith, h)), λ h. absurd (false≢true (h .1)));
+        one = no (λ h. omega (arith, h)) false≢true;
+        eighteen = no (λ h. omega (arith, h)) (λ h. false≢true (h .1));
         eleven = (λ h. (refl, refl, refl), λ h. refl);
-        ten = (λ h. absurd (omega (arith, h)), λ h. absurd (true≢false (h .2)));
-        accepted = (λ h. absurd (omega (arith, h)), λ h. absurd (true≢false (h .2)));
+        ten = no (λ h. omega (arith, h)) (λ h. true≢false (h .2));
+        accepted = no (λ h. omega (arith, h)) (λ h. true≢false (h .2));
         place-18 = λ h. absurd (omega (arith, h));
         no-place = λ h. refl;
         kept = λ h. refl;
@@ -204,11 +211,11 @@ module _ (m next : Meter) (p : ℕ) where
       }
   by false false false true =
       record {
-        one = (λ h. absurd (omega (arith, h)), λ h. absurd (false≢true h));
-        eighteen = (λ h. absurd (omega (arith, h)), λ h. absurd (false≢true (h .1)));
-        eleven = (λ h. absurd (omega (arith, h)), λ h. absurd (false≢true (h .2)));
+        one = no (λ h. omega (arith, h)) false≢true;
+        eighteen = no (λ h. omega (arith, h)) (λ h. false≢true (h .1));
+        eleven = no (λ h. omega (arith, h)) (λ h. false≢true (h .2));
         ten = (λ h. (refl, refl, refl, refl), λ h. refl);
-        accepted = (λ h. absurd (omega (arith, h)), λ h. absurd (true≢false (h .3)));
+        accepted = no (λ h. omega (arith, h)) (λ h. true≢false (h .3));
         place-18 = λ h. absurd (omega (arith, h));
         no-place = λ h. refl;
         kept = λ h. refl;
@@ -216,10 +223,10 @@ module _ (m next : Meter) (p : ℕ) where
       }
   by false false false false =
       record {
-        one = (λ h. absurd (omega (arith, h)), λ h. absurd (false≢true h));
-        eighteen = (λ h. absurd (omega (arith, h)), λ h. absurd (false≢true (h .1)));
-        eleven = (λ h. absurd (omega (arith, h)), λ h. absurd (false≢true (h .2)));
-        ten = (λ h. absurd (omega (arith, h)), λ h. absurd (false≢true (h .3)));
+        one = no (λ h. omega (arith, h)) false≢true;
+        eighteen = no (λ h. omega (arith, h)) (λ h. false≢true (h .1));
+        eleven = no (λ h. omega (arith, h)) (λ h. false≢true (h .2));
+        ten = no (λ h. omega (arith, h)) (λ h. false≢true (h .3));
         accepted = (λ h. (refl, refl, refl, refl), λ h. refl);
         place-18 = λ h. absurd (omega (arith, h));
         no-place = λ h. refl;

@@ -2,8 +2,7 @@
 -- Assumes nothing.
 use Prim.Native.Nat.{ℕ, zero, suc, _+_, _*_, _<_, _^_}
 use mathlib.Core.Path.{_≡_, refl, sym, _∙_}
-use mathlib.Core.Bool.{Bool, true, false, not, _&&_, _||_, Bool·beq, cond}
-use native.Mathlib.Omega.{arith}
+use mathlib.Core.Bool.{Bool, true, false, not, _&&_, _||_, Bool·beq, cond, true≢false}
 use lib.Dec.{T, eqb, ltb}
 use lib.IntN.{ℤ, pos, negsuc}
 use lib.Ieee.{Float, nan, inf, fin, Format, binary64, prec, emax, low, up, down, odd, units, round, ofInt, eq, isNan, ofBits, toBits, nanBits}
@@ -21,7 +20,7 @@ level-self s t u p q = rw (p, q)
 
 eq-self : (x : Float) → isNan x ≡ false → eq x x ≡ true
 unfolding eq isNan
-eq-self nan h = let z : _≡_ {A = ℕ} 0 1 = cc in absurd (omega arith)
+eq-self nan h = absurd (true≢false (cc))
 eq-self (inf s) h = beq-self s
 eq-self (fin s m e) h =
     level-self (Bool·beq s s) (eqb (m * up e * down e) (m * up e * down e)) (eqb (m * up e * down e) 0)
@@ -33,7 +32,7 @@ unfolding floatBits choose
 bits-of x h = rw (eq-self x h)
 
 pub no-nan : (b : Bool) → b ≡ false → T (not b)
-no-nan true e = let z : _≡_ {A = ℕ} 0 1 = cc in absurd (omega arith)
+no-nan true e = absurd (true≢false (cc))
 no-nan false e = tt
 
 -- bits read as a number, and written again

@@ -8,16 +8,16 @@ use lib.ListN.{length}
 use Rattle.common.specs.Lowest.{lowestFrom}
 use Rattle.common.specs.Numbers.{«ACCEPTED»}
 use Rattle.fields.specs.declared.version.Version.{Version}
-use Rattle.fields.specs.Table.{classOf, companionOf}
-use Rattle.fields.specs.Table53 as table53
+use Rattle.fields.specs.lua54.Table.{classOf, companionOf}
+use Rattle.fields.specs.lua53.Table as table53
 use Rattle.graph.specs.Graph.{Reachable}
 use Rattle.graph.specs.Marks.{leads, markOf}
 use Rattle.graph.specs.Longest.{within, heaviest, lengthOf, most, longest, first}
 use Rattle.graph.proofs.Laws as graph
 use Rattle.runs.specs.Script.{scriptOf, graphOf}
 use Rattle.sweep.specs.Steps.{unless, one, ordered, two, servesOf}
-use Rattle.steps.specs.Successors.{opcodeAt, isBetween, companionPresent, successorsOf}
-use Rattle.steps.specs.Successors53 as steps53
+use Rattle.steps.specs.lua54.Successors.{opcodeAt, isBetween, companionPresent, successorsOf}
+use Rattle.steps.specs.lua53.Successors as steps53
 use Rattle.runs.specs.Weights.{lowestZero, refusesWeights}
 use Rattle.runs.specs.Run.{numberOf, lowestInvalid, runOf}
 use Rattle.runs.proofs.Laws.{laws}

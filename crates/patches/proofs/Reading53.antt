@@ -8,19 +8,19 @@ use native.Mathlib.Omega.{arith}
 use lib.Dec.{T, ltb, eqb}
 use lib.IntN.{pos}
 use lib.ListN.{length, getD}
-use Rattle.fields.specs.Opcodes53.{«OP_JMP», «OP_TFORLOOP», «OP_EXTRAARG»}
-use Rattle.fields.specs.Word53.{opcodeOf, aOf, cOf}
-use Rattle.fields.specs.Table53.{StepClass, following, returning, branching, comparing, skipping, skippingIfC}
-use Rattle.fields.specs.Table53.{skippingUnlessC, jumping, looping, invalid, classOf, Companion, alone}
-use Rattle.fields.specs.Table53.{jumpAfter, extraAfter, extraAfterUnlessC, loopAfter, companionOf}
+use Rattle.fields.specs.lua53.Opcodes.{«OP_JMP», «OP_TFORLOOP», «OP_EXTRAARG»}
+use Rattle.fields.specs.lua53.Word.{opcodeOf, aOf, cOf}
+use Rattle.fields.specs.lua53.Table.{StepClass, following, returning, branching, comparing, skipping, skippingIfC}
+use Rattle.fields.specs.lua53.Table.{skippingUnlessC, jumping, looping, invalid, classOf, Companion, alone}
+use Rattle.fields.specs.lua53.Table.{jumpAfter, extraAfter, extraAfterUnlessC, loopAfter, companionOf}
 use Rattle.fields.specs.Laws.{all}
 use Rattle.fields.proofs.Laws as fields
 use Rattle.graph.specs.Graph.{In}
 use Rattle.sweep.specs.declared.edges.Successors.{Successors}
 use Rattle.sweep.specs.Steps.{unless, one, two, isInvalid, listOf}
-use Rattle.steps.specs.Successors53.{opcodeAt, nextOf, standsAt, companionPresent, successorsOf}
-use Rattle.patches.specs.Reading.{SameAt}
-use Rattle.patches.specs.Reading53.{speaksOfNext, looksAtNext, SameAround, Reading}
+use Rattle.steps.specs.lua53.Successors.{opcodeAt, nextOf, standsAt, companionPresent, successorsOf}
+use Rattle.patches.specs.Alike.{SameAt}
+use Rattle.patches.specs.lua53.Reading.{speaksOfNext, looksAtNext, SameAround, Reading}
 use Rattle.patches.proofs.Reading.{holds, through, Onward, one-there, two-there, onward-by}
 
 module _ (ws vs : List ℕ) where

@@ -11,7 +11,7 @@ use lib.ListN.{length}
 use Rattle.common.specs.Numbers.{«ACCEPTED», «REACHES_INVALID»}
 use Rattle.fields.specs.declared.version.Version.{Version}
 use Rattle.fields.specs.declared.version.Version.the-variants.{Lua54, Lua53}
-use Rattle.fields.specs.Opcodes.{
+use Rattle.fields.specs.lua54.Opcodes.{
   «OP_MOVE»,
   «OP_LOADKX»,
   «OP_ADD»,
@@ -21,7 +21,7 @@ use Rattle.fields.specs.Opcodes.{
   «OP_TFORLOOP»,
   «OP_EXTRAARG»,
 }
-use Rattle.fields.specs.Opcodes53 as opcodes53
+use Rattle.fields.specs.lua53.Opcodes as opcodes53
 use Rattle.graph.specs.Graph.{Reachable}
 use Rattle.graph.specs.Marks.{markOf}
 use Rattle.runs.specs.declared.longest.Run.{Run}
@@ -29,7 +29,7 @@ use Rattle.runs.specs.declared.longest.Run.the-variants.{Accepted, Refused}
 use Rattle.runs.specs.Script.{scriptOf, lua54, graphOf}
 use Rattle.runs.specs.Run.{numberOf, runOf}
 use Rattle.runs.specs.Counted.{ones}
-use Rattle.patches.specs.Reading.{SameAt}
+use Rattle.patches.specs.Alike.{SameAt}
 
 -- the run of a list by itself, with all weights 1
 abbrev runAlone : Version → List ℕ → Run

@@ -12,7 +12,7 @@ use Rattle.graph.specs.Graph.{Graph, Reachable, Segment}
 use Rattle.runs.specs.Script.{scriptOf, graphOf}
 use Rattle.runs.specs.Run.{runOf, numberIs, marksAfter, lengthsAfter}
 use Rattle.runs.specs.Slices.{Kept}
-use Rattle.patches.specs.Reading.{SameAt}
+use Rattle.patches.specs.Alike.{SameAt}
 
 -- "next to": p - 1 and p + 1 of p
 abbrev pub NextTo : ℕ → ℕ → Type 0

@@ -1,11 +1,11 @@
 -- The P cases hold of the definitions.
 -- Assumes nothing.
 use mathlib.Core.Path.{refl}
-use Rattle.fields.specs.Table.{classOf, companionOf, fallbackOf}
-use Rattle.fields.specs.Table53.{classOf as classOf53, companionOf as companionOf53}
+use Rattle.fields.specs.lua54.Table.{classOf, companionOf, fallbackOf}
+use Rattle.fields.specs.lua53.Table.{classOf as classOf53, companionOf as companionOf53}
 use Rattle.sweep.specs.Steps.{unless, one, ordered, two, servesOf}
-use Rattle.steps.specs.Successors.{opcodeAt, isBetween, companionPresent, successorsOf}
-use Rattle.steps.specs.Successors53.{opcodeAt as opcodeAt53, companionPresent as companionPresent53, successorsOf as successorsOf53}
+use Rattle.steps.specs.lua54.Successors.{opcodeAt, isBetween, companionPresent, successorsOf}
+use Rattle.steps.specs.lua53.Successors.{opcodeAt as opcodeAt53, companionPresent as companionPresent53, successorsOf as successorsOf53}
 use Rattle.graph.specs.Marks.{leads, markOf}
 use Rattle.common.specs.Lowest.{lowestFrom}
 use Rattle.graph.specs.Longest.{within, heaviest, lengthOf, most, longest, first}

@@ -8,19 +8,19 @@ use mathlib.Core.List.{List, [], _∷_, _++_}
 use lib.IntN.{ℤ, pos}
 use lib.ListN.{length, replicate}
 use Rattle.common.specs.Limits.{heaviestWeight}
-use Rattle.fields.specs.Opcodes.{«OP_MOVE», «OP_LOADI», «OP_FORLOOP»}
-use Rattle.fields.specs.Events.{«TM_ADD»}
-use Rattle.fields.specs.Word.{opcodeOf, aOf, sbxOf}
+use Rattle.runs.specs.Weights.{weightCount}
+use Rattle.fields.specs.lua54.Opcodes.{«OP_MOVE», «OP_LOADI», «OP_FORLOOP»}
+use Rattle.fields.specs.lua54.Events.{«TM_ADD»}
+use Rattle.fields.specs.lua54.Word.{opcodeOf, aOf, sbxOf}
 use Rattle.fields.specs.declared.version.Version.the-variants.{Lua53}
 use Rattle.sweep.specs.declared.edges.Successors.{Successors}
 use Rattle.sweep.specs.declared.edges.Successors.the-variants.{Invalid, Stop, One, Two}
 use Rattle.runs.specs.declared.longest.Run.the-variants.{Accepted, Refused}
 use Rattle.runs.specs.Script.{lua54, scriptOf}
 use Rattle.sweep.specs.Steps.{servesOf}
-use Rattle.steps.specs.Successors.{successorsOf}
-use Rattle.steps.specs.Successors53.{successorsOf as successorsOf53}
+use Rattle.steps.specs.lua54.Successors.{successorsOf}
+use Rattle.steps.specs.lua53.Successors.{successorsOf as successorsOf53}
 use Rattle.runs.specs.Run.{runOf}
-use Rattle.runs.specs.Weights.{weightCount}
 use Rattle.runs.specs.Counted.{ones}
 use Rattle.values.specs.declared.ir.TypedOperand.{TypedOperand}
 use Rattle.values.specs.declared.ir.TypedOperand.the-variants as O

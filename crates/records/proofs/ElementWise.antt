@@ -21,31 +21,37 @@ fits : {n m l : ℕ} → suc n ≤ m → l ≡ m → n < l
 fits a e = omega (arith, a, e)
 
 module _ (words tags payloads names : List ℕ) where
-  pub length-filled : (n : ℕ) (ys : List SemanticInstruction) → length (filledRecords words tags payloads names n ys) ≡ length ys
+  abbrev filled : ℕ → List SemanticInstruction → List SemanticInstruction
+  filled n ys = filledRecords words tags payloads names n ys
+
+  abbrev lift : ℕ → SemanticInstruction
+  lift i = liftOf words tags payloads names i
+
+  pub length-filled : (n : ℕ) (ys : List SemanticInstruction) → length (filled n ys) ≡ length ys
   length-filled zero ys = refl
   length-filled (suc n) ys =
-      length-set (filledRecords words tags payloads names n ys) n (liftOf words tags payloads names n) ∙ length-filled n ys
+      length-set (filled n ys) n (lift n) ∙ length-filled n ys
 
   past : (n : ℕ) (ys : List SemanticInstruction) (i : ℕ) (d : SemanticInstruction) → n ≤ i
-      → getD (filledRecords words tags payloads names n ys) i d ≡ getD ys i d
+      → getD (filled n ys) i d ≡ getD ys i d
   past zero ys i d h = refl
   past (suc n) ys i d h =
-      getD-set-other (filledRecords words tags payloads names n ys) n i (liftOf words tags payloads names n) d (λ e. omega (arith, h, e))
+      getD-set-other (filled n ys) n i (lift n) d (λ e. omega (arith, h, e))
       ∙ past n ys i d (omega (arith, h))
 
   -- a step of `below`, with what is known for the words before
   below-at : (n : ℕ) (ys : List SemanticInstruction) (i : ℕ) (d : SemanticInstruction) → suc n ≤ length ys → i < suc n
-      → (i < n → getD (filledRecords words tags payloads names n ys) i d ≡ liftOf words tags payloads names i)
-      → (t : Bool) → eqb i n ≡ t → getD (filledRecords words tags payloads names (suc n) ys) i d ≡ liftOf words tags payloads names i
+      → (i < n → getD (filled n ys) i d ≡ lift i)
+      → (t : Bool) → eqb i n ≡ t → getD (filled (suc n) ys) i d ≡ lift i
   below-at n ys i d h l before true e =
-      subst (λ (j : ℕ). getD (filledRecords words tags payloads names (suc n) ys) j d ≡ liftOf words tags payloads names j) (sym (eqb-true i n e))
-      (getD-set-same (filledRecords words tags payloads names n ys) n (liftOf words tags payloads names n) d (fits h (length-filled n ys)))
+      subst (λ (j : ℕ). getD (filled (suc n) ys) j d ≡ lift j) (sym (eqb-true i n e))
+      (getD-set-same (filled n ys) n (lift n) d (fits h (length-filled n ys)))
   below-at n ys i d h l before false e =
-      getD-set-other (filledRecords words tags payloads names n ys) n i (liftOf words tags payloads names n) d (eqb-false i n e)
+      getD-set-other (filled n ys) n i (lift n) d (eqb-false i n e)
       ∙ before (omega (arith, l, eqb-false i n e))
 
   below : (n : ℕ) (ys : List SemanticInstruction) (i : ℕ) (d : SemanticInstruction) → n ≤ length ys → i < n
-      → getD (filledRecords words tags payloads names n ys) i d ≡ liftOf words tags payloads names i
+      → getD (filled n ys) i d ≡ lift i
   below zero ys i d h l = absurd (not-suc-le-zero l)
   below (suc n) ys i d h l = below-at n ys i d h l (below n ys i d (omega (arith, h))) (eqb i n) refl
 

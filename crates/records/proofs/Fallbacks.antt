@@ -6,11 +6,12 @@ use mathlib.Core.Bool.{Bool, true, false, cond}
 use mathlib.Core.List.{List, [], _∷_}
 use native.Mathlib.Omega.{arith}
 use lib.Dec.{leb, lit<}
-use Rattle.fields.specs.Opcodes.{«OP_GETTABUP», «OP_GETFIELD», «OP_SETTABUP», «OP_SETFIELD», «OP_SELF»}
-use Rattle.fields.specs.Opcodes.{«OP_MMBIN», «OP_MMBINK», «OP_UNM», «OP_BNOT», «OP_LEN», «OP_CONCAT»}
-use Rattle.fields.specs.Opcodes.{«OP_TBC», «OP_CALL», «OP_TAILCALL»}
-use Rattle.fields.specs.Events.{«TM_INDEX», «TM_NEWINDEX», «TM_LEN», «TM_UNM», «TM_BNOT», «TM_CONCAT», «TM_CALL», «TM_CLOSE»}
-use Rattle.fields.specs.Table.{Row, row, lookup, FallbackRule, fixed, byC, noFallback, fallbackNumber, fallbackOf}
+use Rattle.fields.specs.lua54.Opcodes.{«OP_GETTABUP», «OP_GETFIELD», «OP_SETTABUP», «OP_SETFIELD», «OP_SELF»}
+use Rattle.fields.specs.lua54.Opcodes.{«OP_MMBIN», «OP_MMBINK», «OP_UNM», «OP_BNOT», «OP_LEN», «OP_CONCAT»}
+use Rattle.fields.specs.lua54.Opcodes.{«OP_TBC», «OP_CALL», «OP_TAILCALL»}
+use Rattle.fields.specs.lua54.Events.{«TM_INDEX», «TM_NEWINDEX», «TM_LEN», «TM_UNM», «TM_BNOT», «TM_CONCAT», «TM_CALL», «TM_CLOSE»}
+use Rattle.fields.specs.Rows.{Row, row, lookup}
+use Rattle.fields.specs.lua54.Table.{FallbackRule, fixed, byC, noFallback, fallbackNumber, fallbackOf}
 use Rattle.values.specs.declared.ir.Fallback.the-variants.{NoFallback, Event}
 use Rattle.builders.specs.Parts.{eventOf}
 use Rattle.records.specs.Lift.{fallbackBy}

@@ -19,7 +19,14 @@ use Rattle.records.specs.Refusals.{unknownTag, unknownTagAt, isString, s
 use Rattle.records.specs.Order as order
 use Rattle.records.specs.Order.{Known, EndsPast, UnknownAt, StringPastAt, NamePastAt, Order}
 
--- Where a test holds first, by what the test says.
+-- Where a test holds first below k, by what the test says.
+
+record Sought (t : ℕ → Bool) (P : ℕ → Type 0) (k : ℕ) : Type 0 where
+  there : ltb (lowest t k) k ≡ true → P (lowest t k)
+  least : (i : ℕ) → P i → lowest t k ≤ i
+  some : (i : ℕ) → P i → ltb (lowest t k) k ≡ true
+  none : ltb (lowest t k) k ≡ false → (i : ℕ) → P i → ⊥
+  nowhere : ((i : ℕ) → P i → ⊥) → ltb (lowest t k) k ≡ false
 
 module _ (t : ℕ → Bool) (P : ℕ → Type 0) (says : (i : ℕ) → (t i ≡ true) ↔ P i) (k : ℕ) where
   abbrev Here : ℕ → Type 0
@@ -47,6 +54,9 @@ module _ (t : ℕ → Bool) (P : ℕ → Type 0) (says : (i : ℕ) → (t i ≡ 
       go : (u : Bool) → ltb (lowest t k) k ≡ u → u ≡ false
       go true e = absurd (f (lowest t k) (there e))
       go false e = refl
+
+  sought : Sought t Here k
+  sought = record { there = there; least = least; some = some; none = none; nowhere = nowhere }
 
 -- What the three tests say.
 
@@ -114,11 +124,20 @@ unfolding past
 of-past bytes place h = lt-ltb bytes (place % 2 ^ 32 + place / 2 ^ 32) h
 
 module _ (tags payloads names : List ℕ) (bytes : ℕ) where
-  unknown-says : (i : ℕ) → (unknownTagAt tags i ≡ true) ↔ (Known (getD tags i 0) → ⊥)
+  abbrev Unknown : ℕ → Type 0
+  Unknown i = Known (getD tags i 0) → ⊥
+
+  abbrev StringPast : ℕ → Type 0
+  StringPast i = ((getD tags i 0 ≡ 4) ⊎ (getD tags i 0 ≡ 20)) × EndsPast bytes (getD payloads i 0)
+
+  abbrev NamePast : ℕ → Type 0
+  NamePast i = (getD names i 0 ≡ 2 ^ 64 - 1 → ⊥) × EndsPast bytes (getD names i 0)
+
+  unknown-says : (i : ℕ) → (unknownTagAt tags i ≡ true) ↔ Unknown i
   unfolding unknownTagAt
   unknown-says i = (unknown-of (getD tags i 0), of-unknown (getD tags i 0))
 
-  string-says : (i : ℕ) → (stringPastAt tags payloads bytes i ≡ true) ↔ (((getD tags i 0 ≡ 4) ⊎ (getD tags i 0 ≡ 20)) × EndsPast bytes (getD payloads i 0))
+  string-says : (i : ℕ) → (stringPastAt tags payloads bytes i ≡ true) ↔ StringPast i
   unfolding stringPastAt choose
   string-says i = (
     λ h.
@@ -127,7 +146,7 @@ module _ (tags payloads names : List ℕ) (bytes : ℕ) where
     λ h. rw (of-string (getD tags i 0) (h .0), of-past bytes (getD payloads i 0) (h .1)),
   )
 
-  name-says : (i : ℕ) → (namePastAt names bytes i ≡ true) ↔ ((getD names i 0 ≡ 2 ^ 64 - 1 → ⊥) × EndsPast bytes (getD names i 0))
+  name-says : (i : ℕ) → (namePastAt names bytes i ≡ true) ↔ NamePast i
   unfolding namePastAt choose
   name-says i = (
     λ h.
@@ -135,6 +154,15 @@ module _ (tags payloads names : List ℕ) (bytes : ℕ) where
         (eqb-false (getD names i 0) (2 ^ 64 - 1) (b .0), past-of bytes (getD names i 0) (b .1)),
     λ h. rw (ne-eqb (getD names i 0) (2 ^ 64 - 1) (h .0), of-past bytes (getD names i 0) (h .1)),
   )
+
+  unknown-sought : Sought (unknownTagAt tags) (λ i. (i < length tags) × Unknown i) (length tags)
+  unknown-sought = sought (unknownTagAt tags) Unknown unknown-says (length tags)
+
+  string-sought : Sought (stringPastAt tags payloads bytes) (λ i. (i < length tags) × StringPast i) (length tags)
+  string-sought = sought (stringPastAt tags payloads bytes) StringPast string-says (length tags)
+
+  name-sought : Sought (namePastAt names bytes) (λ i. (i < length names) × NamePast i) (length names)
+  name-sought = sought (namePastAt names bytes) NamePast name-says (length names)
 
 -- The chain.
 
@@ -144,6 +172,9 @@ yes a b = (λ h. b, λ h. a)
 
 no : {A B : Type 0} → (A → ⊥) → (B → ⊥) → A ↔ B
 no f g = (λ h. absurd (f h), λ h. absurd (g h))
+
+neither : (false ≡ true) ⊎ (false ≡ true) → ⊥
+neither = ⊎-elim false≢true false≢true
 
 module _ (x y z : ℕ) where
   abbrev chain : Bool → Bool → Bool → Bool → Bool → Bool → Bool → Bool → Answer
@@ -220,7 +251,7 @@ module _ (x y z : ℕ) where
   by false false false true e f g h =
       record {
         one = no (λ h. omega (arith, h)) (λ h. false≢true h);
-        two = no (λ h. omega (arith, h)) (λ h. ⊎-elim false≢true false≢true (h .1));
+        two = no (λ h. omega (arith, h)) (λ h. neither (h .1));
         three = yes refl (refl, refl, refl, refl);
         four = no (λ h. omega (arith, h)) (λ h. true≢false (h .3));
         five = no (λ h. omega (arith, h)) (λ h. true≢false (h .3));
@@ -235,7 +266,7 @@ module _ (x y z : ℕ) where
   by false false false false true f g h =
       record {
         one = no (λ h. omega (arith, h)) (λ h. false≢true h);
-        two = no (λ h. omega (arith, h)) (λ h. ⊎-elim false≢true false≢true (h .1));
+        two = no (λ h. omega (arith, h)) (λ h. neither (h .1));
         three = no (λ h. omega (arith, h)) (λ h. false≢true (h .3));
         four = yes refl (refl, refl, refl, refl, refl);
         five = no (λ h. omega (arith, h)) (λ h. true≢false (h .4));
@@ -250,7 +281,7 @@ module _ (x y z : ℕ) where
   by false false false false false true g h =
       record {
         one = no (λ h. omega (arith, h)) (λ h. false≢true h);
-        two = no (λ h. omega (arith, h)) (λ h. ⊎-elim false≢true false≢true (h .1));
+        two = no (λ h. omega (arith, h)) (λ h. neither (h .1));
         three = no (λ h. omega (arith, h)) (λ h. false≢true (h .3));
         four = no (λ h. omega (arith, h)) (λ h. false≢true (h .4));
         five = yes refl (refl, refl, refl, refl, refl, inl refl);
@@ -265,7 +296,7 @@ module _ (x y z : ℕ) where
   by false false false false false false true h =
       record {
         one = no (λ h. omega (arith, h)) (λ h. false≢true h);
-        two = no (λ h. omega (arith, h)) (λ h. ⊎-elim false≢true false≢true (h .1));
+        two = no (λ h. omega (arith, h)) (λ h. neither (h .1));
         three = no (λ h. omega (arith, h)) (λ h. false≢true (h .3));
         four = no (λ h. omega (arith, h)) (λ h. false≢true (h .4));
         five = yes refl (refl, refl, refl, refl, refl, inr refl);
@@ -280,10 +311,10 @@ module _ (x y z : ℕ) where
   by false false false false false false false true =
       record {
         one = no (λ h. omega (arith, h)) (λ h. false≢true h);
-        two = no (λ h. omega (arith, h)) (λ h. ⊎-elim false≢true false≢true (h .1));
+        two = no (λ h. omega (arith, h)) (λ h. neither (h .1));
         three = no (λ h. omega (arith, h)) (λ h. false≢true (h .3));
         four = no (λ h. omega (arith, h)) (λ h. false≢true (h .4));
-        five = no (λ h. omega (arith, h)) (λ h. ⊎-elim false≢true false≢true (h .5));
+        five = no (λ h. omega (arith, h)) (λ h. neither (h .5));
         six = yes refl (refl, refl, refl, refl, refl, refl, refl, refl);
         accepted = no (λ h. omega (arith, h)) (λ h. true≢false (h .7));
         place-3 = λ h. absurd (omega (arith, h));
@@ -295,10 +326,10 @@ module _ (x y z : ℕ) where
   by false false false false false false false false =
       record {
         one = no (λ h. omega (arith, h)) (λ h. false≢true h);
-        two = no (λ h. omega (arith, h)) (λ h. ⊎-elim false≢true false≢true (h .1));
+        two = no (λ h. omega (arith, h)) (λ h. neither (h .1));
         three = no (λ h. omega (arith, h)) (λ h. false≢true (h .3));
         four = no (λ h. omega (arith, h)) (λ h. false≢true (h .4));
-        five = no (λ h. omega (arith, h)) (λ h. ⊎-elim false≢true false≢true (h .5));
+        five = no (λ h. omega (arith, h)) (λ h. neither (h .5));
         six = no (λ h. omega (arith, h)) (λ h. false≢true (h .7));
         accepted = yes refl (refl, refl, refl, refl, refl, refl, refl, refl);
         place-3 = λ h. absurd (omega (arith, h));
@@ -329,53 +360,17 @@ module _ (n : ℕ) (tags payloads names : List ℕ) (bytes room : ℕ) where
   of-same : length tags ≡ length payloads → differ ≡ false
   of-same e = ap not (eq-eqb (length tags) (length payloads) e)
 
-  unknown : (i : ℕ) → (unknownTagAt tags i ≡ true) ↔ (Known (getD tags i 0) → ⊥)
-  unknown = unknown-says tags payloads names bytes
+  unknown : Sought (unknownTagAt tags) (UnknownAt n tags payloads names bytes room) (length tags)
+  unknown = unknown-sought tags payloads names bytes
 
-  strings : (i : ℕ) → (stringPastAt tags payloads bytes i ≡ true) ↔ (((getD tags i 0 ≡ 4) ⊎ (getD tags i 0 ≡ 20)) × EndsPast bytes (getD payloads i 0))
-  strings = string-says tags payloads names bytes
+  string : Sought (stringPastAt tags payloads bytes) (StringPastAt n tags payloads names bytes room) (length tags)
+  string = string-sought tags payloads names bytes
 
-  named : (i : ℕ) → (namePastAt names bytes i ≡ true) ↔ ((getD names i 0 ≡ 2 ^ 64 - 1 → ⊥) × EndsPast bytes (getD names i 0))
-  named = name-says tags payloads names bytes
+  name : Sought (namePastAt names bytes) (NamePastAt n tags payloads names bytes room) (length names)
+  name = name-sought tags payloads names bytes
 
   counted : ltb mostWords n ≡ false → differ ≡ false → ltb mostConstants (length tags) ≡ false → order.TablesCounted n tags payloads names bytes room
   counted a b c = (few a, (same b, ltb-false mostConstants (length tags) c))
-
-  no-unknown : ltb (firstUnknownTag tags) (length tags) ≡ false → (i : ℕ) → UnknownAt n tags payloads names bytes room i → ⊥
-  no-unknown = none (unknownTagAt tags) (λ i. Known (getD tags i 0) → ⊥) unknown (length tags)
-
-  no-string : ltb (firstStringPast tags payloads bytes) (length tags) ≡ false → (i : ℕ) → StringPastAt n tags payloads names bytes room i → ⊥
-  no-string =
-      none (stringPastAt tags payloads bytes)
-      (λ i. ((getD tags i 0 ≡ 4) ⊎ (getD tags i 0 ≡ 20)) × EndsPast bytes (getD payloads i 0)) strings
-      (length tags)
-
-  no-name : ltb (firstNamePast names bytes) (length names) ≡ false → (i : ℕ) → NamePastAt n tags payloads names bytes room i → ⊥
-  no-name = none (namePastAt names bytes) (λ i. (getD names i 0 ≡ 2 ^ 64 - 1 → ⊥) × EndsPast bytes (getD names i 0)) named (length names)
-
-  some-unknown : (i : ℕ) → UnknownAt n tags payloads names bytes room i → ltb (firstUnknownTag tags) (length tags) ≡ true
-  some-unknown = some (unknownTagAt tags) (λ i. Known (getD tags i 0) → ⊥) unknown (length tags)
-
-  some-string : (i : ℕ) → StringPastAt n tags payloads names bytes room i → ltb (firstStringPast tags payloads bytes) (length tags) ≡ true
-  some-string =
-      some (stringPastAt tags payloads bytes)
-      (λ i. ((getD tags i 0 ≡ 4) ⊎ (getD tags i 0 ≡ 20)) × EndsPast bytes (getD payloads i 0)) strings
-      (length tags)
-
-  some-name : (i : ℕ) → NamePastAt n tags payloads names bytes room i → ltb (firstNamePast names bytes) (length names) ≡ true
-  some-name = some (namePastAt names bytes) (λ i. (getD names i 0 ≡ 2 ^ 64 - 1 → ⊥) × EndsPast bytes (getD names i 0)) named (length names)
-
-  unknown-none : ((i : ℕ) → UnknownAt n tags payloads names bytes room i → ⊥) → ltb (firstUnknownTag tags) (length tags) ≡ false
-  unknown-none = nowhere (unknownTagAt tags) (λ i. Known (getD tags i 0) → ⊥) unknown (length tags)
-
-  string-none : ((i : ℕ) → StringPastAt n tags payloads names bytes room i → ⊥) → ltb (firstStringPast tags payloads bytes) (length tags) ≡ false
-  string-none =
-      nowhere (stringPastAt tags payloads bytes)
-      (λ i. ((getD tags i 0 ≡ 4) ⊎ (getD tags i 0 ≡ 20)) × EndsPast bytes (getD payloads i 0)) strings
-      (length tags)
-
-  name-none : ((i : ℕ) → NamePastAt n tags payloads names bytes room i → ⊥) → ltb (firstNamePast names bytes) (length names) ≡ false
-  name-none = nowhere (namePastAt names bytes) (λ i. (getD names i 0 ≡ 2 ^ 64 - 1 → ⊥) × EndsPast bytes (getD names i 0)) named (length names)
 
   pub order-of : Order n tags payloads names bytes room
   unfolding answerOf
@@ -406,29 +401,21 @@ module _ (n : ℕ) (tags payloads names : List ℕ) (bytes room : ℕ) where
           λ h.
               let t = b .three .0 h in (
                 counted (t .0) (t .1) (t .2),
-                (
-                  firstUnknownTag tags,
-                  there (unknownTagAt tags) (λ i. Known (getD tags i 0) → ⊥) unknown (length tags) (t .3),
-                ),
+                (firstUnknownTag tags, unknown .there (t .3)),
               ),
           λ h.
               b .three .1 (
                 le-ltb mostWords n (h .0 .0),
                 of-same (h .0 .1 .0),
                 le-ltb mostConstants (length tags) (h .0 .1 .1),
-                some-unknown (h .1 .0) (h .1 .1),
+                unknown .some (h .1 .0) (h .1 .1),
               ),
         );
         four = (
           λ h.
               let t = b .four .0 h in (
-                (counted (t .0) (t .1) (t .2), no-unknown (t .3)),
-                (
-                  firstStringPast tags payloads bytes,
-                  there (stringPastAt tags payloads bytes)
-                      (λ i. ((getD tags i 0 ≡ 4) ⊎ (getD tags i 0 ≡ 20)) × EndsPast bytes (getD payloads i 0))
-                      strings (length tags) (t .4),
-                ),
+                (counted (t .0) (t .1) (t .2), unknown .none (t .3)),
+                (firstStringPast tags payloads bytes, string .there (t .4)),
               ),
           λ h.
               let c = h .0 .0 in
@@ -436,20 +423,15 @@ module _ (n : ℕ) (tags payloads names : List ℕ) (bytes room : ℕ) where
                 le-ltb mostWords n (c .0),
                 of-same (c .1 .0),
                 le-ltb mostConstants (length tags) (c .1 .1),
-                unknown-none (h .0 .1),
-                some-string (h .1 .0) (h .1 .1),
+                unknown .nowhere (h .0 .1),
+                string .some (h .1 .0) (h .1 .1),
               ),
         );
         five = (
           λ h. let t = b .five .0 h in (
-            ((counted (t .0) (t .1) (t .2), no-unknown (t .3)), no-string (t .4)),
+            ((counted (t .0) (t .1) (t .2), unknown .none (t .3)), string .none (t .4)),
             ⊎-elim (λ e. inl (ltb-true mostNames (length names) e))
-                (λ e. inr (
-                  firstNamePast names bytes,
-                  there (namePastAt names bytes)
-                      (λ i. (getD names i 0 ≡ 2 ^ 64 - 1 → ⊥) × EndsPast bytes (getD names i 0)) named
-                      (length names) e,
-                ))
+                (λ e. inr (firstNamePast names bytes, name .there e))
                 (t .5),
           ),
           λ h. let c = h .0 .0 .0 in
@@ -457,16 +439,16 @@ module _ (n : ℕ) (tags payloads names : List ℕ) (bytes room : ℕ) where
                 le-ltb mostWords n (c .0),
                 of-same (c .1 .0),
                 le-ltb mostConstants (length tags) (c .1 .1),
-                unknown-none (h .0 .0 .1),
-                string-none (h .0 .1),
-                ⊎-elim (λ d. inl (lt-ltb mostNames (length names) d)) (λ d. inr (some-name (d .0) (d .1))) (h .1),
+                unknown .nowhere (h .0 .0 .1),
+                string .nowhere (h .0 .1),
+                ⊎-elim (λ d. inl (lt-ltb mostNames (length names) d)) (λ d. inr (name .some (d .0) (d .1))) (h .1),
               ),
         );
         six = (
           λ h. let t = b .six .0 h in (
             (
-              ((counted (t .0) (t .1) (t .2), no-unknown (t .3)), no-string (t .4)),
-              (ltb-false mostNames (length names) (t .5), no-name (t .6)),
+              ((counted (t .0) (t .1) (t .2), unknown .none (t .3)), string .none (t .4)),
+              (ltb-false mostNames (length names) (t .5), name .none (t .6)),
             ),
             ltb-true room n (t .7),
           ),
@@ -475,18 +457,18 @@ module _ (n : ℕ) (tags payloads names : List ℕ) (bytes room : ℕ) where
                 le-ltb mostWords n (c .0),
                 of-same (c .1 .0),
                 le-ltb mostConstants (length tags) (c .1 .1),
-                unknown-none (p .0 .1),
-                string-none (p .1),
+                unknown .nowhere (p .0 .1),
+                string .nowhere (p .1),
                 le-ltb mostNames (length names) (h .0 .1 .0),
-                name-none (h .0 .1 .1),
+                name .nowhere (h .0 .1 .1),
                 lt-ltb room n (h .1),
               ),
         );
         accepted = (
           λ h. let t = b .accepted .0 h in (
             (
-              ((counted (t .0) (t .1) (t .2), no-unknown (t .3)), no-string (t .4)),
-              (ltb-false mostNames (length names) (t .5), no-name (t .6)),
+              ((counted (t .0) (t .1) (t .2), unknown .none (t .3)), string .none (t .4)),
+              (ltb-false mostNames (length names) (t .5), name .none (t .6)),
             ),
             ltb-false room n (t .7),
           ),
@@ -495,52 +477,30 @@ module _ (n : ℕ) (tags payloads names : List ℕ) (bytes room : ℕ) where
                 le-ltb mostWords n (c .0),
                 of-same (c .1 .0),
                 le-ltb mostConstants (length tags) (c .1 .1),
-                unknown-none (p .0 .1),
-                string-none (p .1),
+                unknown .nowhere (p .0 .1),
+                string .nowhere (p .1),
                 le-ltb mostNames (length names) (h .0 .1 .0),
-                name-none (h .0 .1 .1),
+                name .nowhere (h .0 .1 .1),
                 le-ltb room n (h .1),
               ),
         );
         place-3 = λ h.
             let e = sym (b .place-3 h) in (
-              subst (UnknownAt n tags payloads names bytes room) e (there (unknownTagAt tags)
-                  (λ i. Known (getD tags i 0) → ⊥) unknown (length tags) (b .three .0 h .3)),
-              λ i u.
-                  omega (
-                    arith,
-                    b .place-3 h,
-                    least (unknownTagAt tags) (λ i. Known (getD tags i 0) → ⊥) unknown (length tags) i u,
-                  ),
+              subst (UnknownAt n tags payloads names bytes room) e (unknown .there (b .three .0 h .3)),
+              λ i u. omega (arith, b .place-3 h, unknown .least i u),
             );
         place-4 = λ h.
             let e = sym (b .place-4 h) in (
-              subst (StringPastAt n tags payloads names bytes room) e (there (stringPastAt tags payloads bytes)
-                  (λ i. ((getD tags i 0 ≡ 4) ⊎ (getD tags i 0 ≡ 20)) × EndsPast bytes (getD payloads i 0)) strings
-                  (length tags) (b .four .0 h .4)),
-              λ i u. omega (
-                arith,
-                b .place-4 h,
-                least (stringPastAt tags payloads bytes) (λ i. ((getD tags i 0 ≡ 4) ⊎ (getD tags i 0 ≡ 20))
-                    × EndsPast bytes (getD payloads i 0)) strings (length tags) i u,
-              ),
+              subst (StringPastAt n tags payloads names bytes room) e (string .there (b .four .0 h .4)),
+              λ i u. omega (arith, b .place-4 h, string .least i u),
             );
         place-5 = λ h l.
             let few-names = le-ltb mostNames (length names) l in
             let e = sym (b .place-5 h few-names) in
             let t : ltb (firstNamePast names bytes) (length names) ≡ true =
             ⊎-elim (λ d. absurd (true≢false (sym d ∙ few-names))) (λ d. d) (b .five .0 h .5) in (
-              subst (NamePastAt n tags payloads names bytes room) e (there (namePastAt names bytes)
-                  (λ i. (getD names i 0 ≡ 2 ^ 64 - 1 → ⊥) × EndsPast bytes (getD names i 0)) named
-                  (length names) t),
-              λ i u.
-                  omega (
-                    arith,
-                    b .place-5 h few-names,
-                    least (namePastAt names bytes)
-                        (λ i. (getD names i 0 ≡ 2 ^ 64 - 1 → ⊥) × EndsPast bytes (getD names i 0)) named
-                        (length names) i u,
-                  ),
+              subst (NamePastAt n tags payloads names bytes room) e (name .there t),
+              λ i u. omega (arith, b .place-5 h few-names, name .least i u),
             );
         many-names = λ h l. b .many-names h (lt-ltb mostNames (length names) l);
         no-place = b .no-place;

@@ -8,8 +8,8 @@ use lib.IntN.{ℤ}
 use lib.Dec.{eqb, leb}
 use lib.Ieee.{Float, binary64, ofInt}
 use lib.ListN.{getD}
-use Rattle.fields.specs.declared.word.RawInstruction54.{RawInstruction54}
-use Rattle.fields.specs.Word.{fieldsOf, opcodeOf}
+use Rattle.fields.specs.declared.lua54.word.RawInstruction54.{RawInstruction54}
+use Rattle.fields.specs.lua54.Word.{fieldsOf, opcodeOf}
 use Rattle.values.specs.declared.ir.TypedOperand.{TypedOperand}
 use Rattle.values.specs.declared.ir.TypedOperand.the-variants as O
 use Rattle.values.specs.declared.ir.EffectTarget.{EffectTarget}

@@ -10,10 +10,10 @@ use lib.Dec.{eqb, leb, ltb}
 use lib.IntN.{ℤ, pos, negsuc, _+ℤ_, negℤ}
 use lib.Ieee.{binary64, ofInt}
 use lib.ListN.{length, getD}
-use Rattle.fields.specs.declared.word.RawInstruction54.{RawInstruction54}
-use Rattle.fields.specs.Opcodes as op
-use Rattle.fields.specs.Word.{fieldsOf, opcodeOf, cOf, bxOf, axOf, sjOf}
-use Rattle.fields.specs.Table.{FallbackRule, fixed, byC, noFallback, fallbackOf}
+use Rattle.fields.specs.declared.lua54.word.RawInstruction54.{RawInstruction54}
+use Rattle.fields.specs.lua54.Opcodes as op
+use Rattle.fields.specs.lua54.Word.{fieldsOf, opcodeOf, cOf, bxOf, axOf, sjOf}
+use Rattle.fields.specs.lua54.Table.{FallbackRule, fixed, byC, noFallback, fallbackOf}
 use Rattle.values.specs.declared.ir.TypedOperand.the-variants as O
 use Rattle.values.specs.declared.ir.ImplicitEffect.the-variants.{NoEffect, ConditionalSkip, CompanionPair}
 use Rattle.values.specs.declared.ir.CompanionRole.the-variants as role

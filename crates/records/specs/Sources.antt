@@ -6,7 +6,7 @@ use mathlib.Core.Path.{_≡_}
 use mathlib.Core.List.{List}
 use lib.Ieee.{Float, binary64, ofInt}
 use lib.ListN.{getD}
-use Rattle.fields.specs.Word.{sbxOf}
+use Rattle.fields.specs.lua54.Word.{sbxOf}
 use Rattle.values.specs.declared.model.ConstantValue.{ConstantValue}
 use Rattle.values.specs.declared.model.Name.{Name}
 use Rattle.values.specs.declared.ir.TypedOperand.{TypedOperand}

@@ -24,16 +24,16 @@ use families::calls::*;
 use families::control::*;
 use families::loads::*;
 use families::tables::*;
-use fields::opcodes::*;
-use fields::word::RawInstruction54;
-use fields::word::ax;
-use fields::word::bx;
-use fields::word::opcode;
+use fields::lua54::opcodes::*;
+use fields::lua54::word::RawInstruction54;
+use fields::lua54::word::ax;
+use fields::lua54::word::bx;
+use fields::lua54::word::opcode;
 use values::ir::CompanionRole;
 use values::ir::ImplicitEffect;
 use values::ir::TypedOperand;
 
-const OFFSET_SJ: usize = fields::word::OFFSET_SJ as usize;
+const OFFSET_SJ: usize = fields::lua54::word::OFFSET_SJ as usize;
 
 fn extended_index(words: &[u32], pc: usize) -> usize
     requires { ⌜ pc < mostWords ⌝ }

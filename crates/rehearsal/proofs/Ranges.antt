@@ -1,7 +1,7 @@
 -- The checks of number 23, and acceptance.
 -- Assumes nothing.
 use mathlib.Core.Path.{_≡_, refl}
-use mathlib.Core.Bool.{Bool, true, false, _&&_, _||_}
+use mathlib.Core.Bool.{Bool, true, false, _&&_, _||_, true≢false}
 use mathlib.Core.List.{List}
 use Prim.Native.Nat.{ℕ, _+_, _≤_, _<_}
 use native.Mathlib.Numerals.{add-one}
@@ -36,9 +36,9 @@ unfolding outOfRange
 in-range k q cs e = go (ltb k 1) (ltb 4 k) (ltb q 1) refl refl refl e where
   go : (x y z : Bool) → ltb k 1 ≡ x → ltb 4 k ≡ y → ltb q 1 ≡ z → (x || y || z || ltb 1000 q || anyAbove1 cs) ≡ false
       → (0 < k) × (k ≤ 4) × (0 < q)
-  go true y z a b c e = absurd (let w : _≡_ {A = ℕ} 0 1 = cc in omega arith)
-  go false true z a b c e = absurd (let w : _≡_ {A = ℕ} 0 1 = cc in omega arith)
-  go false false true a b c e = absurd (let w : _≡_ {A = ℕ} 0 1 = cc in omega arith)
+  go true y z a b c e = absurd (true≢false (cc))
+  go false true z a b c e = absurd (true≢false (cc))
+  go false false true a b c e = absurd (true≢false (cc))
   go false false false a b c e = (omega (arith, ltb-false k 1 a), ltb-false 4 k b, omega (arith, ltb-false q 1 c))
 
 module _ (wanted : Bool) (ws : List ℕ) (o : Answer) (marks lengths : List ℕ) where

@@ -30,6 +30,14 @@ use Rattle.rehearsal.proofs.Turns.{Count, counted, scan, ranOf, ran-lea
 abbrev pub countOf : Tally → ℕ → Count
 countOf t left = record { had = ltb 0 (t .turned); others = t .ended - left; longest = t .longest }
 
+-- the same of a script at a stage
+abbrev countAt : Stage → ℕ → Count
+countAt st i = countOf (tallyAt (st .tallies) i) (st .left)
+
+-- the script whose turn it is
+abbrev whose : Stage → ℕ
+whose st = st .queue .a .script
+
 -- the queue without its first
 abbrev pub restOf : Queue → List Task
 restOf q = take (q .size - 1) (q .b ∷ q .c ∷ q .d ∷ [])
@@ -164,7 +172,7 @@ Some n (Starved m) = Unit {0}
 module _ (graphs : ℕ → Graph) (q : ℕ) (choices : List ℕ) where
   -- the longest wait of script i in the end, from a stage on
   abbrev pub goingOn : ℕ → Stage → ℕ
-  goingOn i st = scan i (countOf (tallyAt (st .tallies) i) (st .left))
+  goingOn i st = scan i (countAt st i)
       (trace graphs q choices (st .left) (record { queue = queuedTasks (st .queue); used = 0; taken = st .taken }))
 
   trace-zero : (s : State) → trace graphs q choices 0 s ≡ []
@@ -194,62 +202,62 @@ module _ (graphs : ℕ → Graph) (q : ℕ) (choices : List ℕ) where
       ∙ ap (λ (m : ℕ). scan i (counted i (s .script) 0 m c) (traceAfter graphs q choices left (s .script) rest t)) z
 
   module _ (i : ℕ) (h : i < 4) (st : Stage) (fine : Fine st) (left : 0 < st .left) where
-    w : st .queue .a .script < 4
+    w : whose st < 4
     w = (rw (queue-first (st .queue) (fine .some left)) at (fine .tasks)) .0
 
     -- no more words run: the longest wait is the one that is noted
     over : (n at : ℕ) (u : Queue) → n ≤ st .left
         → goingOn i (record {
           queue = u;
-          tallies = notedTallies (st .tallies) (st .queue .a .script)
+          tallies = notedTallies (st .tallies) (whose st)
               (st .left) n;
           left = 0;
           taken = at;
         })
-        ≡ scan i (counted i (st .queue .a .script) 0 n (countOf (tallyAt (st .tallies) i) (st .left))) []
+        ≡ scan i (counted i (whose st) 0 n (countAt st i)) []
     unfolding scan
     over n at u f =
         rw (trace-zero (record { queue = queuedTasks u; used = 0; taken = at }))
         (ap (λ (c : Count). c .longest)
-        (count-noted (st .tallies) (st .queue .a .script) (st .left) n i w h f (fine .ends i h)))
+        (count-noted (st .tallies) (whose st) (st .left) n i w h f (fine .ends i h)))
 
     staged-same : (t : Turn) → ranOf t ≤ st .left
         → goingOn i (staged st t) ≡ scan i
-        (counted i (st .queue .a .script) 0 (ranOf t) (countOf (tallyAt (st .tallies) i) (st .left)))
-        (traceAfter graphs q choices (st .left) (st .queue .a .script) (restOf (st .queue)) t)
+        (counted i (whose st) 0 (ranOf t) (countAt st i))
+        (traceAfter graphs q choices (st .left) (whose st) (restOf (st .queue)) t)
     staged-same (Starved n) f = over n (st .taken) (st .queue) f
     staged-same (Over n p at) f =
         rw (
-          count-noted (st .tallies) (st .queue .a .script) (st .left) n i w h f (fine .ends i h),
-          queue-end (st .queue) (taskAt (st .queue .a .script) p) (fine .some left) (fine .few),
+          count-noted (st .tallies) (whose st) (st .left) n i w h f (fine .ends i h),
+          queue-end (st .queue) (taskAt (whose st) p) (fine .some left) (fine .few),
         )
     staged-same (Returned n at) f = go (eqb (st .queue .size) 1) refl where
       go : (x : Bool) → eqb (st .queue .size) 1 ≡ x
           → goingOn i (record {
             queue = withoutFirst (st .queue);
-            tallies = notedTallies (st .tallies) (st .queue .a .script)
+            tallies = notedTallies (st .tallies) (whose st)
                 (st .left) n;
             left = cond x 0 (st .left - n);
             taken = at;
           })
-          ≡ scan i (counted i (st .queue .a .script) 0 n (countOf (tallyAt (st .tallies) i) (st .left)))
+          ≡ scan i (counted i (whose st) 0 n (countAt st i))
           (trace graphs q choices (st .left - n) (record { queue = restOf (st .queue); used = 0; taken = at }))
       go true e = over n at (withoutFirst (st .queue)) f
           ∙ rw (eqb-true (st .queue .size) 1 e, trace-empty (st .left - n) at)
       go false e =
           rw (
-            count-noted (st .tallies) (st .queue .a .script) (st .left) n i w h f (fine .ends i h),
+            count-noted (st .tallies) (whose st) (st .left) n i w h f (fine .ends i h),
             queue-without (st .queue) (fine .some left) (fine .few),
           )
 
     pub next-same : 0 < q → goingOn i (nextStage graphs q choices st) ≡ goingOn i st
     unfolding nextStage
     next-same k =
-        let c = countOf (tallyAt (st .tallies) i) (st .left) in
+        let c = countAt st i in
         let t = firstTurn graphs q choices st in
         let z : ranOf t ≤ st .left = omega (
           arith,
-          ran-most (graphs (st .queue .a .script)) choices (min q (st .left)) (st .queue .a .word)
+          ran-most (graphs (whose st)) choices (min q (st .left)) (st .queue .a .word)
               (st .taken) 0,
         ) in
         staged-same t z
@@ -291,16 +299,16 @@ module _ (graphs : ℕ → Graph) (q : ℕ) (choices : List ℕ) where
         record {
           some = λ z. fine .some left;
           few = fine .few;
-          tasks = rw (queue-end (st .queue) (taskAt (st .queue .a .script) p) (fine .some left) (fine .few))
-              (listed-end (restOf (st .queue)) (taskAt (st .queue .a .script) p) (tasks-now .1) (tasks-now .0));
-          ends = λ i h. ended-noted (st .tallies) (st .queue .a .script) (st .left) n i (tasks-now .0) h f
+          tasks = rw (queue-end (st .queue) (taskAt (whose st) p) (fine .some left) (fine .few))
+              (listed-end (restOf (st .queue)) (taskAt (whose st) p) (tasks-now .1) (tasks-now .0));
+          ends = λ i h. ended-noted (st .tallies) (whose st) (st .left) n i (tasks-now .0) h f
               (fine .ends i h);
         }
     staged-fine (Returned n at) f = go (eqb (st .queue .size) 1) refl where
       ends : (x : Bool) (i : ℕ) → i < 4
-          → cond x 0 (st .left - n) ≤ tallyAt (notedTallies (st .tallies) (st .queue .a .script) (st .left) n) i .ended
+          → cond x 0 (st .left - n) ≤ tallyAt (notedTallies (st .tallies) (whose st) (st .left) n) i .ended
       ends true i h = omega arith
-      ends false i h = ended-noted (st .tallies) (st .queue .a .script) (st .left) n i (tasks-now .0) h f
+      ends false i h = ended-noted (st .tallies) (whose st) (st .left) n i (tasks-now .0) h f
           (fine .ends i h)
 
       some : (x : Bool) → eqb (st .queue .size) 1 ≡ x → 0 < cond x 0 (st .left - n) → 0 < st .queue .size - 1
@@ -328,14 +336,14 @@ module _ (graphs : ℕ → Graph) (q : ℕ) (choices : List ℕ) where
       go false = omega arith
 
     some-room : (room p taken : ℕ) → room ≡ min q (st .left)
-        → Some 0 (turnOf (graphs (st .queue .a .script)) choices room p taken 0)
+        → Some 0 (turnOf (graphs (whose st)) choices room p taken 0)
     some-room zero p taken e = absurd (omega arith)
-    some-room (suc r) p taken e = turn-some (graphs (st .queue .a .script)) r p taken 0
+    some-room (suc r) p taken e = turn-some (graphs (whose st)) r p taken 0
 
     fits-turn : ranOf (firstTurn graphs q choices st) ≤ st .left
     fits-turn = omega (
       arith,
-      ran-most (graphs (st .queue .a .script)) choices (min q (st .left)) (st .queue .a .word)
+      ran-most (graphs (whose st)) choices (min q (st .left)) (st .queue .a .word)
           (st .taken) 0,
     )
 
@@ -351,11 +359,11 @@ module _ (graphs : ℕ → Graph) (q : ℕ) (choices : List ℕ) where
   -- no words are left: the longest waits are those noted
   pub ended : (i : ℕ) (st : Stage) → st .left ≡ 0 → goingOn i st ≡ tallyAt (st .tallies) i .longest
   ended i st e =
-      ap (λ (l : ℕ). scan i (countOf (tallyAt (st .tallies) i) (st .left))
+      ap (λ (l : ℕ). scan i (countAt st i)
       (trace graphs q choices l (record { queue = queuedTasks (st .queue); used = 0; taken = st .taken }))) e
-      ∙ ap (λ (es : List Event). scan i (countOf (tallyAt (st .tallies) i) (st .left)) es)
+      ∙ ap (λ (es : List Event). scan i (countAt st i) es)
       (trace-zero (record { queue = queuedTasks (st .queue); used = 0; taken = st .taken }))
-      ∙ scan-none i (countOf (tallyAt (st .tallies) i) (st .left))
+      ∙ scan-none i (countAt st i)
 
 -- read from the first turn on, the numbers are those of the waits
 scan-since : (i n best : ℕ) (es : List Event) → scan i (record { had = true; others = n; longest = best }) es
@@ -437,28 +445,28 @@ start-going graphs q choices k limit i h =
 
 -- what the turn of a stage's first is noted by
 module _ (st : Stage) (fine : Fine st) (left : 0 < st .left) where
-  pub first-ended : st .left ≤ tallyAt (st .tallies) (st .queue .a .script) .ended
-  first-ended = fine .ends (st .queue .a .script) ((rw (queue-first (st .queue) (fine .some left)) at (fine .tasks)) .0)
+  pub first-ended : st .left ≤ tallyAt (st .tallies) (whose st) .ended
+  first-ended = fine .ends (whose st) ((rw (queue-first (st .queue) (fine .some left)) at (fine .tasks)) .0)
 
   pub turn-fits : (graphs : ℕ → Graph) (q : ℕ) (choices : List ℕ) (t : Turn) → t ≡ firstTurn graphs q choices st
       → ranOf t ≤ st .left
   turn-fits graphs q choices t e = rw e
       (omega (
         arith,
-        ran-most (graphs (st .queue .a .script)) choices (min q (st .left)) (st .queue .a .word)
+        ran-most (graphs (whose st)) choices (min q (st .left)) (st .queue .a .word)
             (st .taken) 0,
       ))
 
 -- the next stage, by the ending of the turn
 module _ (graphs : ℕ → Graph) (q : ℕ) (choices : List ℕ) (st : Stage) where
   pub first-turn : (room : ℕ) (t : Turn) → room ≡ min q (st .left) → t
-      ≡ turnOf (graphs (st .queue .a .script)) choices room (st .queue .a .word) (st .taken) 0
+      ≡ turnOf (graphs (whose st)) choices room (st .queue .a .word) (st .taken) 0
       → t ≡ firstTurn graphs q choices st
-  first-turn room t e f = f ∙ ap (λ (m : ℕ). turnOf (graphs (st .queue .a .script)) choices m (st .queue .a .word)
+  first-turn room t e f = f ∙ ap (λ (m : ℕ). turnOf (graphs (whose st)) choices m (st .queue .a .word)
       (st .taken) 0) e
 
   module _ (t : Turn) (n : ℕ) (b : Tallies) (e : t ≡ firstTurn graphs q choices st)
-      (f : b ≡ notedTallies (st .tallies) (st .queue .a .script) (st .left) n) where
+      (f : b ≡ notedTallies (st .tallies) (whose st) (st .left) n) where
     pub next-starved : t ≡ Starved n → record { queue = st .queue; tallies = b; left = 0; taken = st .taken }
         ≡ nextStage graphs q choices st
     unfolding nextStage
@@ -471,7 +479,7 @@ module _ (graphs : ℕ → Graph) (q : ℕ) (choices : List ℕ) (st : Stage) wh
     next-returned u at k g = rw (f, g) (ap (staged st) (sym k ∙ e))
 
     pub next-over : (u : Queue) (p at : ℕ) → t ≡ Over n p at → u
-        ≡ toTheEnd (st .queue) (taskAt (st .queue .a .script) p)
+        ≡ toTheEnd (st .queue) (taskAt (whose st) p)
         → record { queue = u; tallies = b; left = st .left - n; taken = at } ≡ nextStage graphs q choices st
     unfolding nextStage
     next-over u p at k g = rw (f, g) (ap (staged st) (sym k ∙ e))

@@ -14,6 +14,10 @@ use Rattle.common.proofs.Order.{split, same-or-not}
 use Rattle.runs.specs.Weights.{weightCount, isZeroAt, lowestZero, refusesWeights, weightsPlace}
 use Rattle.runs.specs.Laws.{Weighing}
 
+-- what `lowestZero` is
+abbrev zeroFrom : List ℕ → ℕ
+zeroFrom weights = lowestFrom (isZeroAt weights) 0 weightCount
+
 -- two tests that both fail
 neither : (t u : Bool) → t || u ≡ false → (t ≡ false) × (u ≡ false)
 neither true u e = absurd (true≢false e)
@@ -45,7 +49,7 @@ module _ (weights : List ℕ) where
   unfolding lowestZero
   zeros-done {i} {zero} z h = go zero refl
     where
-      go : (b : Bool) → zero ≡ b → b ≡ ltb (lowestFrom (isZeroAt weights) 0 weightCount) weightCount
+      go : (b : Bool) → zero ≡ b → b ≡ ltb (zeroFrom weights) weightCount
       go true e =
           let f = z .found e in
           ⊎-elim
@@ -54,14 +58,14 @@ module _ (weights : List ℕ) where
           (omega (arith, d, f .1, z .upto)))
           (f .2)))
           (λ d. sym (lt-ltb _ _ d))
-          (split weightCount (lowestFrom (isZeroAt weights) 0 weightCount))
+          (split weightCount (zeroFrom weights))
       go false e =
           ⊎-elim
           (λ d. sym (le-ltb _ _ d))
           (λ d. absurd
-          (z .none e (lowestFrom (isZeroAt weights) 0 weightCount) (omega (arith, d, h)) (eqb-true _ _
+          (z .none e (zeroFrom weights) (omega (arith, d, h)) (eqb-true _ _
           (lowest-laws .first (isZeroAt weights) 0 weightCount .holds (omega (arith, d))))))
-          (split weightCount (lowestFrom (isZeroAt weights) 0 weightCount))
+          (split weightCount (zeroFrom weights))
 
   -- the two checks of number 18
   pub refuses-count : (length weights ≡ weightCount → ⊥) → true ≡ refusesWeights weights
@@ -76,15 +80,15 @@ module _ (weights : List ℕ) where
   unfolding weightsPlace
   place-count n = simp (ne-eqb (length weights) weightCount n)
 
-  pub place-zero : {i : ℕ} → length weights ≡ weightCount → i ≡ lowestFrom (isZeroAt weights) 0 weightCount → i ≡ weightsPlace weights
+  pub place-zero : {i : ℕ} → length weights ≡ weightCount → i ≡ zeroFrom weights → i ≡ weightsPlace weights
   unfolding weightsPlace lowestZero
   place-zero e d = d ∙ simp (eq-eqb (length weights) weightCount e)
 
 pub weight-laws : (weights : List ℕ) → refusesWeights weights ≡ false → Weighing weights
 unfolding refusesWeights lowestZero
 weight-laws weights e =
-    let n = neither (not (eqb (length weights) weightCount)) (ltb (lowestFrom (isZeroAt weights) 0 weightCount) weightCount) e in
-    let l = ltb-false (lowestFrom (isZeroAt weights) 0 weightCount) weightCount (n .1) in
+    let n = neither (not (eqb (length weights) weightCount)) (ltb (zeroFrom weights) weightCount) e in
+    let l = ltb-false (zeroFrom weights) weightCount (n .1) in
     let each : (i : ℕ) → i < weightCount → 0 < getD weights i 0 =
     λ i h. positive (eqb-false _ _ (lowest-laws .first (isZeroAt weights) 0 weightCount .not-before i (omega arith) (omega (arith, l, h)))) in
     record {

@@ -7,6 +7,7 @@ use mathlib.Core.Bool.{true, false}
 use mathlib.Core.List.{List}
 use lib.ListN.{length, getD}
 use Rattle.common.specs.Limits.{mostWords, heaviestWeight}
+use Rattle.runs.specs.Weights.{weightCount, refusesWeights}
 use Rattle.common.specs.Numbers.{«ACCEPTED»}
 use Rattle.graph.specs.Graph.{Lawful, weigh}
 use Rattle.fields.specs.declared.version.Version.{Version}
@@ -14,7 +15,6 @@ use Rattle.fields.specs.declared.version.Version.the-variants.{Lua54, Lua53}
 use Rattle.sweep.specs.Steps.{servesOf, unitWeight}
 use Rattle.runs.specs.Script.{Script, scriptOf, graphOf, weightOf, Sound}
 use Rattle.runs.specs.Run.{runOf, numberOf, longestOf}
-use Rattle.runs.specs.Weights.{weightCount, refusesWeights}
 use Rattle.runs.specs.Counted.{ones, EarlierRun}
 use Rattle.runs.specs.Range.{refusesRange}
 use Rattle.runs.specs.Between.{RangeEnds, TableRefused}

@@ -12,12 +12,12 @@ use lib.ListN.{length, getD}
 use Rattle.graph.specs.Graph.{Graph, In}
 use Rattle.fields.specs.declared.version.Version.{Version}
 use Rattle.fields.specs.declared.version.Version.the-variants.{Lua54, Lua53}
-use Rattle.fields.specs.Word as word54
-use Rattle.fields.specs.Word53 as word53
+use Rattle.fields.specs.lua54.Word as word54
+use Rattle.fields.specs.lua53.Word as word53
 use Rattle.sweep.specs.declared.edges.Successors.{Successors}
 use Rattle.sweep.specs.Steps.{listOf, servesOf, Below}
-use Rattle.steps.specs.Successors as steps54
-use Rattle.steps.specs.Successors53 as steps53
+use Rattle.steps.specs.lua54.Successors as steps54
+use Rattle.steps.specs.lua53.Successors as steps53
 use Rattle.runs.specs.Weights.{weightCount}
 
 pub record Script : Type 0 where

@@ -10,8 +10,9 @@ use crate::script::settle_script;
 use crate::script::slot_mask;
 use crate::weighing::refuses_weights;
 use crate::weighing::weights_place;
-use common::limits::MOST_WORDS;
 use common::numbers::*;
+use common::sizes::room_refusal;
+use common::widths::smaller_size;
 use fields::version::Version;
 use sweep::inner::clear_lengths;
 use sweep::inner::fill_lengths;
@@ -96,23 +97,9 @@ pub fn longest_run(
         (now (weights .entry)) (now (marks .entry)) (now (lengths .entry)) ⌝ }
 {
     let n = words.len();
-    if MOST_WORDS < n {
-        return Run::Refused {
-            number: TOO_MANY_WORDS,
-            place: 0,
-        };
-    }
-    if marks.len() < n {
-        return Run::Refused {
-            number: SHORT_SLICE,
-            place: 0,
-        };
-    }
-    if lengths.len() < n {
-        return Run::Refused {
-            number: SHORT_SLICE,
-            place: 0,
-        };
+    let number = room_refusal(n, smaller_size(marks.len(), lengths.len()));
+    if number != ACCEPTED {
+        return Run::Refused { number, place: 0 };
     }
     if refuses_weights(weights) {
         return Run::Refused {

@@ -19,8 +19,9 @@ use crate::weighing::WEIGHTS;
 use crate::weighing::refuses_weights;
 use crate::weighing::weights_place;
 use common::Answer;
-use common::limits::MOST_WORDS;
 use common::numbers::*;
+use common::sizes::room_refusal;
+use common::widths::smaller_size;
 use fields::version::Version;
 use sweep::inner::clear_lengths;
 use sweep::inner::fill_twice;
@@ -190,23 +191,9 @@ pub fn longest_runs(
         (now (low .entry)) (now (high .entry)) (now (marks .entry)) (now (lengths .entry)) ⌝ }
 {
     let n = words.len();
-    if MOST_WORDS < n {
-        return RunRange::Refused {
-            number: TOO_MANY_WORDS,
-            place: 0,
-        };
-    }
-    if marks.len() < n {
-        return RunRange::Refused {
-            number: SHORT_SLICE,
-            place: 0,
-        };
-    }
-    if lengths.len() < n {
-        return RunRange::Refused {
-            number: SHORT_SLICE,
-            place: 0,
-        };
+    let number = room_refusal(n, smaller_size(marks.len(), lengths.len()));
+    if number != ACCEPTED {
+        return RunRange::Refused { number, place: 0 };
     }
     let range = range_refusal(low, high);
     if range.number != ACCEPTED {

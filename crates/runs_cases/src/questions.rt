@@ -3,7 +3,7 @@ use crate::print;
 use fields::version::Version;
 use runs::longest_run;
 use runs::longest_runs;
-use steps::successors::successors;
+use steps::lua54::successors::successors;
 use sweep::edges;
 use vectors::bytes_of;
 use vectors::number_of;

@@ -2,6 +2,7 @@
 use mathlib.Core.Path.{_≡_, refl, sym, ap, subst, _∙_}
 use mathlib.Core.Bool.{Bool, true, false, cond}
 use mathlib.Core.List.{List, [], _++_, append-nil}
+use mathlib.Core.Logic.{⊎-elim}
 use Prim.Native.Nat.{ℕ, _/_, _%_, _≤_, _<_, min}
 use native.Mathlib.Omega.{arith}
 use lib.Dec.{ltb, eqb}
@@ -10,10 +11,12 @@ use lib.Seq.{drop-length}
 use borrow.Author.Tests.{lt-ltb, le-ltb, eq-eqb, ne-eqb}
 use Rattle.common.specs.Limits.{mostWords}
 use Rattle.common.specs.Numbers.{«ACCEPTED», «TOO_MANY_WORDS», «SHORT_SLICE», «REACHES_INVALID»}
-use Rattle.common.specs.Chain.{refuseIf, answer}
+use Rattle.common.specs.Chain.{refuseIf, sizesNumber, answer}
 use Rattle.common.specs.Lists.{tabulate, over}
 use Rattle.common.specs.declared.answer.Answer.{Answer}
+use Rattle.common.proofs.Order.{split}
 use Rattle.common.proofs.Over.{over-laws}
+use Rattle.common.proofs.Refusing.{sizes-each}
 use Rattle.graph.specs.Graph.{Graph}
 use Rattle.graph.specs.Marks.{markOf}
 use Rattle.graph.specs.Longest.{lengthOf, longest, first}
@@ -28,7 +31,7 @@ use Rattle.sweep.specs.Steps.{unitWeight}
 use Rattle.sweep.specs.Entries.{entries, entrySteps, graphIn, lowestBy}
 use Rattle.sweep.specs.PassInvariants.{FillAsks}
 use Rattle.runs.specs.Outcome.{Searched, decided, Decided}
-use Rattle.runs.specs.Run.{runOf, numberOf, lowestInvalid, marksAfter, lengthsAfter}
+use Rattle.runs.specs.Run.{runOf, numberOf, lowestInvalid, untouched, marksAfter, lengthsAfter}
 use Rattle.runs.specs.Counted.{ones}
 use Rattle.runs.proofs.Laws.{laws}
 use Rattle.service.specs.declared.distance.Nearest.{Nearest}
@@ -37,9 +40,9 @@ use Rattle.service.specs.declared.crossing.Crossed.{Crossed}
 use Rattle.service.specs.declared.crossing.Crossed.the-variants as Crossed
 use Rattle.service.specs.Questions.{fewestOf, nearestBy, nearestOf, crossedBy, crossedOf, listedAt}
 use Rattle.service.specs.Questions.{withinOf, marksWithin, lengthsWithin, listBy, listWithin}
-use Rattle.service.specs.Pass.{Fits, Sizes, noted, Holds, Notes, fewestIn, answerBy}
+use Rattle.service.specs.Pass.{Fits, noted, Holds, Notes, fewestIn, answerBy}
 use Rattle.service.specs.Pairs.{«LENGTHS», distanceIn, lengthIn, pairOf, Pairs, listedBy, byLowest, answerIn, lengthsIn, listIn}
-use Rattle.service.proofs.Sizes.{run-many}
+use Rattle.service.proofs.Sizes.{run-many, run-short, run-none, run-sizes}
 use Rattle.service.proofs.Near.{entering, same-length}
 use Rattle.service.proofs.PairedWords.{pair-length, pair-listed}
 
@@ -322,18 +325,34 @@ module _ (ws : Script) (d : ℕ) (m l list : List ℕ) where
     (rw (le-ltb (length list) (ws .size) long) (s .0), (rw (le-ltb (length list) (ws .size) long) (s .1), rw (le-ltb (length list) (ws .size) long) g)),
   )
 
+  -- refused for the sizes
+  pub within-early :
+      {r : ℕ} → r ≡ sizesNumber (ws .size) (min (length list) (min (length m) (length l))) → (r ≡ «ACCEPTED» → ⊥)
+      → Listed (answer r 0) m l list
+  within-early e n =
+      rw e (sizes-each (ws .size) (min (length list) (min (length m) (length l))) (λ (k : ℕ). Listed (answer k 0) m l list)
+      within-many
+      (λ few h. ⊎-elim (λ long. by-run few long refl (run-short ws (length m) (length l) few (omega arith))) (λ s. within-short few s) (split (ws .size) (length list)))
+      (λ few h z. by-run few (omega arith) refl (run-none ws (length m) (length l) few (omega arith) z))
+      (λ z. n (e ∙ z)))
+    where
+      by-run : ws .size ≤ mostWords → ws .size ≤ length list → {k : ℕ} → untouched k ≡ true
+          → runOf ws ones (length m) (length l) ≡ Run.Refused k 0 → Listed (answer k 0) m l list
+      by-run few long {k} u e =
+          listed-by few long (ap answerBy e) (laws .entry-laws .refused ws ones m l k 0 e u) (sym (ap (λ (x : Run). listBy x ws d list) e))
+
 -- the whole slices
 module _ (ws : Script) (m l : List ℕ) where
   abbrev Slices : List ℕ → List ℕ → Type 0
   Slices m′ l′ = (m′ ≡ marksAfter ws ones m l) × (l′ ≡ lengthsAfter ws ones m l)
 
   -- a script that is refused before a word is read
-  module _ {r : ℕ} (s : Sizes (ws .size) (length m) (length l) r) (n : r ≡ «ACCEPTED» → ⊥) where
+  module _ {r : ℕ} (k : r ≡ sizesNumber (ws .size) (min (length m) (length l))) (n : r ≡ «ACCEPTED» → ⊥) where
     early-run : runOf ws ones (length m) (length l) ≡ Run.Refused r 0
-    early-run = s .refused n .1 ws refl
+    early-run = run-sizes ws (length m) (length l) k n .1
 
     early-slices : Slices m l
-    early-slices = laws .entry-laws .refused ws ones m l r 0 early-run (s .refused n .0)
+    early-slices = laws .entry-laws .refused ws ones m l r 0 early-run (run-sizes ws (length m) (length l) k n .0)
 
     pub nearest-early : (w : ℕ) → (Nearest.Refused r 0 ≡ nearestOf ws w (length m) (length l)) × Slices m l
     unfolding nearestOf
@@ -342,9 +361,6 @@ module _ (ws : Script) (m l : List ℕ) where
     pub crossed-early : (w : ℕ) → (Crossed.Refused r 0 ≡ crossedOf ws w (length m) (length l)) × Slices m l
     unfolding crossedOf
     crossed-early w = (ap (λ (x : Run). crossedBy x ws w) (sym early-run), early-slices)
-
-    pub within-early : (d : ℕ) (list : List ℕ) → ws .size ≤ mostWords → ws .size ≤ length list → Listed ws d m l list (answer r 0) m l list
-    within-early d list few long = listed-by ws d m l list few long (ap answerBy early-run) early-slices (sym (ap (λ (x : Run). listBy x ws d list) early-run))
 
   -- one that passes the checks of the sizes, by what its words give
   module _ (k : Fits (ws .size) (length m) (length l)) {m′ l′ : List ℕ} (d : Decided ws ones (decided ws ones) m′ l′) where

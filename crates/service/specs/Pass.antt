@@ -3,27 +3,23 @@
 -- word, and holds for any steps.
 -- Assumes nothing.
 use mathlib.Core.Path.{_≡_}
-use mathlib.Core.Bool.{true, cond, _&&_}
+use mathlib.Core.Bool.{cond, _&&_}
 use mathlib.Core.List.{List, []}
 use Prim.Native.Nat.{ℕ, _+_, _/_, _%_, _≤_, _<_}
 use lib.Dec.{ltb, eqb}
 use lib.ListN.{length, getD}
 use Rattle.common.specs.Limits.{mostWords}
-use Rattle.common.specs.Numbers.{«ACCEPTED»}
 use Rattle.common.specs.Chain.{answer}
 use Rattle.common.specs.declared.answer.Answer.{Answer}
 use Rattle.graph.specs.Graph.{Graph, In, Lawful}
 use Rattle.graph.specs.Marks.{markOf}
 use Rattle.graph.specs.Distance.{distanceOf}
 use Rattle.graph.specs.Crossing.{crossingFrom}
-use Rattle.runs.specs.Script.{Script}
 use Rattle.sweep.specs.declared.edges.Successors.{Successors}
 use Rattle.runs.specs.declared.longest.Run.{Run}
-use Rattle.runs.specs.declared.longest.Run.the-variants as Run
 use Rattle.sweep.specs.Steps.{listOf}
 use Rattle.sweep.specs.Entries.{«ENTRIES», entryAt, entries, graphIn}
-use Rattle.runs.specs.Run.{runOf, numberOf, placeOf, untouched}
-use Rattle.runs.specs.Counted.{ones}
+use Rattle.runs.specs.Run.{numberOf, placeOf}
 use Rattle.service.specs.declared.distance.Nearest.{Nearest}
 use Rattle.service.specs.declared.distance.Nearest.the-variants as Nearest
 
@@ -33,12 +29,6 @@ pub record Fits (n marks lengths : ℕ) : Type 0 where
   pub few : n ≤ mostWords
   pub marks-long : n ≤ marks
   pub lengths-long : n ≤ lengths
-
--- r is the number by which a script of n words is refused before any is read, or 0
-pub record Sizes (n marks lengths r : ℕ) : Type 0 where
-  pub refused : (r ≡ «ACCEPTED» → ⊥)
-      → (untouched r ≡ true) × ((ws : Script) → ws .size ≡ n → runOf ws ones marks lengths ≡ Run.Refused r 0)
-  pub passed : r ≡ «ACCEPTED» → Fits n marks lengths
 
 -- a word's distance, where the search had its queue: less 1
 abbrev pub noted : List ℕ → ℕ → ℕ

@@ -13,9 +13,10 @@ ghost use Rattle.runs.specs.Run.{marksAfter, lengthsAfter};
 ghost use Rattle.runs.specs.Counted.{ones};
 ghost use Rattle.service.specs.Questions.{crossedBy, crossedOf};
 ghost use Rattle.service.specs.Pass.{CrossesFrom};
-use crate::unit::size_refusal;
 use crate::unit::unit_run;
-use common::numbers::*;
+use common::numbers::ACCEPTED;
+use common::sizes::size_refusal;
+use common::widths::smaller_size;
 use fields::version::Version;
 use runs::Run;
 use runs::inner::search_words;
@@ -120,7 +121,7 @@ pub fn crossing_edges(
         (now (marks .entry)) (now (lengths .entry)) ⌝ }
 {
     let n = words.len();
-    let number = size_refusal(n, marks.len(), lengths.len());
+    let number = size_refusal(n, smaller_size(marks.len(), lengths.len()));
     if number != ACCEPTED {
         return Crossed::Refused { number, place: 0 };
     }

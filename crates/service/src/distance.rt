@@ -12,9 +12,10 @@ ghost use Rattle.runs.specs.Counted.{ones};
 ghost use Rattle.service.specs.Questions.{nearestBy, nearestOf};
 ghost use Rattle.service.specs.Pass.{fewestIn};
 use crate::pass::note_distances;
-use crate::unit::size_refusal;
 use crate::unit::unit_run;
-use common::numbers::*;
+use common::numbers::ACCEPTED;
+use common::sizes::size_refusal;
+use common::widths::smaller_size;
 use fields::version::Version;
 use runs::Run;
 use runs::inner::search_words;
@@ -87,7 +88,7 @@ pub fn distance_to_service(
         (now (marks .entry)) (now (lengths .entry)) ⌝ }
 {
     let n = words.len();
-    let number = size_refusal(n, marks.len(), lengths.len());
+    let number = size_refusal(n, smaller_size(marks.len(), lengths.len()));
     if number != ACCEPTED {
         return Nearest::Refused { number, place: 0 };
     }

@@ -21,10 +21,10 @@ ghost use Rattle.service.specs.Pairs.{
 };
 use crate::pairs::LENGTHS;
 use crate::pairs::pair_words;
-use crate::unit::size_refusal;
 use common::Answer;
-use common::limits::MOST_WORDS;
 use common::numbers::*;
+use common::sizes::size_refusal;
+use common::widths::smaller_size;
 use fields::version::Version;
 use runs::inner::search_words;
 use sweep::inner::clear_lengths;
@@ -139,19 +139,8 @@ pub fn list_within(
         (now (marks .entry)) (now (lengths .entry)) (now (list .entry)) ⌝ }
 {
     let n = words.len();
-    if MOST_WORDS < n {
-        return Answer {
-            number: TOO_MANY_WORDS,
-            place: 0,
-        };
-    }
-    if list.len() < n {
-        return Answer {
-            number: SHORT_SLICE,
-            place: 0,
-        };
-    }
-    let number = size_refusal(n, marks.len(), lengths.len());
+    let room = smaller_size(marks.len(), lengths.len());
+    let number = size_refusal(n, smaller_size(list.len(), room));
     if number != ACCEPTED {
         return Answer { number, place: 0 };
     }

@@ -1,7 +1,7 @@
 -- The line of a word is well formed and shows the word, and a well-formed line is the line of the word that it shows.
 -- Assumes nothing.
 use mathlib.Core.Path.{_≡_, refl, _∙_}
-use mathlib.Core.Bool.{Bool, true, false, _&&_, cond, and-false}
+use mathlib.Core.Bool.{Bool, true, false, _&&_, cond, and-false, true≢false}
 use mathlib.Core.List.{List, [], _∷_, _++_}
 use Prim.Native.Nat.{ℕ, zero, suc, _+_, _*_, _/_, _%_, _^_, _≤_, _<_}
 use native.Mathlib.Nat.{pow-suc, mod-lt}
@@ -17,7 +17,7 @@ use Rattle.sheet.proofs.Widths.{length-columns, length-line}
 use Rattle.sheet.proofs.Compare.{same-short}
 
 pub apart : true ≡ false → ⊥
-apart e = let z : _≡_ {A = ℕ} 0 1 = cc in omega arith
+apart e = true≢false (cc)
 
 same-refl : (xs : List ℕ) → sameBytes xs xs ≡ true
 same-refl [] = refl
@@ -25,13 +25,13 @@ same-refl (x ∷ xs) = rw (eq-eqb x x refl) (same-refl xs)
 
 same-eq : (xs ys : List ℕ) → sameBytes xs ys ≡ true → xs ≡ ys
 same-eq [] [] e = refl
-same-eq [] (y ∷ ys) e = absurd (let z : _≡_ {A = ℕ} 0 1 = cc in omega arith)
-same-eq (x ∷ xs) [] e = absurd (let z : _≡_ {A = ℕ} 0 1 = cc in omega arith)
+same-eq [] (y ∷ ys) e = absurd (true≢false (cc))
+same-eq (x ∷ xs) [] e = absurd (true≢false (cc))
 same-eq (x ∷ xs) (y ∷ ys) e = go (eqb x y) refl (λ q. same-eq xs ys q) e
   where
     go : (t : Bool) → eqb x y ≡ t → (sameBytes xs ys ≡ true → xs ≡ ys) → (t && sameBytes xs ys) ≡ true → (x ∷ xs) ≡ (y ∷ ys)
     go true p f q = rw (eqb-true x y p, f q)
-    go false p f q = absurd (let z : _≡_ {A = ℕ} 0 1 = cc in omega arith)
+    go false p f q = absurd (true≢false (cc))
 
 -- ---- the number of a number's text
 
@@ -82,7 +82,7 @@ and-left false t e = e
 
 and-right : (s t : Bool) → (s && t) ≡ true → t ≡ true
 and-right true t e = e
-and-right false t e = absurd (let z : _≡_ {A = ℕ} 0 1 = cc in omega arith)
+and-right false t e = absurd (true≢false (cc))
 
 pub good-line : (line : List ℕ) → isLine line ≡ true → line ≡ lineOf (lineValue line)
 unfolding isLine

@@ -9,22 +9,22 @@ use lib.Dec.{T, ltb, eqb, eqb→eq}
 use lib.IntN.{ℤ, pos, _+ℤ_}
 use lib.ListN.{length, getD, List·getD-eq-default}
 use borrow.Author.Tests.{lt-ltb, ltb-false, eqb-true}
-use Rattle.fields.specs.Opcodes53.{«OP_JMP», «OP_TFORLOOP», «OP_EXTRAARG»}
-use Rattle.fields.specs.Word53.{opcodeOf, aOf, cOf, sbxOf}
-use Rattle.fields.specs.Table53.{StepClass, following, returning, branching, comparing, skipping, skippingIfC}
-use Rattle.fields.specs.Table53.{skippingUnlessC, jumping, looping, invalid, classNumber, classOf, Companion}
-use Rattle.fields.specs.Table53.{alone, jumpAfter, extraAfter, extraAfterUnlessC, loopAfter, companionOf}
+use Rattle.fields.specs.lua53.Opcodes.{«OP_JMP», «OP_TFORLOOP», «OP_EXTRAARG»}
+use Rattle.fields.specs.lua53.Word.{opcodeOf, aOf, cOf, sbxOf}
+use Rattle.fields.specs.lua53.Table.{StepClass, following, returning, branching, comparing, skipping, skippingIfC}
+use Rattle.fields.specs.lua53.Table.{skippingUnlessC, jumping, looping, invalid, classNumber, classOf, Companion}
+use Rattle.fields.specs.lua53.Table.{alone, jumpAfter, extraAfter, extraAfterUnlessC, loopAfter, companionOf}
 use Rattle.fields.specs.Laws.{all}
 use Rattle.fields.proofs.Laws.{laws}
 use Rattle.sweep.specs.declared.edges.Successors.{Successors}
 use Rattle.sweep.specs.declared.edges.Successors.the-variants.{Invalid}
-use Rattle.steps.specs.Columns53.{classFrom}
+use Rattle.steps.specs.lua53.Columns.{classFrom}
 use Rattle.sweep.specs.Steps.{unless, isInvalid, listOf}
-use Rattle.steps.specs.Successors53.{opcodeAt, nextOf, standsAt, companionPresent, successorsOf}
+use Rattle.steps.specs.lua53.Successors.{opcodeAt, nextOf, standsAt, companionPresent, successorsOf}
 use Rattle.steps.specs.Ways.{integers}
-use Rattle.steps.specs.Bad53.{opcode, aboveOne, zeroC, sbx, between, nextIs, returns, skips, jumps}
-use Rattle.steps.specs.Bad53.{loops, tests, nextWords, anyOutside, unknown, lacksJump, lacksExtra}
-use Rattle.steps.specs.Bad53.{lacksLoop, isBad, ByNumber}
+use Rattle.steps.specs.lua53.Bad.{opcode, aboveOne, zeroC, sbx, between, nextIs, returns, skips, jumps}
+use Rattle.steps.specs.lua53.Bad.{loops, tests, nextWords, anyOutside, unknown, lacksJump, lacksExtra}
+use Rattle.steps.specs.lua53.Bad.{lacksLoop, isBad, ByNumber}
 use Rattle.steps.proofs.Columns53.{class-back}
 use Rattle.sweep.proofs.Steps.{let-through}
 use Rattle.steps.proofs.NextWords.{Same, itself, one-by, two-same}
@@ -47,22 +47,26 @@ wrongBy o c j x l =
 abbrev isNone : StepClass → Bool
 isNone x = eqb (classNumber x) (classNumber invalid)
 
+abbrev standsFor : ℕ → Bool → Bool → Bool → Bool → Bool
+standsFor o c j x l = cond (isNone (classOf o)) false (standsBy (companionOf o) c j x l)
+
+abbrev agrees : ℕ → Bool → Bool → Bool → Bool → Bool
+agrees o c j x l = Bool·beq (standsFor o c j x l) (not (wrongBy o c j x l))
+
 companion-right : ℕ → Bool
-companion-right o =
-    both λ c. both λ j. both λ x. both λ l.
-    Bool·beq (cond (isNone (classOf o)) false (standsBy (companionOf o) c j x l)) (not (wrongBy o c j x l))
+companion-right o = both λ c. both λ j. both λ x. both (agrees o c j x)
 
 companions-right : T (all companion-right 64)
 unfolding companion-right classOf companionOf
 companions-right = tt
 
-companion-is : (o : ℕ) → o < 64 → (c j x l : Bool) → cond (isNone (classOf o)) false (standsBy (companionOf o) c j x l) ≡ not (wrongBy o c j x l)
+companion-is : (o : ℕ) → o < 64 → (c j x l : Bool) → standsFor o c j x l ≡ not (wrongBy o c j x l)
 unfolding companion-right
 companion-is o h c j x l =
-    agreed _ _ (either (λ l. Bool·beq (cond (isNone (classOf o)) false (standsBy (companionOf o) c j x l)) (not (wrongBy o c j x l)))
-    (either (λ x. both λ l. Bool·beq (cond (isNone (classOf o)) false (standsBy (companionOf o) c j x l)) (not (wrongBy o c j x l)))
-    (either (λ j. both λ x. both λ l. Bool·beq (cond (isNone (classOf o)) false (standsBy (companionOf o) c j x l)) (not (wrongBy o c j x l)))
-    (either (λ c. both λ j. both λ x. both λ l. Bool·beq (cond (isNone (classOf o)) false (standsBy (companionOf o) c j x l)) (not (wrongBy o c j x l)))
+    agreed _ _ (either (agrees o c j x)
+    (either (λ x. both (agrees o c j x))
+    (either (λ j. both λ x. both (agrees o c j x))
+    (either (λ c. both λ j. both λ x. both (agrees o c j x))
     (laws .each-below companion-right 64 companions-right o h) c) j) x) l)
 
 -- The column of step classes.

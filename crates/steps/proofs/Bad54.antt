@@ -8,21 +8,21 @@ use lib.Dec.{T, ltb, leb, eqb, eqb→eq}
 use lib.IntN.{ℤ, pos, _+ℤ_, _-ℤ_}
 use lib.ListN.{length, getD, List·getD-eq-default}
 use borrow.Author.Tests.{lt-ltb, ltb-false, eqb-true}
-use Rattle.fields.specs.Word.{opcodeOf, kOf, bxOf, sjOf}
-use Rattle.fields.specs.Table.{StepClass, following, returning, branching, skipping, skippingIfK, jumping}
-use Rattle.fields.specs.Table.{looping, preparing, entering, invalid, classNumber, classOf, Companion, alone}
-use Rattle.fields.specs.Table.{metamethodAfter, arithmeticBefore, jumpAfter, extraAfter, extraAfterIfK}
-use Rattle.fields.specs.Table.{callAtTarget, loopAfter, companionNumber, companionOf}
+use Rattle.fields.specs.lua54.Word.{opcodeOf, kOf, bxOf, sjOf}
+use Rattle.fields.specs.lua54.Table.{StepClass, following, returning, branching, skipping, skippingIfK, jumping}
+use Rattle.fields.specs.lua54.Table.{looping, preparing, entering, invalid, classNumber, classOf, Companion, alone}
+use Rattle.fields.specs.lua54.Table.{metamethodAfter, arithmeticBefore, jumpAfter, extraAfter, extraAfterIfK}
+use Rattle.fields.specs.lua54.Table.{callAtTarget, loopAfter, companionNumber, companionOf}
 use Rattle.fields.specs.Laws.{all}
 use Rattle.fields.proofs.Laws.{laws}
 use Rattle.sweep.specs.declared.edges.Successors.{Successors}
 use Rattle.sweep.specs.declared.edges.Successors.the-variants.{Invalid}
-use Rattle.steps.specs.Columns.{classFrom, companionFrom}
+use Rattle.steps.specs.lua54.Columns.{classFrom, companionFrom}
 use Rattle.sweep.specs.Steps.{unless, isInvalid, listOf}
-use Rattle.steps.specs.Successors.{opcodeAt, isBetween, nextOf, standsAt, companionPresent, successorsOf}
+use Rattle.steps.specs.lua54.Successors.{opcodeAt, isBetween, nextOf, standsAt, companionPresent, successorsOf}
 use Rattle.steps.specs.Ways.{integers}
-use Rattle.steps.specs.Bad53.{between, anyOutside}
-use Rattle.steps.specs.Bad54.{opcode, kIsOne, bx, sj, nextWords, isAt, is, lacks, isBad, ByNumber}
+use Rattle.steps.specs.lua53.Bad.{between, anyOutside}
+use Rattle.steps.specs.lua54.Bad.{opcode, kIsOne, bx, sj, nextWords, isAt, is, lacks, isBad, ByNumber}
 use Rattle.steps.proofs.Columns.{class-back, companion-back}
 use Rattle.sweep.proofs.Steps.{let-through}
 use Rattle.steps.proofs.NextWords.{Same, itself, one-by, two-same}
@@ -47,13 +47,13 @@ module _ {A : Type 0} where
 -- where none is so
 none-first : {A : Type 0} (s t u v w x y : Bool) (a b c d e f g h : A)
     → firstOf {A = ℕ} s t u v w x y 1 1 1 1 1 1 1 0 ≡ 0 → firstOf s t u v w x y a b c d e f g h ≡ h
-none-first true t u v w x y a b c d e f g h z = absurd (true≢false (ap (λ (n : ℕ). eqb n 1) z))
-none-first false true u v w x y a b c d e f g h z = absurd (true≢false (ap (λ (n : ℕ). eqb n 1) z))
-none-first false false true v w x y a b c d e f g h z = absurd (true≢false (ap (λ (n : ℕ). eqb n 1) z))
-none-first false false false true w x y a b c d e f g h z = absurd (true≢false (ap (λ (n : ℕ). eqb n 1) z))
-none-first false false false false true x y a b c d e f g h z = absurd (true≢false (ap (λ (n : ℕ). eqb n 1) z))
-none-first false false false false false true y a b c d e f g h z = absurd (true≢false (ap (λ (n : ℕ). eqb n 1) z))
-none-first false false false false false false true a b c d e f g h z = absurd (true≢false (ap (λ (n : ℕ). eqb n 1) z))
+none-first true t u v w x y a b c d e f g h z = absurd (omega arith)
+none-first false true u v w x y a b c d e f g h z = absurd (omega arith)
+none-first false false true v w x y a b c d e f g h z = absurd (omega arith)
+none-first false false false true w x y a b c d e f g h z = absurd (omega arith)
+none-first false false false false true x y a b c d e f g h z = absurd (omega arith)
+none-first false false false false false true y a b c d e f g h z = absurd (omega arith)
+none-first false false false false false false true a b c d e f g h z = absurd (omega arith)
 none-first false false false false false false false a b c d e f g h z = refl
 
 abbrev isNone : StepClass → Bool
@@ -66,10 +66,13 @@ abbrev wanting : ℕ → ℕ → ℕ → ℕ → ℕ → ℕ → ℕ → ℕ →
 wanting o =
     firstOf (between 21 45 o) (between 46 48 o) (between 57 67 o) (eqb o 4 || eqb o 19) (eqb o 78) (eqb o 75) (eqb o 76)
 
+-- an opcode's row, by whether it is none of the 82: then it has no row
+abbrev rowIs : ℕ → Bool → Bool
+rowIs o t = cond t (eqb (wanting o 1 1 1 1 1 1 1 0) 0) (eqb (companionNumber (companionOf o)) (wanting o 1 2 3 4 5 6 7 0))
+
 companion-right : ℕ → Bool
 companion-right o =
-    Bool·beq (isNone (classOf o)) (leb 82 o)
-    && cond (leb 82 o) (eqb (wanting o 1 1 1 1 1 1 1 0) 0) (eqb (companionNumber (companionOf o)) (wanting o 1 2 3 4 5 6 7 0))
+    Bool·beq (isNone (classOf o)) (leb 82 o) && rowIs o (leb 82 o)
 
 companions-right : T (all companion-right 128)
 unfolding companion-right classOf companionOf
@@ -80,31 +83,23 @@ two-parts true b h = (tt, h)
 two-parts false b h = absurd h
 
 module _ (o : ℕ) (below : o < 128) where
-  parts : T (Bool·beq (isNone (classOf o)) (leb 82 o))
-      × T (cond (leb 82 o) (eqb (wanting o 1 1 1 1 1 1 1 0) 0) (eqb (companionNumber (companionOf o)) (wanting o 1 2 3 4 5 6 7 0)))
+  parts : T (Bool·beq (isNone (classOf o)) (leb 82 o)) × T (rowIs o (leb 82 o))
   unfolding companion-right
   parts =
       two-parts (Bool·beq (isNone (classOf o)) (leb 82 o))
-      (cond (leb 82 o) (eqb (wanting o 1 1 1 1 1 1 1 0) 0) (eqb (companionNumber (companionOf o)) (wanting o 1 2 3 4 5 6 7 0)))
-      (laws .each-below companion-right 128 companions-right o below)
+      (rowIs o (leb 82 o)) (laws .each-below companion-right 128 companions-right o below)
 
   none-is : isNone (classOf o) ≡ leb 82 o
   none-is = agreed _ _ (parts .0)
 
   unwanted : leb 82 o ≡ true → wanting o 1 1 1 1 1 1 1 0 ≡ 0
   unwanted e =
-      eqb→eq _ _ (subst
-      (λ (t : Bool). T (cond t (eqb (wanting o 1 1 1 1 1 1 1 0) 0)
-      (eqb (companionNumber (companionOf o)) (wanting o 1 2 3 4 5 6 7 0))))
-      e (parts .1))
+      eqb→eq _ _ (subst (λ (t : Bool). T (rowIs o t)) e (parts .1))
 
   wanted : leb 82 o ≡ false → companionOf o ≡ companionFrom (wanting o 1 2 3 4 5 6 7 0)
   wanted e =
       sym (companion-back (companionOf o))
-      ∙ ap companionFrom (eqb→eq _ _ (subst
-      (λ (t : Bool). T (cond t (eqb (wanting o 1 1 1 1 1 1 1 0) 0)
-      (eqb (companionNumber (companionOf o)) (wanting o 1 2 3 4 5 6 7 0))))
-      e (parts .1)))
+      ∙ ap companionFrom (eqb→eq _ _ (subst (λ (t : Bool). T (rowIs o t)) e (parts .1)))
 
 twice : (t : Bool) → t ≡ not (not t)
 twice true = refl

@@ -9,7 +9,7 @@ use lib.IntN.{ℤ, pos, negsuc}
 use Rattle.sweep.specs.declared.edges.Successors.{Successors}
 use Rattle.sweep.specs.declared.edges.Successors.the-variants.{Invalid, Stop, One, Two}
 use Rattle.sweep.specs.Steps.{unless, one, two, isInvalid, ordered}
-use Rattle.steps.specs.Bad53.{outside}
+use Rattle.steps.specs.lua53.Bad.{outside}
 
 -- A test of a Boolean either way, which antt computes.
 

@@ -5,15 +5,15 @@ use mathlib.Core.Path.{_≡_, refl, ap, _∙_}
 use mathlib.Core.List.{List}
 use native.Mathlib.Omega.{arith}
 use lib.ListN.{getD, List·getD-eq-default}
-use Rattle.fields.specs.Word.{opcodeOf}
-use Rattle.fields.specs.Table.{StepClass, following, returning, branching, skipping, skippingIfK, jumping}
-use Rattle.fields.specs.Table.{looping, preparing, entering, invalid, classNumber, classOf, Companion, alone}
-use Rattle.fields.specs.Table.{metamethodAfter, arithmeticBefore, jumpAfter, extraAfter, extraAfterIfK}
-use Rattle.fields.specs.Table.{callAtTarget, loopAfter, companionNumber, companionOf, opcodeTable}
-use Rattle.fields.specs.Packed.{companionAndClass}
+use Rattle.fields.specs.lua54.Word.{opcodeOf}
+use Rattle.fields.specs.lua54.Table.{StepClass, following, returning, branching, skipping, skippingIfK, jumping}
+use Rattle.fields.specs.lua54.Table.{looping, preparing, entering, invalid, classNumber, classOf, Companion, alone}
+use Rattle.fields.specs.lua54.Table.{metamethodAfter, arithmeticBefore, jumpAfter, extraAfter, extraAfterIfK}
+use Rattle.fields.specs.lua54.Table.{callAtTarget, loopAfter, companionNumber, companionOf, opcodeTable}
+use Rattle.fields.specs.lua54.Packed.{companionAndClass}
 use Rattle.fields.proofs.Laws.{laws}
-use Rattle.steps.specs.Successors.{opcodeAt}
-use Rattle.steps.specs.Columns.{classes, classFrom, companions, companionFrom}
+use Rattle.steps.specs.lua54.Successors.{opcodeAt}
+use Rattle.steps.specs.lua54.Columns.{classes, classFrom, companions, companionFrom}
 
 pub class-back : (x : StepClass) → classFrom (classNumber x) ≡ x
 unfolding classFrom

@@ -4,14 +4,14 @@ use Prim.Native.Nat.{ℕ, _/_, _%_, _≤_}
 use mathlib.Core.Path.{_≡_, refl, ap, _∙_}
 use mathlib.Core.List.{List}
 use lib.ListN.{getD, List·getD-eq-default}
-use Rattle.fields.specs.Word53.{opcodeOf}
-use Rattle.fields.specs.Table53.{StepClass, following, returning, branching, comparing, skipping, skippingIfC}
-use Rattle.fields.specs.Table53.{skippingUnlessC, jumping, looping, invalid, classNumber, classOf, Companion}
-use Rattle.fields.specs.Table53.{alone, jumpAfter, extraAfter, extraAfterUnlessC, loopAfter, companionNumber}
-use Rattle.fields.specs.Table53.{companionOf, companionAndClass}
+use Rattle.fields.specs.lua53.Word.{opcodeOf}
+use Rattle.fields.specs.lua53.Table.{StepClass, following, returning, branching, comparing, skipping, skippingIfC}
+use Rattle.fields.specs.lua53.Table.{skippingUnlessC, jumping, looping, invalid, classNumber, classOf, Companion}
+use Rattle.fields.specs.lua53.Table.{alone, jumpAfter, extraAfter, extraAfterUnlessC, loopAfter, companionNumber}
+use Rattle.fields.specs.lua53.Table.{companionOf, companionAndClass}
 use Rattle.fields.proofs.Laws.{laws}
-use Rattle.steps.specs.Successors53.{opcodeAt}
-use Rattle.steps.specs.Columns53.{classes, classFrom, companions, companionFrom}
+use Rattle.steps.specs.lua53.Successors.{opcodeAt}
+use Rattle.steps.specs.lua53.Columns.{classes, classFrom, companions, companionFrom}
 
 pub class-back : (x : StepClass) → classFrom (classNumber x) ≡ x
 unfolding classFrom

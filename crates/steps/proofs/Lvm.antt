@@ -11,22 +11,22 @@ use lib.Bits.{and-high}
 use lib.IntN.{ℤ, pos, _+ℤ_, _-ℤ_, +ℤ-idr}
 use lib.ListN.{length, getD}
 use borrow.Author.Tests.{eqb-true, eqb-false, eq-eqb, ne-eqb}
-use Rattle.fields.specs.declared.word.RawInstruction54.{RawInstruction54}
-use Rattle.fields.specs.Opcodes.{«OP_JMP», «OP_TFORCALL», «OP_TFORLOOP»}
-use Rattle.fields.specs.Word.{opcodeOf, kOf, bxOf, sjOf}
-use Rattle.fields.specs.Lopcodes.{«GET_OPCODE», «GETARG_Bx», «GETARG_sJ», «TESTARG_k»}
-use Rattle.fields.specs.Table.{StepClass, following, returning, branching, skipping, skippingIfK, jumping}
-use Rattle.fields.specs.Table.{looping, preparing, entering, invalid, classNumber, classOf, Companion, alone}
-use Rattle.fields.specs.Table.{jumpAfter, callAtTarget, loopAfter, companionNumber, companionOf}
+use Rattle.fields.specs.declared.lua54.word.RawInstruction54.{RawInstruction54}
+use Rattle.fields.specs.lua54.Opcodes.{«OP_JMP», «OP_TFORCALL», «OP_TFORLOOP»}
+use Rattle.fields.specs.lua54.Word.{opcodeOf, kOf, bxOf, sjOf}
+use Rattle.fields.specs.lua54.Lopcodes.{«GET_OPCODE», «GETARG_Bx», «GETARG_sJ», «TESTARG_k»}
+use Rattle.fields.specs.lua54.Table.{StepClass, following, returning, branching, skipping, skippingIfK, jumping}
+use Rattle.fields.specs.lua54.Table.{looping, preparing, entering, invalid, classNumber, classOf, Companion, alone}
+use Rattle.fields.specs.lua54.Table.{jumpAfter, callAtTarget, loopAfter, companionNumber, companionOf}
 use Rattle.fields.specs.Laws.{all}
 use Rattle.fields.proofs.Laws.{laws}
-use Rattle.steps.specs.Columns.{classFrom, companionFrom}
+use Rattle.steps.specs.lua54.Columns.{classFrom, companionFrom}
 use Rattle.sweep.specs.Steps.{one, isInvalid, listOf}
-use Rattle.steps.specs.Successors.{opcodeAt, nextOf, standsAt, companionPresent, successorsOf}
+use Rattle.steps.specs.lua54.Successors.{opcodeAt, nextOf, standsAt, companionPresent, successorsOf}
 use Rattle.steps.specs.Executions.{gosOf, leading}
-use Rattle.steps.specs.Lvm.{Go, vmbreak, «pc++», «pc++-if-k», jump, donextjump, «pc-=Bx», «pc+=Bx+1»}
-use Rattle.steps.specs.Lvm.{«goto-l_tforcall», «goto-l_tforloop», leave, Body, bodyOf, l_tforcall, jmp}
-use Rattle.steps.specs.Lvm.{dojump, onward, bodyAt, waysAt, goesOn, Agreement}
+use Rattle.steps.specs.lua54.Lvm.{Go, vmbreak, «pc++», «pc++-if-k», jump, donextjump, «pc-=Bx», «pc+=Bx+1»}
+use Rattle.steps.specs.lua54.Lvm.{«goto-l_tforcall», «goto-l_tforloop», leave, Body, bodyOf, l_tforcall, jmp}
+use Rattle.steps.specs.lua54.Lvm.{dojump, onward, bodyAt, waysAt, goesOn, Agreement}
 use Rattle.steps.specs.Ways.{Way, fetch, targetsOf, integers, Alike}
 use Rattle.steps.proofs.Columns.{class-back, companion-back}
 use Rattle.steps.proofs.NextWords.{Same, itself, one-by, two-by, two-back}

@@ -1,4 +1,4 @@
--- lvm.c's next words of 5.3.6 are those of specs/Successors53.antt, for a word that is not bad: each case of the switch has the ways on of a
+-- lvm.c's next words of 5.3.6 are those of specs/lua53/Successors.antt, for a word that is not bad: each case of the switch has the ways on of a
 -- shape, whose step class is the opcode's, by computed tests, and then a shape at a time.
 -- Assumes nothing.
 use Prim.Native.Nat.{ℕ, _+_, _<_}
@@ -10,23 +10,23 @@ use lib.Dec.{T, ltb, eqb}
 use lib.IntN.{ℤ, pos, _+ℤ_, +ℤ-idr}
 use lib.ListN.{length, getD}
 use borrow.Author.Tests.{ltb-true, ltb-false, eqb-true, eqb-false}
-use Rattle.fields.specs.declared.word53.RawInstruction53.{RawInstruction53}
-use Rattle.fields.specs.Opcodes53.{«OP_JMP», «OP_TFORLOOP»}
-use Rattle.fields.specs.Word53.{opcodeOf, aOf, cOf, sbxOf}
-use Rattle.fields.specs.Lopcodes53.{«GET_OPCODE», «GETARG_A», «GETARG_C», «GETARG_sBx»}
-use Rattle.fields.specs.Table53.{StepClass, following, returning, branching, comparing, skipping, skippingIfC}
-use Rattle.fields.specs.Table53.{skippingUnlessC, jumping, looping, invalid, classNumber, classOf, Companion}
-use Rattle.fields.specs.Table53.{alone, jumpAfter, loopAfter, companionNumber, companionOf}
+use Rattle.fields.specs.declared.lua53.word.RawInstruction53.{RawInstruction53}
+use Rattle.fields.specs.lua53.Opcodes.{«OP_JMP», «OP_TFORLOOP»}
+use Rattle.fields.specs.lua53.Word.{opcodeOf, aOf, cOf, sbxOf}
+use Rattle.fields.specs.lua53.Lopcodes.{«GET_OPCODE», «GETARG_A», «GETARG_C», «GETARG_sBx»}
+use Rattle.fields.specs.lua53.Table.{StepClass, following, returning, branching, comparing, skipping, skippingIfC}
+use Rattle.fields.specs.lua53.Table.{skippingUnlessC, jumping, looping, invalid, classNumber, classOf, Companion}
+use Rattle.fields.specs.lua53.Table.{alone, jumpAfter, loopAfter, companionNumber, companionOf}
 use Rattle.fields.specs.Laws.{all}
 use Rattle.fields.proofs.Laws.{laws}
-use Rattle.steps.specs.Columns53.{classFrom, companionFrom}
+use Rattle.steps.specs.lua53.Columns.{classFrom, companionFrom}
 use Rattle.sweep.specs.Steps.{one, two, isInvalid, listOf}
-use Rattle.steps.specs.Successors53.{opcodeAt, nextOf, standsAt, companionPresent, successorsOf}
+use Rattle.steps.specs.lua53.Successors.{opcodeAt, nextOf, standsAt, companionPresent, successorsOf}
 use Rattle.steps.specs.Executions.{gosOf, leading}
-use Rattle.steps.specs.Lvm53.{Go, vmbreak, «pc++», «pc++-if-C», «pc++-if-not-C», jump, donextjump}
-use Rattle.steps.specs.Lvm53.{compared-0, compared-1, «pc+=sBx», «goto-l_tforloop», leave, Body, bodyOf}
-use Rattle.steps.specs.Lvm53.{jmp, dojump, nextjump, compared, onward, bodyAt, waysAt, goesOn}
-use Rattle.steps.specs.Lvm53.{Agreement}
+use Rattle.steps.specs.lua53.Lvm.{Go, vmbreak, «pc++», «pc++-if-C», «pc++-if-not-C», jump, donextjump}
+use Rattle.steps.specs.lua53.Lvm.{compared-0, compared-1, «pc+=sBx», «goto-l_tforloop», leave, Body, bodyOf}
+use Rattle.steps.specs.lua53.Lvm.{jmp, dojump, nextjump, compared, onward, bodyAt, waysAt, goesOn}
+use Rattle.steps.specs.lua53.Lvm.{Agreement}
 use Rattle.steps.specs.Ways.{Way, fetch, targetsOf, integers, Alike}
 use Rattle.steps.proofs.Columns53.{class-back, companion-back}
 use Rattle.steps.proofs.NextWords.{Same, itself, one-by, twice-by, two-by, two-back}

@@ -1,4 +1,4 @@
--- The laws of specs/Successors.antt: a word by the columns of its opcode, and what holds of its steps, by the table's clauses.
+-- The laws of specs/lua54/Successors.antt: a word by the columns of its opcode, and what holds of its steps, by the table's clauses.
 -- Assumes nothing.
 use Prim.Native.Nat.{ℕ, _+_, _<_, _≤_}
 use mathlib.Core.Path.{_≡_}
@@ -8,13 +8,13 @@ use lib.IntN.{pos}
 use lib.ListN.{length, getD}
 use borrow.Author.Tests.{lt-ltb, le-ltb}
 use Rattle.common.specs.Limits.{mostWords}
-use Rattle.fields.specs.Word.{kOf}
-use Rattle.fields.specs.Table.{StepClass, following, returning, branching, skipping, skippingIfK, jumping}
-use Rattle.fields.specs.Table.{looping, preparing, entering, invalid, classOf, companionOf}
+use Rattle.fields.specs.lua54.Word.{kOf}
+use Rattle.fields.specs.lua54.Table.{StepClass, following, returning, branching, skipping, skippingIfK, jumping}
+use Rattle.fields.specs.lua54.Table.{looping, preparing, entering, invalid, classOf, companionOf}
 use Rattle.sweep.specs.declared.edges.Successors.the-variants.{Invalid}
-use Rattle.steps.specs.Columns.{classFrom, companionFrom}
+use Rattle.steps.specs.lua54.Columns.{classFrom, companionFrom}
 use Rattle.sweep.specs.Steps.{unless, one, Below}
-use Rattle.steps.specs.Successors.{opcodeAt, nextOf, standsAt, companionPresent, successorsOf}
+use Rattle.steps.specs.lua54.Successors.{opcodeAt, nextOf, standsAt, companionPresent, successorsOf}
 use Rattle.sweep.specs.Entries.{Packs}
 use Rattle.sweep.proofs.Steps.{let-through, by-test, picked, one-below, two-below, Nexts, nexts-picked, nexts-unless, nexts-one, nexts-up, nexts-down}
 use Rattle.sweep.proofs.Settling.{packs-of}

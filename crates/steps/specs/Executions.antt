@@ -1,5 +1,5 @@
 -- What an execution of a word reads and stores, as lvm.c names it, and the ways on of a case of its switch:
--- what specs/Lvm.antt and specs/Lvm53.antt share. What the names stand for in a word says
+-- what specs/lua54/Lvm.antt and specs/lua53/Lvm.antt share. What the names stand for in a word says
 -- touches/specs/Cells.antt.
 -- Assumes nothing.
 use mathlib.Core.List.{List, [], _∷_, _++_}

@@ -4,12 +4,12 @@ use Prim.Native.Nat.{ℕ}
 use mathlib.Core.List.{List}
 use lib.ListN.{length}
 use Rattle.sweep.specs.Steps.{Below}
-use Rattle.steps.specs.Successors as steps54
-use Rattle.steps.specs.Successors53 as steps53
-use Rattle.steps.specs.Lvm as lvm54
-use Rattle.steps.specs.Lvm53 as lvm53
-use Rattle.steps.specs.Bad53 as bad53
-use Rattle.steps.specs.Bad54 as bad54
+use Rattle.steps.specs.lua54.Successors as steps54
+use Rattle.steps.specs.lua53.Successors as steps53
+use Rattle.steps.specs.lua54.Lvm as lvm54
+use Rattle.steps.specs.lua53.Lvm as lvm53
+use Rattle.steps.specs.lua53.Bad as bad53
+use Rattle.steps.specs.lua54.Bad as bad54
 
 pub record Laws : Type 0 where
   -- the steps of a word are words, the lower first

@@ -1,12 +1,6 @@
--- Layer 2: the successors of a word, of either version.
-pub mod Columns
-pub mod Columns53
+-- Layer 2: the successors of a word, a folder for each version.
 pub mod Ways
 pub mod Executions
-pub mod Successors
-pub mod Lvm
-pub mod Successors53
-pub mod Lvm53
-pub mod Bad53
-pub mod Bad54
+pub mod lua54
+pub mod lua53
 pub mod Laws

@@ -1,5 +1,5 @@
--- How luaV_execute goes on after a word, of either version: what specs/Lvm.antt and specs/Lvm53.antt share.
--- A version supplies the bodies of its switch, what each does to pc, and by which of them a JMP is run.
+-- How luaV_execute goes on after a word, of either version: what lua54/Lvm.antt and lua53/Lvm.antt share. A
+-- version supplies the bodies of its switch, what each does to pc, and by which of them a JMP is run.
 -- Assumes nothing.
 use Prim.Native.Nat.{ℕ}
 use mathlib.Core.Path.{_≡_}

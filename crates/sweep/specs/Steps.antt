@@ -1,7 +1,7 @@
 -- The steps of words, whatever instruction set gives them, and the graph that they make. No word is read
 -- here, and nothing of crate `fields` is named: a search or a pass over such a graph holds for any
--- instruction set (request C-24). Crate `steps` supplies those of Lua 5.4, in its specs/Successors.antt,
--- and those of 5.3, in specs/Successors53.antt.
+-- instruction set (request C-24). Crate `steps` supplies those of Lua 5.4, in its
+-- specs/lua54/Successors.antt, and those of 5.3, in specs/lua53/Successors.antt.
 -- Assumes nothing.
 use Prim.Native.Nat.{ℕ, _<_}
 use mathlib.Core.Bool.{Bool, true, false, cond}

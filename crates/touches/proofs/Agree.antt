@@ -12,7 +12,7 @@ use Rattle.touches.specs.declared.arguments.Arguments.{Arguments}
 use Rattle.fields.specs.Laws.{all}
 use Rattle.fields.proofs.Laws.{laws}
 use Rattle.touches.specs.Operands.{Operand, «R[A]», «R[A+1]», «R[A+2]», «R[A+3]», «R[A+1…A+B-1]», «R[A+1…A+B]», locationOf}
-use Rattle.touches.specs.Cases.{OwnEdge, noEdge, «p+1», «p+2», «p+1-Bx», «p+1+sBx», Accesses}
+use Rattle.touches.specs.Accesses.{OwnEdge, noEdge, «p+1», «p+2», «p+1-Bx», «p+1+sBx», Accesses}
 use Rattle.touches.specs.Table.{operandNumber, operandFrom, edgeNumber, opcodesOf}
 use Rattle.steps.specs.Executions.{Access, Arm, goOf}
 use Rattle.touches.specs.Cells.{Cell, register, upToTop, names}
@@ -47,9 +47,13 @@ reads w = meants (wayReads w)
 abbrev stores : {Go : Type 0} → Arm Go → List Operand
 stores w = meants (wayStores w)
 
+-- what stands below the control variable of a numeric loop
+abbrev belowControl : List Operand
+belowControl = «R[A]» ∷ «R[A+1]» ∷ «R[A+2]» ∷ []
+
 -- two operands that never stand for the same cell: the control variable of a numeric loop and what is below it
 abbrev isApart : Operand → Operand → Bool
-isApart x y = cond (has («R[A]» ∷ «R[A+1]» ∷ «R[A+2]» ∷ []) x) (has («R[A+3]» ∷ []) y) false
+isApart x y = cond (has belowControl x) (has («R[A+3]» ∷ []) y) false
 
 -- The tests of a case
 
@@ -212,12 +216,12 @@ module _ (i pi ni : Arguments) (c : Cell) where
   found x xs t h = some-any Is (isSame x) xs t (λ y s. subst Is (is-same x y s) h)
 
   -- operands that are apart stand for no common cell
-  low : (x : Operand) → T (has («R[A]» ∷ «R[A+1]» ∷ «R[A+2]» ∷ []) x) → Is x → index c < i .a + 3
+  low : (x : Operand) → T (has belowControl x) → Is x → index c < i .a + 3
   low x t h =
       ⊎-elim (λ e. omega (arith, ap index (one-register (i .a) (i .a + 1) (omega arith) c .1 e)))
       (⊎-elim (λ e. omega (arith, ap index (one-register (i .a + 1) (i .a + 2) (omega arith) c .1 e)))
       (⊎-elim (λ e. omega (arith, ap index (one-register (i .a + 2) (i .a + 3) (omega arith) c .1 e))) (λ b. absurd b)))
-      (found x («R[A]» ∷ «R[A+1]» ∷ «R[A+2]» ∷ []) t h)
+      (found x belowControl t h)
 
   high : (y : Operand) → T (has («R[A+3]» ∷ []) y) → Is y → index c ≡ i .a + 3
   high y t h =
@@ -225,8 +229,8 @@ module _ (i pi ni : Arguments) (c : Cell) where
 
   apart : (x y : Operand) → T (isApart x y) → Is x → Is y → ⊥
   apart x y t h k =
-      let below = low x (left-of (has («R[A]» ∷ «R[A+1]» ∷ «R[A+2]» ∷ []) x) _ t) h in
-      let above = high y (right-of (has («R[A]» ∷ «R[A+1]» ∷ «R[A+2]» ∷ []) x) _ t) k in
+      let below = low x (left-of (has belowControl x) _ t) h in
+      let above = high y (right-of (has belowControl x) _ t) k in
       omega (arith, below, above)
 
   module _ (v : Version) (a : Accesses) (ways : List (Way v)) (agrees : Agrees v a ways) where

@@ -10,8 +10,8 @@ use lib.Dec.{T, eqb, eqb→eq}
 use lib.IntN.{ℤ, pos, negsuc, negℤ, _+ℤ_, _-ℤ_, +ℤ-assoc}
 use lib.ListN.{getD}
 use borrow.Author.Tests.{lt-ltb, le-ltb}
-use Rattle.fields.specs.declared.word.RawInstruction54.{RawInstruction54}
-use Rattle.fields.specs.declared.word53.RawInstruction53.{RawInstruction53}
+use Rattle.fields.specs.declared.lua54.word.RawInstruction54.{RawInstruction54}
+use Rattle.fields.specs.declared.lua53.word.RawInstruction53.{RawInstruction53}
 use Rattle.fields.proofs.Laws.{laws}
 use Rattle.graph.specs.Graph.{In}
 use Rattle.graph.proofs.Laws as graph
@@ -19,8 +19,8 @@ use Rattle.sweep.specs.Steps.{isInvalid, listOf}
 use Rattle.steps.specs.Ways as lvm
 use Rattle.steps.specs.Ways.{targetsOf, integers}
 use Rattle.steps.specs.Executions.{Arm, goOf, gosOf, leading}
-use Rattle.steps.specs.Lvm as lvm54
-use Rattle.steps.specs.Lvm53 as lvm53
+use Rattle.steps.specs.lua54.Lvm as lvm54
+use Rattle.steps.specs.lua53.Lvm as lvm53
 use Rattle.runs.specs.Script.{stepsOf}
 use Rattle.steps.proofs.Laws as stepping
 use Rattle.fields.specs.declared.version.Version.{Version}
@@ -28,7 +28,7 @@ use Rattle.fields.specs.declared.version.Version.the-variants.{Lua54, Lua53}
 use Rattle.touches.specs.Words.{opcodeBy, «GET_OPCODE-of», taken}
 use Rattle.touches.specs.Versions.{isStep, Go, Way, waysOf, next}
 use Rattle.touches.specs.Touched.{waysAt, Any, LeadsTo}
-use Rattle.touches.specs.Cases.{OwnEdge, noEdge, «p+1», «p+2», «p+1-Bx», «p+1+sBx», edgeOf}
+use Rattle.touches.specs.Accesses.{OwnEdge, noEdge, «p+1», «p+2», «p+1-Bx», «p+1+sBx», edgeOf}
 use Rattle.touches.specs.Table.{edgeFrom, edgeNumber, opcodesOf}
 use Rattle.touches.proofs.Order.{split}
 use Rattle.touches.proofs.Choices.{left-of, right-of}

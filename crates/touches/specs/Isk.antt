@@ -3,8 +3,8 @@
 use Prim.Native.Nat.{ℕ, _-_, _*_, _/_, _%_, _^_, _<_}
 use mathlib.Core.Path.{_≡_}
 use lib.Bits.{bitAnd}
-use Rattle.fields.specs.Lopcodes.{_shl_}
-use Rattle.fields.specs.Lopcodes53.{«SIZE_B»}
+use Rattle.fields.specs.Bits.{_shl_}
+use Rattle.fields.specs.lua53.Lopcodes.{«SIZE_B»}
 
 -- "this bit 1 means constant (0 means register)": (1 << (SIZE_B - 1))
 abbrev pub «BITRK» : ℕ

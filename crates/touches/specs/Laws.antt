@@ -9,7 +9,7 @@ use Rattle.touches.specs.Touches.{touchesFor}
 use Rattle.touches.specs.Table.{tableOf, touchesLent}
 use Rattle.touches.specs.Isk.{RK}
 use Rattle.touches.specs.Meaning.{Meaning}
-use Rattle.touches.specs.Examples53 as examples53
+use Rattle.touches.specs.lua53.Examples as examples53
 
 pub record Laws : Type 0 where
   -- the form of the lists, and that they are exactly what lvm.c touches

@@ -2,8 +2,9 @@
 pub mod Isk
 pub mod Words
 pub mod Operands
-pub mod Cases
-pub mod Cases53
+pub mod Accesses
+pub mod lua54
+pub mod lua53
 pub mod Canonical
 pub mod Lists
 pub mod Cells
@@ -11,6 +12,5 @@ pub mod Versions
 pub mod Touches
 pub mod Touched
 pub mod Meaning
-pub mod Examples53
 pub mod Table
 pub mod Laws

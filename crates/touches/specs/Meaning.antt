@@ -1,7 +1,6 @@
 -- What the answer says, in document 02's words: that it has the form asked for, and that it lists exactly
--- what lvm.c touches (steps/specs/Lvm.antt, steps/specs/Lvm53.antt): "the registers, constants and upvalues
--- that lvm.c reads and writes in some execution". proofs/Meaning.antt proves it for every word of either
--- version.
+-- what lvm.c touches (Lvm.antt in steps/specs/lua54 and lua53): "the registers, constants and upvalues that
+-- lvm.c reads and writes in some execution". proofs/Meaning.antt proves it for every word of either version.
 -- Assumes nothing.
 use Prim.Native.Nat.{ℕ, _+_, _-_, _≤_, _<_}
 use mathlib.Core.Path.{_≡_}

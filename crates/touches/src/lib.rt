@@ -6,9 +6,9 @@ pub mod c;
 pub mod indices;
 pub mod intervals;
 pub mod locations;
+mod lua53;
+mod lua54;
 pub mod operands;
-mod table;
-mod table53;
 pub mod tops;
 pub mod word;
 

@@ -6,7 +6,7 @@ ghost use lib.ListN.{length, getD};
 ghost use Rattle.fields.specs.declared.version.Version.the-variants.{Lua54, Lua53};
 ghost use Rattle.sweep.specs.Steps.{isInvalid};
 ghost use Rattle.touches.specs.Words.{opcodeBy, argumentsOf};
-ghost use Rattle.touches.specs.Cases.{edgeOf};
+ghost use Rattle.touches.specs.Accesses.{edgeOf};
 ghost use Rattle.touches.specs.Operands.{locationOf};
 ghost use Rattle.touches.specs.Table.{
   tableOf,
@@ -27,11 +27,11 @@ use crate::indices::upvalues_in;
 use crate::intervals::ranges_in;
 use crate::locations::Location;
 use crate::locations::location_of;
+use crate::lua53::table::TABLE_53;
+use crate::lua54::table::ACCESSES;
 use crate::operands::*;
-use crate::table::ACCESSES;
-use crate::table53::TABLE_53;
 use crate::tops::top_in;
-use fields::word53::OFFSET_SBX;
+use fields::lua53::word::OFFSET_SBX;
 use sweep::edges::Successors;
 
 // By value: reading a constant array copies it, so a loop takes the table once and lends it to `touches_in`.
@@ -190,7 +190,7 @@ fn touches_at(rows: &[u64; 128], words: &[u32], p: usize) -> Touches
 pub fn touches_in(rows: &[u64; 128], words: &[u32], p: usize) -> Touches
     ensures { λ r. ⌜ r ≡ touchesWith (now (rows .entry)) (now (words .entry)) p ⌝ }
 {
-    if is_bad(steps::successors::successors(words, p)) {
+    if is_bad(steps::lua54::successors::successors(words, p)) {
         return nothing();
     }
     touches_at(rows, words, p)
@@ -222,7 +222,7 @@ fn touches_at_53(rows: &[u64; 64], words: &[u32], p: usize) -> Touches
 fn touches_in_53(rows: &[u64; 64], words: &[u32], p: usize) -> Touches
     ensures { λ r. ⌜ r ≡ touchesLent Lua53 (now (rows .entry)) (now (words .entry)) p ⌝ }
 {
-    if is_bad(steps::successors53::successors(words, p)) {
+    if is_bad(steps::lua53::successors::successors(words, p)) {
         return nothing();
     }
     touches_at_53(rows, words, p)

@@ -12,7 +12,7 @@ use borrow.Author.Tests.{lt-ltb, le-ltb}
 use Rattle.common.specs.Limits.{mostWords}
 use Rattle.common.specs.Chain.{refuseIf}
 use Rattle.common.proofs.Order.{split}
-use Rattle.graph.specs.Graph.{In}
+use Rattle.graph.specs.Graph.{In, Lawful}
 use Rattle.graph.specs.Longest.{lengthOf, first}
 use Rattle.sweep.specs.declared.edges.Successors.{Successors}
 use Rattle.sweep.specs.declared.edges.Successors.the-variants.{Invalid, Stop, One, Two}
@@ -41,29 +41,34 @@ ascending n (Two a c) b = (λ r i. ⊎-elim (λ e. above r e) (λ j. absurd j) i
     above r e = omega (arith, b .0)
 
 module _ (ws : Script) (sound : Sound ws) (weights : List ℕ) (a b l f : ℕ) (e : runOf ws weights a b ≡ Run.Accepted l f) where
+  abbrev lengths : ℕ → ℕ
+  lengths = lengthOf (graphOf ws) (weightOf ws weights)
+
+  law : Lawful (graphOf ws)
+  law = laws .lawful ws sound
+
+  lower-first : (p : ℕ) → Ascending (listOf (ws .steps p))
+  lower-first p = ascending (ws .size) (ws .steps p) (sound .below p)
+
   abbrev rest : List ℕ
   rest =
-      restOf (graphOf ws) (laws .lawful ws sound) (lengthOf (graphOf ws) (weightOf ws weights))
-      (λ p. ascending (ws .size) (ws .steps p) (sound .below p)) (ws .size - 1) f
+      restOf (graphOf ws) law lengths lower-first (ws .size - 1) f
 
-  followed : FollowsLengths (graphOf ws) (lengthOf (graphOf ws) (weightOf ws weights)) f rest
+  followed : FollowsLengths (graphOf ws) lengths f rest
   followed =
-      follows (graphOf ws) (laws .lawful ws sound) (lengthOf (graphOf ws) (weightOf ws weights))
-      (λ p. ascending (ws .size) (ws .steps p) (sound .below p)) (ws .size - 1) f
-      (omega arith)
+      follows (graphOf ws) law lengths lower-first (ws .size - 1) f (omega arith)
 
   starts-with : pathOf ws weights ≡ f ∷ rest
   unfolding pathOf follow
   starts-with =
       let z : ws .size ≡ suc (ws .size - 1) = omega (arith, first-inside ws sound weights a b l f e) in
-      ap (λ (x : ℕ). follow (graphOf ws) (lengthOf (graphOf ws) (weightOf ws weights)) (ws .size) x) (sym (first-is ws sound weights a b l f e))
-      ∙ ap (λ (k : ℕ). follow (graphOf ws) (lengthOf (graphOf ws) (weightOf ws weights)) k f) z
+      ap (λ (x : ℕ). follow (graphOf ws) lengths (ws .size) x) (sym (first-is ws sound weights a b l f e))
+      ∙ ap (λ (k : ℕ). follow (graphOf ws) lengths k f) z
 
   few-words : length (pathOf ws weights) ≤ ws .size
   unfolding pathOf
   few-words =
-      follow-few (graphOf ws) (laws .lawful ws sound) (lengthOf (graphOf ws) (weightOf ws weights))
-      (ws .size) (first (graphOf ws) (weightOf ws weights))
+      follow-few (graphOf ws) law lengths (ws .size) (first (graphOf ws) (weightOf ws weights))
 
   longest-stretch : LongestStretch ws weights l f (pathOf ws weights)
   longest-stretch =
@@ -71,8 +76,8 @@ module _ (ws : Script) (sound : Sound ws) (weights : List ℕ) (a b l f : ℕ) (
       record {
         rest = rest;
         starts = starts-with;
-        stretch = segment-of (graphOf ws) (laws .lawful ws sound) (lengthOf (graphOf ws) (weightOf ws weights)) f rest r followed;
-        weight = weighs (graphOf ws) (laws .lawful ws sound) (weightOf ws weights) f rest r followed ∙ first-length ws sound weights a b l f e;
+        stretch = segment-of (graphOf ws) law lengths f rest r followed;
+        weight = weighs (graphOf ws) law (weightOf ws weights) f rest r followed ∙ first-length ws sound weights a b l f e;
         chosen = followed;
         few = few-words;
       }

@@ -8,8 +8,9 @@ use lib.Dec.{ltb}
 use lib.ListN.{length, drop}
 use borrow.Author.Tests.{lt-ltb, ltb-true, ltb-false, le-ltb}
 use Rattle.common.specs.Limits.{mostWords}
-use Rattle.common.specs.Numbers.{«TOO_MANY_WORDS», «SHORT_SLICE»}
-use Rattle.common.specs.Chain.{refuseIf}
+use Rattle.common.specs.Numbers.{«ACCEPTED», «TOO_MANY_WORDS», «SHORT_SLICE»}
+use Rattle.common.specs.Chain.{refuseIf, roomNumber}
+use Rattle.common.proofs.Refusing.{room-each, room-pass}
 use Rattle.runs.specs.declared.longest.Run.{Run}
 use Rattle.runs.specs.declared.longest.Run.the-variants as Run
 use Rattle.runs.specs.Script.{Script, Sound}
@@ -58,23 +59,28 @@ module _ (ws : Script) (weights m l : List ℕ) (room : ℕ) where
   either true e = refl
   either false e = sym e
 
-  pub within-many : mostWords < ws .size → Within (Run.Refused «TOO_MANY_WORDS» 0) m l
+  within-many : mostWords < ws .size → Within (Run.Refused «TOO_MANY_WORDS» 0) m l
   unfolding runWithin
   within-many h =
       let u = ltb room (ws .size) in
       (rw (lt-ltb mostWords (ws .size) h), (either u (many-marks ws weights m l [] h), either u (many-lengths ws weights m l [] h)))
 
-  pub within-short : ws .size ≤ mostWords → room < ws .size → Within (Run.Refused «SHORT_SLICE» 0) m l
+  within-short : ws .size ≤ mostWords → room < ws .size → Within (Run.Refused «SHORT_SLICE» 0) m l
   unfolding runWithin
   within-short few h = let s = lt-ltb room (ws .size) h in (rw (le-ltb mostWords (ws .size) few, s), (rw s, rw s))
 
-  pub within-run :
-      ws .size ≤ mostWords → ws .size ≤ room → {r : Run} {m′ l′ : List ℕ} → r ≡ runOf ws weights (length m) (length l)
-      → m′ ≡ marksAfter ws weights m l → l′ ≡ lengthsAfter ws weights m l → Within r m′ l′
-  unfolding runWithin
-  within-run few long e em el =
-      let s = le-ltb room (ws .size) long in
-      (rw (le-ltb mostWords (ws .size) few, s) e, (rw s em, rw s el))
+  module _ {number : ℕ} (k : number ≡ roomNumber (ws .size) room) where
+    pub within-refused : (number ≡ «ACCEPTED» → ⊥) → Within (Run.Refused number 0) m l
+    within-refused n = rw k (room-each (ws .size) room (λ (x : ℕ). Within (Run.Refused x 0) m l) within-many within-short (λ z. n (k ∙ z)))
+
+    pub within-run :
+        number ≡ «ACCEPTED» → {r : Run} {m′ l′ : List ℕ} → r ≡ runOf ws weights (length m) (length l)
+        → m′ ≡ marksAfter ws weights m l → l′ ≡ lengthsAfter ws weights m l → Within r m′ l′
+    unfolding runWithin
+    within-run z e em el =
+        let p = room-pass (ws .size) room (sym k ∙ z) in
+        let s = le-ltb room (ws .size) (p .1) in
+        (rw (le-ltb mostWords (ws .size) (p .0), s) e, (rw s em, rw s el))
 
 module _ (ws : Script) (weights m l path : List ℕ) {r : Run} (e : r ≡ runWithin ws weights (length m) (length l) (length path)) where
   pub within-accepted :

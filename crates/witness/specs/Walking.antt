@@ -7,8 +7,7 @@ use Prim.Native.Nat.{ℕ, _≤_, _<_}
 use lib.Dec.{ltb}
 use lib.ListN.{length, getD, drop}
 use Rattle.common.specs.Limits.{mostWords}
-use Rattle.common.specs.Numbers.{«TOO_MANY_WORDS», «SHORT_SLICE»}
-use Rattle.common.specs.Chain.{refuseIf}
+use Rattle.common.specs.Chain.{refuseIf, refuseRoom}
 use Rattle.sweep.specs.PassInvariants.{at}
 use Rattle.runs.specs.declared.longest.Run.{Run}
 use Rattle.runs.specs.declared.longest.Run.the-variants as Run
@@ -33,9 +32,8 @@ pub record Walked (ws : Script) (l : List ℕ) (first : ℕ) (path path′ : Lis
 -- the run before the walk: numbers 1 and 6 of a path with so much room go before its own
 unfoldable pub runWithin : Script → List ℕ → ℕ → ℕ → ℕ → Run
 runWithin ws weights marks lengths room =
-    refuseIf (ltb mostWords (ws .size)) (Run.Refused «TOO_MANY_WORDS» 0)
-    (refuseIf (ltb room (ws .size)) (Run.Refused «SHORT_SLICE» 0)
-    (runOf ws weights marks lengths))
+    refuseRoom (λ (number : ℕ). Run.Refused number 0) (ws .size) (ltb room (ws .size))
+    (runOf ws weights marks lengths)
 
 -- a slice that the run leaves as `later`, where there was room for the path
 abbrev pub kept : Script → ℕ → List ℕ → List ℕ → List ℕ

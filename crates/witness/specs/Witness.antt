@@ -4,9 +4,7 @@ use mathlib.Core.List.{List, _++_}
 use Prim.Native.Nat.{ℕ}
 use lib.Dec.{ltb}
 use lib.ListN.{length, drop}
-use Rattle.common.specs.Limits.{mostWords}
-use Rattle.common.specs.Numbers.{«TOO_MANY_WORDS», «SHORT_SLICE»}
-use Rattle.common.specs.Chain.{refuseIf}
+use Rattle.common.specs.Chain.{refuseIf, refuseRoom}
 use Rattle.graph.specs.Longest.{lengthOf, first}
 use Rattle.runs.specs.declared.longest.Run.{Run}
 use Rattle.runs.specs.declared.longest.Run.the-variants as Run
@@ -32,9 +30,8 @@ pathAnswerBy (Run.Refused k p) path = PathRun.Refused k p
 -- run's two, after number 1
 unfoldable pub pathRunOf : Script → List ℕ → ℕ → ℕ → ℕ → PathRun
 pathRunOf ws weights marks lengths path =
-    refuseIf (ltb mostWords (ws .size)) (PathRun.Refused «TOO_MANY_WORDS» 0)
-    (refuseIf (ltb path (ws .size)) (PathRun.Refused «SHORT_SLICE» 0)
-    (pathAnswerBy (runOf ws weights marks lengths) (pathOf ws weights)))
+    refuseRoom (λ (number : ℕ). PathRun.Refused number 0) (ws .size) (ltb path (ws .size))
+    (pathAnswerBy (runOf ws weights marks lengths) (pathOf ws weights))
 
 -- "Elements past the count untouched; nothing written on a refusal"
 abbrev pub pathBy : Run → List ℕ → List ℕ → List ℕ

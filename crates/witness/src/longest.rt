@@ -8,8 +8,8 @@ ghost use Rattle.witness.specs.Walking.{runWithin, kept};
 ghost use Rattle.runs.specs.Run.{marksAfter, lengthsAfter};
 use crate::walking::write_path;
 use crate::walking::write_path_53;
-use common::limits::MOST_WORDS;
-use common::numbers::*;
+use common::numbers::ACCEPTED;
+use common::sizes::room_refusal;
 use fields::version::Version;
 use runs::Run;
 
@@ -48,17 +48,9 @@ fn run_within(
         (now (lengths .entry))) ⌝ }
 {
     let n = words.len();
-    if MOST_WORDS < n {
-        return Run::Refused {
-            number: TOO_MANY_WORDS,
-            place: 0,
-        };
-    }
-    if room < n {
-        return Run::Refused {
-            number: SHORT_SLICE,
-            place: 0,
-        };
+    let number = room_refusal(n, room);
+    if number != ACCEPTED {
+        return Run::Refused { number, place: 0 };
     }
     runs::longest_run(version, words, weights, marks, lengths)
 }

@@ -8,7 +8,7 @@ ghost use Rattle.sweep.specs.Steps.{listOf, servesOf, Below};
 ghost use Rattle.runs.specs.Script.{scriptOf, lua54};
 ghost use Rattle.witness.specs.Following.{onwards};
 ghost use Rattle.witness.specs.Walking.{Walks, Walked};
-use steps::successors::successors;
+use steps::lua54::successors::successors;
 use sweep::edges::Successors;
 use sweep::edges::serves;
 
@@ -93,7 +93,7 @@ pub(crate) fn write_path_53(words: &[u32], lengths: &[u32], first: usize, path: 
     while count < n {
         path[count] = p as u32;
         count += 1;
-        let onward = go_on(steps::successors53::successors(words, p), lengths, p);
+        let onward = go_on(steps::lua53::successors::successors(words, p), lengths, p);
         let Onward::To(q) = onward else {
             return count;
         };

@@ -13,7 +13,7 @@ use pages::fill;
 use pages::number;
 use pages::put;
 use pages::word_at;
-use steps::successors::successors;
+use steps::lua54::successors::successors;
 use sweep::edges::Successors;
 
 fn put_escape(page: &mut [u8], s: PageState, b: u8) -> PageState {

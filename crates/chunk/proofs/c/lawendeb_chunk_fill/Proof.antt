@@ -27,24 +27,18 @@ here : (c : tie.After-with-room) (l : Layout) → c .with-room .result ≡ Here 
 here c l e = is-filled (start c .args .chunk .now) (start c .args .k) (rooms (start c)) l _ (located c) e
 
 returns : tie.Need-returns
-returns c = (
-  answer-refused _ _ _ _ (located (c .before .before .before))
-      _ (c .before .enum-told .given .1) _ (c .report .ensures),
-  (
-    nothing-altered _ _ _ _ (located (c .before .before .before)) _ (c .before .enum-told .given .1) wordsOf
-        _,
-    (
-      nothing-altered _ _ _ _ (located (c .before .before .before)) _ (c .before .enum-told .given .1)
-          tagsOf _,
+returns c =
+    let is = located (c .before .before .before) in
+    let told = c .before .enum-told .given .1 in (
+      answer-refused _ _ _ _ is _ told _ (c .report .ensures),
       (
-        nothing-altered _ _ _ _ (located (c .before .before .before))
-            _ (c .before .enum-told .given .1) payloadsOf _,
-        nothing-altered
-            _ _ _ _ (located (c .before .before .before)) _ (c .before .enum-told .given .1) namesOf _,
+        nothing-altered _ _ _ _ is _ told wordsOf _,
+        (
+          nothing-altered _ _ _ _ is _ told tagsOf _,
+          (nothing-altered _ _ _ _ is _ told payloadsOf _, nothing-altered _ _ _ _ is _ told namesOf _),
+        ),
       ),
-    ),
-  ),
-)
+    )
 
 fill-code-requires : tie.Need-fill-code-requires
 fill-code-requires c κs = code-again _ _ _ _ (here (c .before .before .before .before) _ (c .before .before .found .given .1))

@@ -3,7 +3,7 @@
 use Prim.Native.Nat.{ℕ}
 use mathlib.Core.Path.{_≡_, _∙_, ap}
 use borrow.Author.Needs.{needs}
-use Rattle.fields.specs.declared.word.RawInstruction54.{RawInstruction54}
+use Rattle.fields.specs.declared.lua54.word.RawInstruction54.{RawInstruction54}
 use Rattle.exports.specs.Flat.{flatFields}
 use Rattle.exports.proofs.c.lawendeb_decode.Statement.{statement}
 use Rattle.exports.proofs.c.lawendeb_decode.Tie as tie

@@ -3,7 +3,7 @@
 use Prim.Native.Nat.{ℕ}
 use mathlib.Core.Path.{_≡_, _∙_, ap}
 use borrow.Author.Needs.{needs}
-use Rattle.fields.specs.declared.word53.RawInstruction53.{RawInstruction53}
+use Rattle.fields.specs.declared.lua53.word.RawInstruction53.{RawInstruction53}
 use Rattle.lua53.specs.Flat.{flatFields}
 use Rattle.lua53.proofs.c.lawendeb_decode_53.Statement.{statement}
 use Rattle.lua53.proofs.c.lawendeb_decode_53.Tie as tie

@@ -50,15 +50,8 @@ protos-at t = and 1 protos-kinds.ps (is 1 protos-kinds.ps μ-protos t) protos.Pr
 abbrev protos-below : ℕ → In 1 protos-kinds.ps
 protos-below t = and 1 protos-kinds.ps (falls 1 protos-kinds.ps _<_ μ-protos t) protos.Pre
 
-abbrev protos-Inv-loop : protos-lts.InvT-loop
-protos-Inv-loop chunk level at n w₀ i₀ w i =
-    (i ≤ n) × (resumed (loadFunction (level - 1)) n chunk w₀ ≡ resumed (loadFunction (level - 1)) (n - i) chunk w)
-
-abbrev protos-μ-loop : protos-lts.MeasureT-loop
-protos-μ-loop chunk level at n w₀ i₀ w i = n - i
-
--- the steps of `function`
-function-returns : (t : ℕ) → function-lts.Need-returns (
+abbrev function-claims : ℕ → function-lts.Claims
+function-claims t = (
   head-reads.Asked,
   head-reads.Learnt,
   code-reads.Asked,
@@ -84,7 +77,30 @@ function-returns : (t : ℕ) → function-lts.Need-returns (
   finish-reads.Asked,
   finish-reads.Learnt,
 )
-    (function-at t) function.Post
+
+abbrev protos-claims : ℕ → protos-lts.Claims
+protos-claims t = (
+  int-reads.Asked,
+  int-reads.Learnt,
+  reason-reads.Asked,
+  reason-reads.Learnt,
+  cursor-reads.Asked,
+  cursor-reads.Learnt,
+  standing-reads.Asked,
+  standing-reads.Learnt,
+  function-below t,
+  function.Post,
+)
+
+abbrev protos-Inv-loop : protos-lts.InvT-loop
+protos-Inv-loop chunk level at n w₀ i₀ w i =
+    (i ≤ n) × (resumed (loadFunction (level - 1)) n chunk w₀ ≡ resumed (loadFunction (level - 1)) (n - i) chunk w)
+
+abbrev protos-μ-loop : protos-lts.MeasureT-loop
+protos-μ-loop chunk level at n w₀ i₀ w i = n - i
+
+-- the steps of `function`
+function-returns : (t : ℕ) → function-lts.Need-returns (function-claims t) (function-at t) function.Post
 function-returns t c =
     let at-value3 = c .before .before .before .before in
     let at-position3 = at-value3 .before in
@@ -114,115 +130,29 @@ function-returns t c =
     (at-value3 .value3 .ensures) (c .before .before .before .position4 .ensures)
     (c .before .before .position5 .ensures) (c .before .value4 .ensures) (c .finish .ensures)
 
-function-protos-requires : (t : ℕ) → function-lts.Need-protos-requires (
-  head-reads.Asked,
-  head-reads.Learnt,
-  code-reads.Asked,
-  code-reads.Learnt,
-  constants-reads.Asked,
-  constants-reads.Learnt,
-  upvalues-reads.Asked,
-  upvalues-reads.Learnt,
-  pass-reads.Asked,
-  pass-reads.Learnt,
-  protos-below t,
-  protos.Post,
-  cursor-reads.Asked,
-  cursor-reads.Learnt,
-  lines-reads.Asked,
-  lines-reads.Learnt,
-  value-reads.Asked,
-  value-reads.Learnt,
-  names-reads.Asked,
-  names-reads.Learnt,
-  position-reads.Asked,
-  position-reads.Learnt,
-  finish-reads.Asked,
-  finish-reads.Learnt,
-)
-    (function-at t) function.Post
+function-protos-requires : (t : ℕ) → function-lts.Need-protos-requires (function-claims t) (function-at t) function.Post
 function-protos-requires t c κs =
     let at-constants = c .before .before in
     let entry = at-constants .before .before .before .before in
     (omega (arith, entry .pre .0), tt)
 
-protos-returns : (t : ℕ) → protos-lts.Need-returns (
-  int-reads.Asked,
-  int-reads.Learnt,
-  reason-reads.Asked,
-  reason-reads.Learnt,
-  cursor-reads.Asked,
-  cursor-reads.Learnt,
-  standing-reads.Asked,
-  standing-reads.Learnt,
-  function-below t,
-  function.Post,
-)
-    (protos-at t) protos.Post protos-Inv-loop protos-μ-loop
+protos-returns : (t : ℕ) → protos-lts.Need-returns (protos-claims t) (protos-at t) protos.Post protos-Inv-loop protos-μ-loop
 protos-returns t c = no-count _ _ _ _ _ _ _ (c .before .before .before .int .ensures) (c .before .enum-told .given .1) (c .reason .ensures)
 
-protos-returns-2 : (t : ℕ) → protos-lts.Need-returns-2 (
-  int-reads.Asked,
-  int-reads.Learnt,
-  reason-reads.Asked,
-  reason-reads.Learnt,
-  cursor-reads.Asked,
-  cursor-reads.Learnt,
-  standing-reads.Asked,
-  standing-reads.Learnt,
-  function-below t,
-  function.Post,
-)
-    (protos-at t) protos.Post protos-Inv-loop protos-μ-loop
+protos-returns-2 : (t : ℕ) → protos-lts.Need-returns-2 (protos-claims t) (protos-at t) protos.Post protos-Inv-loop protos-μ-loop
 protos-returns-2 t c =
     let at-int = c .before .before .before .before .before in
     flat _ _ _ _ _ _ (at-int .int .ensures) (c .before .before .before .count .given .1) _ (c .before .if1 .taken) (c .if2 .taken)
 
-protos-returns-3 : (t : ℕ) → protos-lts.Need-returns-3 (
-  int-reads.Asked,
-  int-reads.Learnt,
-  reason-reads.Asked,
-  reason-reads.Learnt,
-  cursor-reads.Asked,
-  cursor-reads.Learnt,
-  standing-reads.Asked,
-  standing-reads.Learnt,
-  function-below t,
-  function.Post,
-)
-    (protos-at t) protos.Post protos-Inv-loop protos-μ-loop
+protos-returns-3 : (t : ℕ) → protos-lts.Need-returns-3 (protos-claims t) (protos-at t) protos.Post protos-Inv-loop protos-μ-loop
 protos-returns-3 t c =
     let at-int = c .before .before .before .before .before in
     too-deep _ _ _ _ _ _ (at-int .int .ensures) (c .before .before .before .count .given .1) _ (c .before .if1 .taken) (c .if2 .left)
 
-protos-loop-holds : (t : ℕ) → protos-lts.Need-loop-holds (
-  int-reads.Asked,
-  int-reads.Learnt,
-  reason-reads.Asked,
-  reason-reads.Learnt,
-  cursor-reads.Asked,
-  cursor-reads.Learnt,
-  standing-reads.Asked,
-  standing-reads.Learnt,
-  function-below t,
-  function.Post,
-)
-    (protos-at t) protos.Post protos-Inv-loop protos-μ-loop
+protos-loop-holds : (t : ℕ) → protos-lts.Need-loop-holds (protos-claims t) (protos-at t) protos.Post protos-Inv-loop protos-μ-loop
 protos-loop-holds t c = (omega arith, rw (sub-zero (c .before .before .count .given .0 .1 .0)))
 
-protos-returns-4 : (t : ℕ) → protos-lts.Need-returns-4 (
-  int-reads.Asked,
-  int-reads.Learnt,
-  reason-reads.Asked,
-  reason-reads.Learnt,
-  cursor-reads.Asked,
-  cursor-reads.Learnt,
-  standing-reads.Asked,
-  standing-reads.Learnt,
-  function-below t,
-  function.Post,
-)
-    (protos-at t) protos.Post protos-Inv-loop protos-μ-loop
+protos-returns-4 : (t : ℕ) → protos-lts.Need-returns-4 (protos-claims t) (protos-at t) protos.Post protos-Inv-loop protos-μ-loop
 protos-returns-4 t c =
     let at-if1 = c .before .before .before .before in
     let at-count = at-if1 .before .before in
@@ -231,34 +161,10 @@ protos-returns-4 t c =
     ∙ (deeper _ _ _ _ _ _ (at-int .int .ensures) (at-count .count .given .1) _ _
     (level-less _ (at-if1 .if1 .left)))
 
-protos-sub-function : (t : ℕ) → protos-lts.Need-sub-function (
-  int-reads.Asked,
-  int-reads.Learnt,
-  reason-reads.Asked,
-  reason-reads.Learnt,
-  cursor-reads.Asked,
-  cursor-reads.Learnt,
-  standing-reads.Asked,
-  standing-reads.Learnt,
-  function-below t,
-  function.Post,
-)
-    (protos-at t) protos.Post protos-Inv-loop protos-μ-loop
+protos-sub-function : (t : ℕ) → protos-lts.Need-sub-function (protos-claims t) (protos-at t) protos.Post protos-Inv-loop protos-μ-loop
 protos-sub-function t c = omega arith
 
-protos-function-requires : (t : ℕ) → protos-lts.Need-function-requires (
-  int-reads.Asked,
-  int-reads.Learnt,
-  reason-reads.Asked,
-  reason-reads.Learnt,
-  cursor-reads.Asked,
-  cursor-reads.Learnt,
-  standing-reads.Asked,
-  standing-reads.Learnt,
-  function-below t,
-  function.Post,
-)
-    (protos-at t) protos.Post protos-Inv-loop protos-μ-loop
+protos-function-requires : (t : ℕ) → protos-lts.Need-function-requires (protos-claims t) (protos-at t) protos.Post protos-Inv-loop protos-μ-loop
 protos-function-requires t c κs =
     let turn = c .before .before .before .before .before in
     let at-if1 = turn .before in
@@ -266,19 +172,7 @@ protos-function-requires t c κs =
     let entry = at-count .before .before .before .before in
     (omega (arith, entry .pre .0, at-if1 .if1 .left), tt)
 
-protos-loop-again : (t : ℕ) → protos-lts.Need-loop-again (
-  int-reads.Asked,
-  int-reads.Learnt,
-  reason-reads.Asked,
-  reason-reads.Learnt,
-  cursor-reads.Asked,
-  cursor-reads.Learnt,
-  standing-reads.Asked,
-  standing-reads.Learnt,
-  function-below t,
-  function.Post,
-)
-    (protos-at t) protos.Post protos-Inv-loop protos-μ-loop
+protos-loop-again : (t : ℕ) → protos-lts.Need-loop-again (protos-claims t) (protos-at t) protos.Post protos-Inv-loop protos-μ-loop
 protos-loop-again t c =
     let at-loop-test = c .before .before .before .before .before in
     let turn = at-loop-test .before in
@@ -289,19 +183,7 @@ protos-loop-again t c =
           (c .function .ensures))),
     )
 
-protos-returns-5 : (t : ℕ) → protos-lts.Need-returns-5 (
-  int-reads.Asked,
-  int-reads.Learnt,
-  reason-reads.Asked,
-  reason-reads.Learnt,
-  cursor-reads.Asked,
-  cursor-reads.Learnt,
-  standing-reads.Asked,
-  standing-reads.Learnt,
-  function-below t,
-  function.Post,
-)
-    (protos-at t) protos.Post protos-Inv-loop protos-μ-loop
+protos-returns-5 : (t : ℕ) → protos-lts.Need-returns-5 (protos-claims t) (protos-at t) protos.Post protos-Inv-loop protos-μ-loop
 protos-returns-5 t c =
     let at-count = c .before .before .before .before in
     let at-int = at-count .before .before in
@@ -310,32 +192,7 @@ protos-returns-5 t c =
     (at-count .count .given .1) _ _ (level-less _ (c .before .before .if1 .left)))
 
 pub +function+protos-spec : {M : Type 1} → statement M
-+function+protos-spec = close μ-function μ-protos (λ t. function-lts.spec (
-  head-reads.Asked,
-  head-reads.Learnt,
-  code-reads.Asked,
-  code-reads.Learnt,
-  constants-reads.Asked,
-  constants-reads.Learnt,
-  upvalues-reads.Asked,
-  upvalues-reads.Learnt,
-  pass-reads.Asked,
-  pass-reads.Learnt,
-  protos-below t,
-  protos.Post,
-  cursor-reads.Asked,
-  cursor-reads.Learnt,
-  lines-reads.Asked,
-  lines-reads.Learnt,
-  value-reads.Asked,
-  value-reads.Learnt,
-  names-reads.Asked,
-  names-reads.Learnt,
-  position-reads.Asked,
-  position-reads.Learnt,
-  finish-reads.Asked,
-  finish-reads.Learnt,
-)
++function+protos-spec = close μ-function μ-protos (λ t. function-lts.spec (function-claims t)
     (function-at t) function.Post
     (λ c κs. search needs) (λ c κs. search needs) (λ c κs. search needs) (λ c κs. search needs) (λ c κs. search needs)
     (function-protos-requires t)
@@ -344,18 +201,7 @@ pub +function+protos-spec : {M : Type 1} → statement M
     (λ c κs. search needs) (λ c κs. search needs) (λ c κs. search needs) (λ c κs. search needs)
     (λ c κs. search needs)
     (function-returns t))
-    λ t. protos-lts.spec (
-      int-reads.Asked,
-      int-reads.Learnt,
-      reason-reads.Asked,
-      reason-reads.Learnt,
-      cursor-reads.Asked,
-      cursor-reads.Learnt,
-      standing-reads.Asked,
-      standing-reads.Learnt,
-      function-below t,
-      function.Post,
-    )
+    λ t. protos-lts.spec (protos-claims t)
     (protos-at t) protos.Post protos-Inv-loop protos-μ-loop
     (λ c κs. search needs)
     (λ c. search needs)

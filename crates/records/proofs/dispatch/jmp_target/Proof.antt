@@ -4,7 +4,7 @@ use Prim.Native.Nat.{_+_}
 use mathlib.Core.Path.{_∙_}
 use native.Mathlib.Omega.{arith}
 use borrow.Author.Needs.{needs}
-use Rattle.fields.specs.Word.{axOf}
+use Rattle.fields.specs.lua54.Word.{axOf}
 use Rattle.records.proofs.Wrap.{wrap-in, wrap-below}
 use Rattle.records.proofs.dispatch.jmp_target.Statement.{statement}
 use Rattle.records.proofs.dispatch.jmp_target.Tie as tie

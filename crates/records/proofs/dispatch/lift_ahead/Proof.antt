@@ -4,7 +4,7 @@ use native.Mathlib.Omega.{arith}
 use mir.Syntax.{w32}
 use mir.Facts.{toZ-pos}
 use borrow.Author.Needs.{needs}
-use Rattle.fields.specs.Word.{bxOf}
+use Rattle.fields.specs.lua54.Word.{bxOf}
 use Rattle.records.proofs.dispatch.lift_ahead.Statement.{statement}
 use Rattle.records.proofs.dispatch.lift_ahead.Tie as tie
 

@@ -3,7 +3,7 @@
 use native.Mathlib.Omega.{arith}
 use lib.IntN.{+ℤ-idl}
 use borrow.Author.Needs.{needs}
-use Rattle.fields.specs.Word.{bxOf}
+use Rattle.fields.specs.lua54.Word.{bxOf}
 use Rattle.fields.proofs.Laws.{laws}
 use Rattle.records.proofs.dispatch.lift_back.Statement.{statement}
 use Rattle.records.proofs.dispatch.lift_back.Tie as tie

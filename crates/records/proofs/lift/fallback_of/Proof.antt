@@ -2,7 +2,7 @@
 -- Assumes nothing.
 use mathlib.Core.Path.{_∙_, sym}
 use borrow.Author.Needs.{needs}
-use Rattle.fields.specs.Table.{fallbackOf}
+use Rattle.fields.specs.lua54.Table.{fallbackOf}
 use Rattle.records.proofs.Fallbacks.{small, falls-nowhere, falls-by-c, falls-fixed}
 use Rattle.records.proofs.lift.fallback_of.Statement.{statement}
 use Rattle.records.proofs.lift.fallback_of.Tie as tie

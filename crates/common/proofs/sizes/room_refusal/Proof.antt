@@ -1,0 +1,19 @@
+use borrow.Author.Tests.{lt-ltb, le-ltb}
+use Rattle.common.specs.Chain.{roomNumber}
+use Rattle.common.proofs.sizes.room_refusal.Statement.{statement}
+use Rattle.common.proofs.sizes.room_refusal.Tie as tie
+
+returns : tie.Need-returns
+unfolding roomNumber
+returns c = rw (lt-ltb _ _ (c .if1 .taken))
+
+returns-2 : tie.Need-returns-2
+unfolding roomNumber
+returns-2 c = rw (le-ltb _ _ (c .before .if1 .left), lt-ltb _ _ (c .if2 .taken))
+
+returns-3 : tie.Need-returns-3
+unfolding roomNumber
+returns-3 c = rw (le-ltb _ _ (c .before .if1 .left), le-ltb _ _ (c .if2 .left))
+
+pub room-refusal-spec : {M : Type 1} → statement M
+room-refusal-spec = tie.close (tie.spec returns returns-2 returns-3)

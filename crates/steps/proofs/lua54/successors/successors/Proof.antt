@@ -1,0 +1,59 @@
+-- `steps::lua54::successors::successors` meets its contract: companion and class from a byte.
+-- Assumes nothing.
+use Prim.Native.Nat.{ℕ, _/_, _%_}
+use mathlib.Core.Path.{_≡_, refl, ap, sym, _∙_}
+use mathlib.Core.List.{List}
+use native.Mathlib.Omega.{arith}
+use lib.ListN.{length, getD}
+use Rattle.steps.specs.lua54.Columns.{classFrom, companionFrom}
+use Rattle.sweep.specs.Steps.{unless}
+use Rattle.steps.specs.lua54.Successors.{nextOf, standsAt, successorsOf}
+use Rattle.steps.proofs.Columns.{class-of-byte, companion-of-byte}
+use Rattle.steps.proofs.Words.{outside, by-columns}
+use borrow.Author.Needs.{needs}
+use Rattle.steps.proofs.lua54.successors.successors.Statement.{statement}
+use Rattle.steps.proofs.lua54.successors.successors.Tie as tie
+
+-- where both columns are read
+module _ (c : tie.After-companion-and-class) where
+  abbrev start : tie.Start
+  start = c .before .before .before .before
+
+  abbrev words : List ℕ
+  words = start .args .words .now
+
+  by-numbers : (companion class : ℕ) → c .companion-and-class .result / 16 ≡ companion
+      → c .companion-and-class .result % 16 ≡ class
+      → unless (standsAt (companionFrom companion) words (start .args .p))
+      (nextOf (classFrom class) (length words) (getD words (start .args .p) 0) (start .args .p))
+      ≡ successorsOf words (start .args .p)
+  by-numbers companion class d e =
+      by-columns words (start .args .p) companion class (c .before .before .if1 .left)
+      (ap companionFrom (sym d) ∙ companion-of-byte _ _ _ (c .companion-and-class .ensures))
+      (ap classFrom (sym e) ∙ class-of-byte _ _ _ (c .companion-and-class .ensures))
+
+returns-2 : tie.Need-returns-2
+unfolding unless companionFrom classFrom
+returns-2 c =
+    let none = c .before .if2 .taken in
+    c .one-of .ensures ∙ by-numbers (c .before .before) 0 0 (omega (arith, none)) (omega (arith, none))
+
+returns-3 : tie.Need-returns-3
+unfolding companionFrom classFrom
+returns-3 c = c .test .ensures ∙ by-numbers (c .before .before .before .before) 3 2 (c .before .before .if3 .taken) (c .before .if4 .taken)
+
+pub successors-spec : {M : Type 1} → statement M
+successors-spec =
+    tie.close
+    (tie.spec
+    (λ c. sym (outside _ _ (c .if1 .taken)))
+    (λ c. search needs)
+    (λ c. search needs)
+    (λ c κs. search needs)
+    (λ c. search needs)
+    (λ c κs. search needs)
+    returns-2
+    (λ c κs. search needs)
+    returns-3
+    (λ c κs. search needs)
+    (λ c. c .successors-by .ensures ∙ by-numbers (c .before .before .before) _ _ refl refl))

@@ -1,0 +1,2 @@
+-- Lua 5.4.8.
+pub mod Cases

@@ -1,0 +1,2 @@
+// Lua 5.3.6.
+pub(crate) mod table;
