@@ -43,14 +43,16 @@ module _ (b e p : ℕ) where
   pub told-next : b ≡ «KEPT_NEXT» → keptSteps b e p ≡ One (p + 1)
   told-next z = simp (eq-eqb b «KEPT_NEXT» z)
 
-  pub told-skip : b ≡ «KEPT_SKIP» → keptSteps b e p ≡ ordered (p + 1) (p + 2)
-  told-skip z = simp (ne-eqb b «KEPT_NEXT» (λ o. omega arith), eq-eqb b «KEPT_SKIP» z)
+  pub told-none : (b ≡ «KEPT_NEXT» → ⊥) → b < «KEPT_SKIP» → keptSteps b e p ≡ Stop
+  told-none n h = simp (ne-eqb b «KEPT_NEXT» n, lt-ltb b «KEPT_SKIP» h)
 
-  pub told-none : (b ≡ «KEPT_NEXT» → ⊥) → (b ≡ «KEPT_SKIP» → ⊥) → b < «KEPT_TARGET» → keptSteps b e p ≡ Stop
-  told-none n o h = simp (ne-eqb b «KEPT_NEXT» n, ne-eqb b «KEPT_SKIP» o, lt-ltb b «KEPT_TARGET» h)
+  pub told-skip : «KEPT_SKIP» ≤ b → b < «KEPT_TARGET» → keptSteps b e p ≡ ordered (p + 1) (p + 2)
+  told-skip o h = simp (ne-eqb b «KEPT_NEXT» (λ z. omega arith), le-ltb b «KEPT_SKIP» o, lt-ltb b «KEPT_TARGET» h)
 
   pub told-target : «KEPT_TARGET» ≤ b → keptSteps b e p ≡ entryAt (keptEntry b e) p
-  told-target h = simp (ne-eqb b «KEPT_NEXT» (λ z. omega arith), ne-eqb b «KEPT_SKIP» (λ z. omega arith), le-ltb b «KEPT_TARGET» h)
+  told-target h =
+      let o : «KEPT_SKIP» ≤ b = omega arith in
+      simp (ne-eqb b «KEPT_NEXT» (λ z. omega arith), le-ltb b «KEPT_SKIP» o, le-ltb b «KEPT_TARGET» h)
 
 -- what an edge adds, by the lengths f
 abbrev pub beyondBy : (ℕ → ℕ) → ℕ → ℕ → ℕ
@@ -251,10 +253,7 @@ module _ (m l : List ℕ) (p a f x : ℕ) (k : RaiseAsks m l p a f) where
   told = keptEntry byte (getD l p 0)
 
   abbrev target : ℕ
-  target = byte % 64 * «SHARE» + getD l p 0 / «LENGTHS» % «SHARE»
-
-  target-is : told % «TARGETS» ≡ target
-  target-is = omega arith
+  target = told % «TARGETS»
 
   abbrev Rises : ℕ → Type 0
   Rises v = v ≡ lengthBy (at l) x byte (keptIn m l p) p
@@ -271,14 +270,14 @@ module _ (m l : List ℕ) (p a f x : ℕ) (k : RaiseAsks m l p a f) where
   pub rises-none : byte ≡ 0 → Rises 0
   rises-none z = by-none (at l) x byte p (keptIn m l p) z
 
-  pub rises-stop : (byte ≡ 0 → ⊥) → (byte ≡ «KEPT_NEXT» → ⊥) → (byte ≡ «KEPT_SKIP» → ⊥) → byte < «KEPT_TARGET» → Rises x
-  rises-stop n o s h = rises-by n (told-none byte (getD l p 0) p o s h) (omega arith)
+  pub rises-stop : (byte ≡ 0 → ⊥) → (byte ≡ «KEPT_NEXT» → ⊥) → byte < «KEPT_SKIP» → Rises x
+  rises-stop n o h = rises-by n (told-none byte (getD l p 0) p o h) (omega arith)
 
   pub rises-next : byte ≡ «KEPT_NEXT» → Rises (a + x)
   rises-next z = rises-by (λ o. omega arith) (told-next byte (getD l p 0) p z) (omega (arith, best-next (at l) p, k .next))
 
-  pub rises-skip : byte ≡ «KEPT_SKIP» → {v : ℕ} → v ≡ max a f → Rises (v + x)
-  rises-skip z {v} q = rises-by (λ o. omega arith) (told-skip byte (getD l p 0) p z) (omega (arith, best-skip (at l) p, k .next, k .skip))
+  pub rises-skip : «KEPT_SKIP» ≤ byte → byte < «KEPT_TARGET» → {v : ℕ} → v ≡ max a f → Rises (v + x)
+  rises-skip o h {v} q = rises-by (λ z. omega arith) (told-skip byte (getD l p 0) p o h) (omega (arith, best-skip (at l) p, k .next, k .skip))
 
   module _ (h : «KEPT_TARGET» ≤ byte) where
     told-here : keptIn m l p ≡ entryAt told p
@@ -286,26 +285,20 @@ module _ (m l : List ℕ) (p a f x : ℕ) (k : RaiseAsks m l p a f) where
 
     pub raised-target-in : target < length l
     raised-target-in =
-        omega (
-          arith,
-          target-is,
-          steps-in l p told
-              (λ q i. k .steps (λ z. omega arith) q (subst (λ (s : Successors). In q (listOf s)) (sym told-here) i)) (omega arith),
-        )
+        steps-in l p told
+        (λ q i. k .steps (λ z. omega arith) q (subst (λ (s : Successors). In q (listOf s)) (sym told-here) i))
+        (omega arith)
 
     module _ {y : ℕ} (e : y ≡ beyondBy (at l) p target) where
-      by-target : y ≡ beyondBy (at l) p (told % «TARGETS»)
-      by-target = e ∙ ap (beyondBy (at l) p) (sym target-is)
-
       pub rises-target : byte < 192 → Rises (y + x)
       rises-target o =
           rises-by (λ z. omega arith) (told-here ∙ entry-target told p (omega arith))
-          (omega (arith, best-one (at l) p (told % «TARGETS») y by-target))
+          (omega (arith, best-one (at l) p target y e))
 
       pub rises-both : 192 ≤ byte → {v : ℕ} → v ≡ max a y → Rises (v + x)
       rises-both o {v} q =
           rises-by (λ z. omega arith) (told-here ∙ entry-both told p (λ z. omega arith) (λ z. omega arith) (λ z. omega arith))
-          (omega (arith, best-two (at l) p (told % «TARGETS») y by-target, k .next))
+          (omega (arith, best-two (at l) p target y e, k .next))
 
 -- a word's length, where f are those of the words above it
 module _ (es : List ℕ) (law : Lawful (graphIn es)) (w : ℕ → ℕ) (f : ℕ → ℕ) (p : ℕ) (h : p < length es)

@@ -38,7 +38,7 @@ lowAt l p = getD l p 0 % «LENGTHS»
 abbrev pub keptEntry : ℕ → ℕ → ℕ
 keptEntry b e = b * «SHARE» + e / «LENGTHS» % «SHARE»
 
--- the bytes of words with the next word alone, with that and the one after it, and, from here up, with a
+-- the bytes of words with the next word alone, and, from these up, with that and the one after it, and with a
 -- target of their own
 abbrev pub «KEPT_NEXT» : ℕ
 «KEPT_NEXT» = 1
@@ -53,8 +53,9 @@ abbrev pub «KEPT_TARGET» : ℕ
 abbrev pub keptSteps : ℕ → ℕ → ℕ → Successors
 keptSteps b e p =
     cond (eqb b «KEPT_NEXT») (One (p + 1))
-    (cond (eqb b «KEPT_SKIP») (ordered (p + 1) (p + 2))
-    (cond (ltb b «KEPT_TARGET») Stop (entryAt (keptEntry b e) p)))
+    (cond (ltb b «KEPT_SKIP») Stop
+    (cond (ltb b «KEPT_TARGET») (ordered (p + 1) (p + 2))
+    (entryAt (keptEntry b e) p)))
 
 abbrev pub keptIn : List ℕ → List ℕ → ℕ → Successors
 keptIn m l p = keptSteps (getD m p 0) (getD l p 0) p

@@ -56,8 +56,8 @@ const SHARE: u32 = 512;
 // So many kinds an entry has.
 const KINDS: u32 = 4;
 
-// The bytes of reachable words: with the next word alone, which is the mark itself; with no step; with the
-// next word and the one after it. Those of words with a target of their own start at the last two.
+// The bytes of reachable words: with the next word alone, which is the mark itself; with no step; and, from
+// the others up, with the next word and the one after it, with a target, and with the next word and a target.
 const KEPT_NEXT: u8 = 1;
 
 const KEPT_NONE: u8 = 2;
@@ -194,7 +194,7 @@ fn raise(marks: &[u8], lengths: &mut [u32], p: usize, weight: u32, above: u32, a
         return above + weight;
     }
     if byte < KEPT_TARGET {
-        if byte == KEPT_SKIP {
+        if KEPT_SKIP <= byte {
             return larger(above, after) + weight;
         }
         if byte == 0 {
@@ -202,7 +202,7 @@ fn raise(marks: &[u8], lengths: &mut [u32], p: usize, weight: u32, above: u32, a
         }
         return weight;
     }
-    let target = (byte % 64) as u32 * SHARE + lengths[p] / LENGTHS % SHARE;
+    let target = (byte as u32 * SHARE + lengths[p] / LENGTHS % SHARE) % TARGETS;
     lengths[p] = 0;
     let x = beyond(lengths, p, target as usize);
     if byte < KEPT_BOTH {

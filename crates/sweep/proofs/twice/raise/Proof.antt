@@ -1,12 +1,13 @@
 use mathlib.Core.Path.{_≡_, refl}
 use mathlib.Core.List.{List}
-use Prim.Native.Nat.{ℕ, _+_, _*_, _/_, _%_, _<_, _≤_}
+use Prim.Native.Nat.{ℕ, _%_, _<_, _≤_}
 use native.Mathlib.Omega.{arith}
 use lib.ListN.{length, getD, set, length-set}
 use lib.Seq.{getD-set-same, set-set}
 use borrow.Author.Needs.{needs}
 use Rattle.sweep.specs.PassInvariants.{mostWeight, at, SameBut}
-use Rattle.sweep.specs.TwiceInvariants.{«LENGTHS», «SHARE»}
+use Rattle.sweep.specs.Entries.{«TARGETS»}
+use Rattle.sweep.specs.TwiceInvariants.{keptEntry}
 use Rattle.sweep.proofs.Keeping.{beyondBy, beyond-raised, beyond-under, raised-under, raised-after}
 use Rattle.sweep.proofs.Keeping.{rises-none, rises-stop, rises-next, rises-skip, rises-target, rises-both}
 use Rattle.sweep.proofs.Keeping.{raised-target-in}
@@ -25,7 +26,7 @@ module _ (s : tie.Start) where
   p = s .args .p
 
   abbrev target : ℕ
-  target = getD m p 0 % 64 * «SHARE» + getD l p 0 / «LENGTHS» % «SHARE»
+  target = keptEntry (getD m p 0) (getD l p 0) % «TARGETS»
 
   under : s .args .above ≤ mostWeight
   under = raised-under m l p (s .args .above) (s .args .after) (s .args .weight) (s .pre .0)
@@ -65,7 +66,7 @@ returns c =
 returns-2 : tie.Need-returns-2
 returns-2 c =
     let s = enter (c .before .before .before) in
-    (rises-skip (m s) (l s) (p s) (s .args .above) (s .args .after) (s .args .weight) (s .pre .0) (c .before .if3 .taken) (c .larger .ensures), same (l s) (p s))
+    (rises-skip (m s) (l s) (p s) (s .args .above) (s .args .after) (s .args .weight) (s .pre .0) (c .before .if3 .taken) (c .before .before .if2 .taken) (c .larger .ensures), same (l s) (p s))
 
 returns-3 : tie.Need-returns-3
 returns-3 c =
@@ -78,7 +79,7 @@ returns-4 c =
     let d = e .before .before in
     let s = enter d in (
       rises-stop (m s) (l s) (p s) (s .args .above) (s .args .after) (s .args .weight) (s .pre .0) (c .if4 .left)
-          (d .if1 .left) (e .if3 .left) (e .before .if2 .taken),
+          (d .if1 .left) (e .if3 .left),
       same (l s) (p s),
     )
 
@@ -96,6 +97,10 @@ returns-6 c =
           (c .before .if5 .left) (c .larger2 .ensures),
       cleared (l s) (p s),
     )
+
+-- a byte is a byte
+small : (c : tie.Else2) → getD (m (enter (c .before))) (p (enter (c .before))) 0 < 256
+small c = let d = c .before .before in omega (arith, d .shared-slice-known2 .given (p (enter (c .before))))
 
 -- what `beyond` asks
 asks : (c : tie.Else2) → let s = enter (c .before) in
@@ -119,11 +124,11 @@ raise-spec =
     returns-2
     returns-3
     returns-4
+    (λ c. omega (arith, small c))
+    (λ c. omega (arith, small c))
     (λ c. search needs)
     (λ c. search needs)
-    (λ c. search needs)
-    (λ c. search needs)
-    (λ c. search needs)
+    (λ c. omega (arith, small (c .before)))
     (λ c. search needs)
     (λ c. search needs)
     (λ c. search needs)
