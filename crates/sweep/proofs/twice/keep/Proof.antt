@@ -1,10 +1,8 @@
-use mathlib.Core.Path.{_≡_}
 use mathlib.Core.List.{List}
-use Prim.Native.Nat.{ℕ, _≤_}
+use Prim.Native.Nat.{ℕ}
 use native.Mathlib.Omega.{arith}
 use borrow.Author.Needs.{needs}
-use Rattle.sweep.specs.PassInvariants.{mostWeight}
-use Rattle.sweep.proofs.Keeping.{above-under, after-under, keeps-none, keeps-next, keeps-skip}
+use Rattle.sweep.proofs.Keeping.{keeps-none, keeps-next, keeps-skip}
 use Rattle.sweep.proofs.twice.keep.Statement.{statement}
 use Rattle.sweep.proofs.twice.keep.Tie as tie
 
@@ -18,12 +16,6 @@ module _ (s : tie.Start) where
 
   abbrev p : ℕ
   p = s .args .p
-
-  under : s .args .above ≤ mostWeight
-  under = above-under m l p (s .args .above) (s .args .after) (s .args .weight) (s .args .invalid) (s .pre .0) (s .pre .1)
-
-  under-after : s .args .after ≤ mostWeight
-  under-after = after-under m l p (s .args .above) (s .args .after) (s .args .weight) (s .args .invalid) (s .pre .0) (s .pre .1)
 
 -- the places of the tests
 abbrev enter : tie.Else1 → tie.Start
