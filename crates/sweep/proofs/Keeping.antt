@@ -27,7 +27,7 @@ use Rattle.sweep.specs.Entries.{«TARGETS», «ENTRIES», «KIND_NONE»,
 use Rattle.sweep.specs.Entries.{«RETURNS», entryAt, entries, entrySteps, graphIn, invalidBy}
 use Rattle.sweep.specs.SearchInvariants.{Marked}
 use Rattle.sweep.specs.PassInvariants.{mostWeight, FillAsks, Lengths, stepsIn, at}
-use Rattle.sweep.specs.TwiceInvariants.{«LENGTHS», «SHARE», «KEPT_NEXT», «KEPT_SKIP», «KEPT_TARGET», lowAt, keptEntry, keptSteps, keptIn, lengthBy, KeptAs, KeepAsks}
+use Rattle.sweep.specs.TwiceInvariants.{«KEPT_LENGTHS», «SHARE», «KEPT_NEXT», «KEPT_SKIP», «KEPT_TARGET», lowAt, keptEntry, keptSteps, keptIn, lengthBy, KeptAs, KeepAsks}
 use Rattle.sweep.specs.TwiceInvariants.{KeepsWord, Keeps, KeptWords, KeepsAll, RaiseAsks, Raises, Restored}
 use Rattle.sweep.specs.TwiceInvariants.{Twice}
 use Rattle.sweep.proofs.Entries.{ordered-among, entries-length, entry-is, entry-next, entry-target, entry-stop, entry-invalid, entry-both, entry-none}
@@ -97,11 +97,11 @@ module _ (f : ℕ → ℕ) (x mark p : ℕ) where
 
 -- what an edge adds of kept elements, the one that the edge starts from cleared
 module _ (l : List ℕ) (p : ℕ) where
-  pub beyond-kept : (q : ℕ) {x : ℕ} → x ≡ cond (servesOf p q) 0 (at (set l p 0) q) → x % «LENGTHS» ≡ beyondBy (lowAt l) p q
+  pub beyond-kept : (q : ℕ) {x : ℕ} → x ≡ cond (servesOf p q) 0 (at (set l p 0) q) → x % «KEPT_LENGTHS» ≡ beyondBy (lowAt l) p q
   unfolding servesOf
   beyond-kept q {x} e = go (leb q p) refl e
     where
-      go : (b : Bool) → leb q p ≡ b → x ≡ cond b 0 (at (set l p 0) q) → x % «LENGTHS» ≡ cond b 0 (lowAt l q)
+      go : (b : Bool) → leb q p ≡ b → x ≡ cond b 0 (at (set l p 0) q) → x % «KEPT_LENGTHS» ≡ cond b 0 (lowAt l q)
       go true d z = omega arith
       go false d z = omega (arith, getD-set-other l p q 0 0 (λ y. omega (arith, leb-false q p d)))
 
@@ -163,7 +163,7 @@ module _ (m l : List ℕ) (p a f x i : ℕ) (k : KeepAsks m l p a f) (light : x 
 
   module _ (n : getD m p 0 ≡ 0 → ⊥) where
     keeps-by : {s : Successors} → stepsIn l p ≡ s → (v e b : ℕ) {i′ : ℕ} {m′ : List ℕ} → v ≡ x + bestBy (lowAt l) p s → i′ ≡ cond (isInvalid s) p i
-        → v ≡ e % «LENGTHS» → (b ≡ 0 → ⊥) → listOf (keptSteps b e p) ≡ listOf s → m′ ≡ set m p b → Keeps x m l p i v i′ m′ (set l p e)
+        → v ≡ e % «KEPT_LENGTHS» → (b ≡ 0 → ⊥) → listOf (keptSteps b e p) ≡ listOf s → m′ ≡ set m p b → Keeps x m l p i v i′ m′ (set l p e)
     keeps-by {s} d v e b q j h o r y =
         record {
           element = e;
@@ -203,18 +203,18 @@ module _ (m l : List ℕ) (p a f x i : ℕ) (k : KeepAsks m l p a f) (light : x 
     -- with a target, of which y is added
     module _ (h : «KIND_TARGET» ≤ entry / «TARGETS») (y : ℕ) (e : y ≡ beyondBy (lowAt l) p (entry % «TARGETS»)) where
       abbrev element : ℕ → ℕ
-      element v = v + entry % «SHARE» * «LENGTHS»
+      element v = v + entry % «SHARE» * «KEPT_LENGTHS»
 
       added-under : y ≤ mostWeight
       added-under = omega (arith, e, beyond-under l p (lowAt l) mostWeight (k .low) (entry % «TARGETS»))
 
-      as-was : (v : ℕ) → v < «LENGTHS» → {s : Successors} → stepsIn l p ≡ s → listOf (keptSteps (entry / «SHARE») (element v) p) ≡ listOf s
+      as-was : (v : ℕ) → v < «KEPT_LENGTHS» → {s : Successors} → stepsIn l p ≡ s → listOf (keptSteps (entry / «SHARE») (element v) p) ≡ listOf s
       as-was v o d =
           let z : keptEntry (entry / «SHARE») (element v) ≡ entry = omega arith in
           ap listOf (told-target (entry / «SHARE») (element v) p (omega arith))
           ∙ ap (λ (u : ℕ). listOf (entryAt u p)) z ∙ ap listOf d
 
-      pub keeps-target : entry / «TARGETS» ≡ «KIND_TARGET» → Keeps x m l p i (y + x) i (set m p (entry / «SHARE»)) (set l p (y + x + entry % «SHARE» * «LENGTHS»))
+      pub keeps-target : entry / «TARGETS» ≡ «KIND_TARGET» → Keeps x m l p i (y + x) i (set m p (entry / «SHARE»)) (set l p (y + x + entry % «SHARE» * «KEPT_LENGTHS»))
       keeps-target d =
           keeps-by (entry-target entry p d) (y + x) (element (y + x)) (entry / «SHARE»)
           (omega (arith, best-one (lowAt l) p (entry % «TARGETS») y e)) refl
@@ -225,7 +225,7 @@ module _ (m l : List ℕ) (p a f x i : ℕ) (k : KeepAsks m l p a f) (light : x 
       two o = entry-both entry p (λ z. omega arith) (λ z. omega arith) o
 
       pub keeps-both : (entry / «TARGETS» ≡ «KIND_TARGET» → ⊥) → {v : ℕ} → v ≡ max a y
-          → Keeps x m l p i (v + x) i (set m p (entry / «SHARE»)) (set l p (v + x + entry % «SHARE» * «LENGTHS»))
+          → Keeps x m l p i (v + x) i (set m p (entry / «SHARE»)) (set l p (v + x + entry % «SHARE» * «KEPT_LENGTHS»))
       keeps-both o {v} q =
           keeps-by (two o) (v + x) (element (v + x)) (entry / «SHARE»)
           (omega (arith, best-two (lowAt l) p (entry % «TARGETS») y e, k .next)) (both-valid _ _ p i)
@@ -348,8 +348,8 @@ keeping-none w m l k =
       below = λ q d. sym (entry-is l q);
       from = λ q d i. absurd (omega arith);
       kept = λ q d i. absurd (omega arith);
-      above = ap (λ (x : ℕ). x % «LENGTHS») (sym (List·getD-eq-default l 0 (omega arith)));
-      after = ap (λ (x : ℕ). x % «LENGTHS») (sym (List·getD-eq-default l 0 (omega arith)));
+      above = ap (λ (x : ℕ). x % «KEPT_LENGTHS») (sym (List·getD-eq-default l 0 (omega arith)));
+      after = ap (λ (x : ℕ). x % «KEPT_LENGTHS») (sym (List·getD-eq-default l 0 (omega arith)));
       lowest = lowest-laws .end (invalidBy (length (entries l)) (entrySteps (entries l))) (length (entries l)) (length l) (sym n);
     }
 
@@ -389,7 +389,7 @@ module _ (w : ℕ → ℕ) (light : (q : ℕ) → w q ≤ heaviestWeight) (es m 
     agree : (q : ℕ) → p < q → q < length es → lowAt l q ≡ lengthOf (graphIn es) w q
     agree q x i = k .from q (omega arith) i
 
-    length-here : e % «LENGTHS» ≡ lengthOf (graphIn es) w p
+    length-here : e % «KEPT_LENGTHS» ≡ lengthOf (graphIn es) w p
     length-here =
         d .length-is
         ∙ ⊎-elim
@@ -418,7 +418,7 @@ module _ (w : ℕ → ℕ) (light : (q : ℕ) → w q ≤ heaviestWeight) (es m 
         (λ n. sym (lowest-by m l p n steps-here v refl) ∙ lowest-marked (marked n))
         (same-or-not (getD m p 0) 0)
 
-    kept-more : Keeping w es (set m p b) (set l p e) p (e % «LENGTHS») a y
+    kept-more : Keeping w es (set m p b) (set l p e) p (e % «KEPT_LENGTHS») a y
     kept-more =
         record {
           law = k .law;
@@ -429,15 +429,15 @@ module _ (w : ℕ → ℕ) (light : (q : ℕ) → w q ≤ heaviestWeight) (es m 
           marks = λ q x. getD-set-other m p q b 0 (λ z. omega arith) ∙ k .marks q (omega arith);
           below = λ q x. ap (λ (z : ℕ). z % «ENTRIES») (getD-set-other l p q e 0 (λ z. omega arith)) ∙ k .below q (omega arith);
           from = λ q x i. ⊎-elim
-              (λ z. ap (λ (u : ℕ). u % «LENGTHS») (z .1) ∙ length-here ∙ ap (lengthOf (graphIn es) w) (sym (z .0)))
-              (λ z. ap (λ (u : ℕ). u % «LENGTHS») (z .1) ∙ k .from q (omega (arith, past x (z .0))) i)
+              (λ z. ap (λ (u : ℕ). u % «KEPT_LENGTHS») (z .1) ∙ length-here ∙ ap (lengthOf (graphIn es) w) (sym (z .0)))
+              (λ z. ap (λ (u : ℕ). u % «KEPT_LENGTHS») (z .1) ∙ k .from q (omega (arith, past x (z .0))) i)
               (at-set l p e q (omega (arith, inside, k .l-same)));
           kept = λ q x i. ⊎-elim
               (λ z. kept-same q z)
               (λ n. kept-other q (λ z. n z) (k .kept q (omega (arith, past x n)) i))
               (same-or-not q p);
-          above = ap (λ (z : ℕ). z % «LENGTHS») (sym (getD-set-same l p e 0 (omega (arith, inside, k .l-same))));
-          after = k .above ∙ ap (λ (z : ℕ). z % «LENGTHS») (sym (getD-set-other l p (p + 1) e 0 (λ z. omega arith)));
+          above = ap (λ (z : ℕ). z % «KEPT_LENGTHS») (sym (getD-set-same l p e 0 (omega (arith, inside, k .l-same))));
+          after = k .above ∙ ap (λ (z : ℕ). z % «KEPT_LENGTHS») (sym (getD-set-other l p (p + 1) e 0 (λ z. omega arith)));
           lowest =
               lowest-here ∙ ap (λ (z : ℕ). cond (invalidBy (length es) (entrySteps es) p) p z) (k .lowest)
               ∙ sym (lowest-laws .turn (invalidBy (length es) (entrySteps es)) (length es) p inside);
@@ -459,8 +459,8 @@ module _ (w : ℕ → ℕ) (light : (q : ℕ) → w q ≤ heaviestWeight) (es m 
   pub keeping-more : {x y : ℕ} {m′ l′ : List ℕ} → Keeps (w p) m l p v x y m′ l′ → Keeping w es m′ l′ p x a y
   keeping-more {x} {y} {m′} {l′} d =
       subst (λ (z : ℕ). Keeping w es m′ l′ p z a y) (sym (d .handed))
-      (subst (λ (z : List ℕ). Keeping w es z l′ p (d .element % «LENGTHS») a y) (sym (d .m-is))
-      (subst (λ (z : List ℕ). Keeping w es (set m p (d .byte)) z p (d .element % «LENGTHS») a y) (sym (d .l-is))
+      (subst (λ (z : List ℕ). Keeping w es z l′ p (d .element % «KEPT_LENGTHS») a y) (sym (d .m-is))
+      (subst (λ (z : List ℕ). Keeping w es (set m p (d .byte)) z p (d .element % «KEPT_LENGTHS») a y) (sym (d .l-is))
       (kept-more (d .word))))
 
 pub keeping-done : {w : ℕ → ℕ} (l₀ : List ℕ) {m l : List ℕ} {i a f v : ℕ} → Keeping w (entries l₀) m l i a f v → i ≤ 0 → KeepsAll w l₀ m l v

@@ -23,8 +23,8 @@ use Rattle.sweep.specs.SearchInvariants.{Marked}
 use Rattle.sweep.specs.PassInvariants.{mostWeight, Lengths, stepsIn, invalidFrom}
 
 -- a kept element is a length, and this times the low bits of a target
-abbrev pub «LENGTHS» : ℕ
-«LENGTHS» = 8388608
+abbrev pub «KEPT_LENGTHS» : ℕ
+«KEPT_LENGTHS» = 8388608
 
 -- a target is those bits, and this times the others
 abbrev pub «SHARE» : ℕ
@@ -32,11 +32,11 @@ abbrev pub «SHARE» : ℕ
 
 -- the length in an element
 abbrev pub lowAt : List ℕ → ℕ → ℕ
-lowAt l p = getD l p 0 % «LENGTHS»
+lowAt l p = getD l p 0 % «KEPT_LENGTHS»
 
 -- the entry that a byte b of marks and a kept element e make
 abbrev pub keptEntry : ℕ → ℕ → ℕ
-keptEntry b e = b * «SHARE» + e / «LENGTHS» % «SHARE»
+keptEntry b e = b * «SHARE» + e / «KEPT_LENGTHS» % «SHARE»
 
 -- the bytes of words with the next word alone, and, from these up, with that and the one after it, and with a
 -- target of their own
@@ -92,7 +92,7 @@ pub record KeepsApart (m l : List ℕ) (p a : ℕ) : Type 0 where
 
 -- and what it finds: the word's element e and byte b, and the lowest invalid word from it on
 pub record KeepsWord (x : ℕ) (m l : List ℕ) (p i e b i′ : ℕ) : Type 0 where
-  pub length-is : e % «LENGTHS» ≡ lengthBy (lowAt l) x (getD m p 0) (stepsIn l p) p
+  pub length-is : e % «KEPT_LENGTHS» ≡ lengthBy (lowAt l) x (getD m p 0) (stepsIn l p) p
   pub invalid-is : i′ ≡ invalidFrom m l p i
   pub none : getD m p 0 ≡ 0 → b ≡ 0
   pub some : (getD m p 0 ≡ 0 → ⊥) → b ≡ 0 → ⊥
@@ -103,7 +103,7 @@ pub record Keeps (x : ℕ) (m l : List ℕ) (p i v i′ : ℕ) (m′ l′ : List
   pub element : ℕ
   pub byte : ℕ
   pub word : KeepsWord x m l p i element byte i′
-  pub handed : v ≡ element % «LENGTHS»
+  pub handed : v ≡ element % «KEPT_LENGTHS»
   pub m-is : m′ ≡ set m p byte
   pub l-is : l′ ≡ set l p element
 

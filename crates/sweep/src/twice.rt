@@ -49,7 +49,7 @@ use common::widths::larger;
 
 // A kept element is a length and this times the low bits of a target, 2^23; the target is those bits and the
 // next times the others, 2^9.
-const LENGTHS: u32 = 8388608;
+const KEPT_LENGTHS: u32 = 8388608;
 
 const SHARE: u32 = 512;
 
@@ -105,8 +105,8 @@ fn keep_apart(
     }
     marks[p] = (entry / SHARE) as u8;
     lengths[p] = 0;
-    let x = beyond(lengths, p, (entry % TARGETS) as usize) % LENGTHS;
-    let low = entry % SHARE * LENGTHS;
+    let x = beyond(lengths, p, (entry % TARGETS) as usize) % KEPT_LENGTHS;
+    let low = entry % SHARE * KEPT_LENGTHS;
     if kind == KIND_TARGET {
         lengths[p] = x + weight + low;
         return Kept {
@@ -202,7 +202,7 @@ fn raise(marks: &[u8], lengths: &mut [u32], p: usize, weight: u32, above: u32, a
         }
         return weight;
     }
-    let target = (byte as u32 * SHARE + lengths[p] / LENGTHS % SHARE) % TARGETS;
+    let target = (byte as u32 * SHARE + lengths[p] / KEPT_LENGTHS % SHARE) % TARGETS;
     lengths[p] = 0;
     let x = beyond(lengths, p, target as usize);
     if byte < KEPT_BOTH {
@@ -261,7 +261,7 @@ fn find_low(lengths: &[u32], n: usize) -> u32
     let mut longest: u32 = 0;
     let mut i = 0;
     while i < n {
-        longest = larger(longest, lengths[i] % LENGTHS);
+        longest = larger(longest, lengths[i] % KEPT_LENGTHS);
         i += 1;
     }
     longest
@@ -274,7 +274,7 @@ fn find_kept(lengths: &[u32], n: usize, sought: u32) -> usize
 {
     let mut i = 0;
     while i < n {
-        if lengths[i] % LENGTHS == sought {
+        if lengths[i] % KEPT_LENGTHS == sought {
             return i;
         }
         i += 1;

@@ -8,7 +8,7 @@ use borrow.Author.Needs.{needs}
 use Rattle.common.specs.Limits.{heaviestWeight}
 use Rattle.sweep.specs.Entries.{«TARGETS», «ENTRIES», «KIND_TARGET»}
 use Rattle.sweep.specs.PassInvariants.{mostWeight, at}
-use Rattle.sweep.specs.TwiceInvariants.{«LENGTHS», lowAt, KeepAsks}
+use Rattle.sweep.specs.TwiceInvariants.{«KEPT_LENGTHS», lowAt, KeepAsks}
 use Rattle.sweep.proofs.Keeping.{beyondBy, beyond-kept, beyond-under, above-under, keeps-cleared}
 use Rattle.sweep.proofs.Keeping.{keeps-stop, keeps-invalid, keeps-target, keeps-both, target-in}
 use Rattle.sweep.proofs.twice.keep_apart.Statement.{statement}
@@ -67,7 +67,7 @@ module _ (c : tie.After-beyond) where
   start = enter here
 
   abbrev added : ℕ
-  added = c .beyond .result % «LENGTHS»
+  added = c .beyond .result % «KEPT_LENGTHS»
 
   adds : added ≡ beyondBy (lowAt (l start)) (p start) (entry start % «TARGETS»)
   adds = beyond-kept (l start) (p start) (entry start % «TARGETS») (c .beyond .ensures)
