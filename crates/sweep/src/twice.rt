@@ -1,16 +1,18 @@
 // The lengths of every word by two tables of weights, with one search (request C-18). The first pass, by the
 // lower weights, keeps beside each length what the second needs of the word's entry, in the byte of its mark
-// and below the length:
+// and above the length:
 //
 //           3 3 2 2 2 2 2 2 2 2 2 2 1 1 1 1 1 1 1 1 1 1 0 0 0 0 0 0 0 0 0 0     0 0 0 0 0 0 0 0
 //           1 0 9 8 7 6 5 4 3 2 1 0 9 8 7 6 5 4 3 2 1 0 9 8 7 6 5 4 3 2 1 0     7 6 5 4 3 2 1 0
 // searched |          Queue(15)          | K |          Target(15)         |   |      mark     |
-// kept     |                  Length(23)                 |     Target      |   | K |   Target  |
+// kept     |     Target      |                  Length(23)                 |   | K |   Target  |
 // measured |        0        |                  Length(23)                 |   |      mark     |
 //
-// Kept, a byte of 0 is an unreachable word's. Of a word with no target those bits say nothing, and its byte
-// is one of two numbers: so code that only goes on packs nothing. The length stands on top, so that of two
-// kept elements the one with the larger length is larger, whatever stands below.
+// That is a word with a target of its own, at K 2 and 3. Of any other the bits above the length say nothing,
+// and its byte is one of four numbers: 0 is an unreachable word's and 1 one's that goes on to the next, so
+// that those marks stay as they are, and code that only goes on packs nothing. A test and arithmetic, which
+// go on to the next word and to the one after it, have a number too. So both lengths that such a word needs
+// are at hand: read from where they were stored two turns before, they would make each turn wait.
 ghost use mathlib.Core.Path.{_≡_};
 ghost use mathlib.Core.Bool.{cond};
 ghost use Prim.Native.Nat.{_≤_, _<_};
@@ -18,13 +20,15 @@ ghost use lib.Dec.{eqb};
 ghost use lib.ListN.{length, getD};
 ghost use Rattle.common.specs.Lowest.{lowest};
 ghost use Rattle.common.specs.Limits.{heaviestWeight};
+ghost use Rattle.graph.specs.Longest.{most};
 ghost use Rattle.sweep.specs.PassInvariants.{weightBy, FillAsks, SameBut, at};
 ghost use Rattle.sweep.specs.TwiceInvariants.{
   lowAt,
   keptIn,
   lengthBy,
   KeepAsks,
-  KeepsWord,
+  KeepsApart,
+  Keeps,
   KeepsAll,
   RaiseAsks,
   SomeKept,
@@ -33,95 +37,119 @@ ghost use Rattle.sweep.specs.TwiceInvariants.{
   Twice,
 };
 use crate::lengths::beyond;
-use crate::lengths::find_longest;
 use crate::lengths::weigh;
 use crate::packing::ENTRIES;
+use crate::packing::KIND_BOTH;
 use crate::packing::KIND_NEXT;
+use crate::packing::KIND_NONE;
 use crate::packing::KIND_TARGET;
 use crate::packing::RETURNS;
 use crate::packing::TARGETS;
 use common::widths::larger;
 
-// A kept element is a length times this, and the low bits of a target: 2^9.
+// A kept element is a length and this times the low bits of a target, 2^23; the target is those bits and the
+// next times the others, 2^9.
+const KEPT_LENGTHS: u32 = 8388608;
+
 const SHARE: u32 = 512;
 
-// The bytes of words with no step, and with the next word alone; those of others start here.
-const KEPT_NONE: u8 = 1;
+// So many kinds an entry has.
+const KINDS: u32 = 4;
 
-const KEPT_NEXT: u8 = 64;
+// The bytes of reachable words: with the next word alone, which is the mark itself; with no step; and, from
+// the others up, with the next word and the one after it, with a target, and with the next word and a target.
+const KEPT_NEXT: u8 = 1;
+
+const KEPT_NONE: u8 = 2;
+
+const KEPT_SKIP: u8 = 3;
 
 const KEPT_TARGET: u8 = 128;
 
 const KEPT_BOTH: u8 = 192;
 
-// A word as it is kept, and the lowest reachable invalid word from it on.
+// The length of a word that is kept, and the lowest reachable invalid word from it on.
 struct Kept {
-    element: u32,
-    byte: u8,
+    length: u32,
     invalid: usize,
 }
 
-// Word p, of this weight, measured and kept, where the words above it are, `above` is the element of the
-// next, and `invalid` the lowest invalid one among them. What is left at p is for the caller to overwrite.
-fn keep(
-    marks: &[u8],
+// As below, of a reachable word whose steps are not the next word alone.
+fn keep_apart(
+    marks: &mut [u8],
     lengths: &mut [u32],
     p: usize,
     weight: u32,
     above: u32,
     invalid: usize,
 ) -> Kept
-    requires { ⌜ KeepAsks (now marks) (now lengths) p above × (weight ≤ heaviestWeight) ⌝ }
-    ensures { λ r. ⌜ KeepsWord weight (now (marks .entry)) (now (lengths .entry)) p invalid (r .element)
-        (r .byte) (r .invalid) ⌝ }
-    ensures { λ _. ⌜ SameBut p (now (lengths .entry)) (now (lengths .exit)) ⌝ }
+    requires { ⌜ KeepsApart (now marks) (now lengths) p above × (weight ≤ heaviestWeight) ⌝ }
+    ensures { λ r. ⌜ Keeps weight (now (marks .entry)) (now (lengths .entry)) p invalid (r .length)
+        (r .invalid) (now (marks .exit)) (now (lengths .exit)) ⌝ }
 {
-    if marks[p] == 0 {
-        return Kept {
-            element: 0,
-            byte: 0,
-            invalid,
-        };
-    }
     let entry = lengths[p] % ENTRIES;
     let kind = entry / TARGETS;
-    if kind < KIND_TARGET {
-        if kind == KIND_NEXT {
-            return Kept {
-                element: above + weight * SHARE,
-                byte: KEPT_NEXT,
-                invalid,
-            };
-        }
+    if kind == KIND_NONE {
+        marks[p] = KEPT_NONE;
+        lengths[p] = weight;
         if entry % TARGETS == RETURNS {
             return Kept {
-                element: weight * SHARE,
-                byte: KEPT_NONE,
+                length: weight,
                 invalid,
             };
         }
         return Kept {
-            element: weight * SHARE,
-            byte: KEPT_NONE,
+            length: weight,
             invalid: p,
         };
     }
+    marks[p] = (entry / SHARE) as u8;
     lengths[p] = 0;
-    let x = beyond(lengths, p, (entry % TARGETS) as usize);
-    let own = weight * SHARE + entry % SHARE;
-    let byte = (entry / SHARE) as u8;
+    let x = beyond(lengths, p, (entry % TARGETS) as usize) % KEPT_LENGTHS;
+    let low = entry % SHARE * KEPT_LENGTHS;
     if kind == KIND_TARGET {
+        lengths[p] = x + weight + low;
         return Kept {
-            element: x / SHARE * SHARE + own,
-            byte,
+            length: x + weight,
             invalid,
         };
     }
-    Kept {
-        element: larger(above, x) / SHARE * SHARE + own,
-        byte,
-        invalid,
+    let v = larger(above, x) + weight;
+    lengths[p] = v + low;
+    Kept { length: v, invalid }
+}
+
+// Word p, of this weight, measured and kept, where the words above it are, `above` and `after` are the
+// lengths of the next two, and `invalid` the lowest invalid one among them.
+fn keep(
+    marks: &mut [u8],
+    lengths: &mut [u32],
+    p: usize,
+    weight: u32,
+    above: u32,
+    after: u32,
+    invalid: usize,
+) -> Kept
+    requires { ⌜ KeepAsks (now marks) (now lengths) p above after × (weight ≤ heaviestWeight) ⌝ }
+    ensures { λ r. ⌜ Keeps weight (now (marks .entry)) (now (lengths .entry)) p invalid (r .length)
+        (r .invalid) (now (marks .exit)) (now (lengths .exit)) ⌝ }
+{
+    if marks[p] == 0 {
+        lengths[p] = 0;
+        return Kept { length: 0, invalid };
     }
+    if lengths[p] / TARGETS % KINDS == KIND_NEXT {
+        let v = above + weight;
+        lengths[p] = v;
+        return Kept { length: v, invalid };
+    }
+    if lengths[p] % ENTRIES == KIND_BOTH * TARGETS + (p + 2) as u32 {
+        let v = larger(above, after) + weight;
+        marks[p] = KEPT_SKIP;
+        lengths[p] = v;
+        return Kept { length: v, invalid };
+    }
+    keep_apart(marks, lengths, p, weight, above, invalid)
 }
 
 // The first pass: searched lengths and marks become kept ones. The lowest reachable invalid word, or the
@@ -140,38 +168,41 @@ fn keep_lengths(
 {
     let mut invalid = lengths.len();
     let mut above: u32 = 0;
+    let mut after: u32 = 0;
     let mut i = lengths.len();
     while 0 < i {
         i -= 1;
         let weight = weigh(mask, weights, words[i]);
-        let k = keep(marks, lengths, i, weight, above, invalid);
-        lengths[i] = k.element;
-        marks[i] = k.byte;
-        above = k.element;
+        let k = keep(marks, lengths, i, weight, above, after, invalid);
+        after = above;
+        above = k.length;
         invalid = k.invalid;
     }
     invalid
 }
 
-// The length of word p, of this weight, by its kept steps, where the words above it have theirs and `above`
-// is that of the next. What is left at p is for the caller to overwrite.
-fn raise(marks: &[u8], lengths: &mut [u32], p: usize, weight: u32, above: u32) -> u32
-    requires { ⌜ RaiseAsks (now marks) (now lengths) p above × (weight ≤ heaviestWeight) ⌝ }
+// The length of word p, of this weight, by its kept steps, where the words above it have theirs, and `above`
+// and `after` are those of the next two. What is left at p is for the caller to overwrite.
+fn raise(marks: &[u8], lengths: &mut [u32], p: usize, weight: u32, above: u32, after: u32) -> u32
+    requires { ⌜ RaiseAsks (now marks) (now lengths) p above after × (weight ≤ heaviestWeight) ⌝ }
     ensures { λ r. ⌜ r ≡ lengthBy (at (now (lengths .entry))) weight (getD (now (marks .entry)) p 0)
         (keptIn (now (marks .entry)) (now (lengths .entry)) p) p ⌝ }
     ensures { λ _. ⌜ SameBut p (now (lengths .entry)) (now (lengths .exit)) ⌝ }
 {
     let byte = marks[p];
+    if byte == KEPT_NEXT {
+        return above + weight;
+    }
     if byte < KEPT_TARGET {
-        if KEPT_NEXT <= byte {
-            return above + weight;
+        if KEPT_SKIP <= byte {
+            return larger(above, after) + weight;
         }
         if byte == 0 {
             return 0;
         }
         return weight;
     }
-    let target = (byte % KEPT_NEXT) as u32 * SHARE + lengths[p] % SHARE;
+    let target = (byte as u32 * SHARE + lengths[p] / KEPT_LENGTHS % SHARE) % TARGETS;
     lengths[p] = 0;
     let x = beyond(lengths, p, target as usize);
     if byte < KEPT_BOTH {
@@ -188,12 +219,14 @@ fn raise_lengths(mask: u32, words: &[u32], weights: &[u8], marks: &[u8], lengths
         (now (marks .entry)) (now (lengths .entry)) (now (lengths .exit)) ⌝ }
 {
     let mut above: u32 = 0;
+    let mut after: u32 = 0;
     let mut i = lengths.len();
     while 0 < i {
         i -= 1;
         let weight = weigh(mask, weights, words[i]);
-        let v = raise(marks, lengths, i, weight, above);
+        let v = raise(marks, lengths, i, weight, above, after);
         lengths[i] = v;
+        after = above;
         above = v;
     }
 }
@@ -220,6 +253,20 @@ fn restore_marks(marks: &mut [u8])
     }
 }
 
+// The largest length of the first n kept elements.
+fn find_low(lengths: &[u32], n: usize) -> u32
+    requires { ⌜ n ≤ length (now lengths) ⌝ }
+    ensures { λ r. ⌜ r ≡ most (lowAt (now (lengths .entry))) n ⌝ }
+{
+    let mut longest: u32 = 0;
+    let mut i = 0;
+    while i < n {
+        longest = larger(longest, lengths[i] % KEPT_LENGTHS);
+        i += 1;
+    }
+    longest
+}
+
 // Where a length stands first among n kept ones, or n.
 fn find_kept(lengths: &[u32], n: usize, sought: u32) -> usize
     requires { ⌜ n ≤ length (now lengths) ⌝ }
@@ -227,7 +274,7 @@ fn find_kept(lengths: &[u32], n: usize, sought: u32) -> usize
 {
     let mut i = 0;
     while i < n {
-        if lengths[i] / SHARE == sought {
+        if lengths[i] % KEPT_LENGTHS == sought {
             return i;
         }
         i += 1;
@@ -260,7 +307,7 @@ pub fn fill_twice(
 {
     let n = lengths.len();
     let invalid = keep_lengths(mask, words, low, marks, lengths);
-    let longest = find_longest(lengths, n) / SHARE;
+    let longest = find_low(lengths, n);
     let first = find_kept(lengths, n, longest);
     raise_lengths(mask, words, high, marks, lengths);
     restore_marks(marks);

@@ -1,10 +1,7 @@
-use mathlib.Core.Path.{ap}
-use Prim.Native.Nat.{ℕ, _/_}
 use native.Mathlib.Omega.{arith}
 use lib.ListN.{length}
 use borrow.Author.Needs.{needs}
 use Rattle.sweep.specs.Entries.{entries}
-use Rattle.sweep.specs.TwiceInvariants.{«SHARE»}
 use Rattle.sweep.proofs.Entries.{entries-length}
 use Rattle.sweep.proofs.Keeping.{twice}
 use Rattle.sweep.proofs.twice.fill_twice.Statement.{statement}
@@ -25,7 +22,7 @@ returns c =
     twice (start k .args .lengths .now) (k .keep-lengths .last .1 .1 .1 .0)
     (k .keep-lengths .last .1 .1 .1 .1 .0) _ _ (length (start k .args .lengths .now))
     (entries-length _) (k .keep-lengths .ensures) (r .raise-lengths .ensures)
-    (b .restore-marks .ensures) (ap (λ (x : ℕ). x / «SHARE») (v .find-longest .ensures))
+    (b .restore-marks .ensures) (v .find-low .ensures)
     (f .find-kept .ensures)
 
 pub fill-twice-spec : {M : Type 1} → statement M
@@ -41,8 +38,8 @@ fill-twice-spec =
     let k = at-lengths .before .before .before in
     omega (arith, k .keep-lengths .kept .1 .1 .1 .1 .0))
     (λ c κs.
-    let at-find-longest-arg = c .before .before .before .before .before in
-    let k = at-find-longest-arg .before .before .before .before .before in
+    let at-find-low-arg = c .before .before .before .before .before in
+    let k = at-find-low-arg .before .before .before .before .before in
     let s = start k in (
       record { es = entries (s .args .lengths .now); words = k .keep-lengths .ensures .kept },
       omega (arith, s .pre .1, k .keep-lengths .kept .1 .1 .1 .1 .0),

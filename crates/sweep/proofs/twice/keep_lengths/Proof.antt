@@ -13,11 +13,11 @@ use Rattle.sweep.proofs.twice.keep_lengths.Statement.{statement}
 use Rattle.sweep.proofs.twice.keep_lengths.Tie as tie
 
 abbrev Inv-loop : tie.InvT-loop
-Inv-loop mask words weights marks₀ lengths₀ invalid₀ above₀ i₀ marks lengths invalid above i =
-    Keeping (weightBy mask words weights) (entries lengths₀) marks lengths i above invalid
+Inv-loop mask words weights marks₀ lengths₀ invalid₀ above₀ after₀ i₀ marks lengths invalid above after i =
+    Keeping (weightBy mask words weights) (entries lengths₀) marks lengths i above after invalid
 
 abbrev μ-loop : tie.MeasureT-loop
-μ-loop mask words weights marks₀ lengths₀ invalid₀ above₀ i₀ marks lengths invalid above i = i
+μ-loop mask words weights marks₀ lengths₀ invalid₀ above₀ after₀ i₀ marks lengths invalid above after i = i
 
 -- a turn: the word i - 1 is the next
 module _ (c : tie.In-loop Inv-loop μ-loop) where
@@ -42,34 +42,25 @@ module _ (c : tie.In-loop Inv-loop μ-loop) where
   word = c .before .loop .i - 1
 
   keeping : Keeping w (entries (start .args .lengths .now)) (c .before .loop .marks)
-      (c .before .loop .lengths) (word + 1) (c .before .loop .above) (c .before .loop .invalid)
+      (c .before .loop .lengths) (word + 1) (c .before .loop .above) (c .before .loop .after)
+      (c .before .loop .invalid)
   keeping =
       let e : c .before .loop .i ≡ word + 1 = omega (arith, c .loop-test .taken) in
       subst
       (λ (x : ℕ). Keeping w (entries (start .args .lengths .now)) (c .before .loop .marks)
-      (c .before .loop .lengths) x (c .before .loop .above) (c .before .loop .invalid))
+      (c .before .loop .lengths) x (c .before .loop .above) (c .before .loop .after)
+      (c .before .loop .invalid))
       e (c .before .loop .inv)
 
   in-lengths : word < length (c .before .loop .lengths)
-  in-lengths = keeping-asks w light _ _ _ _ _ _ keeping .in-l
-
-  in-marks : word < length (c .before .loop .marks)
-  in-marks = keeping-asks w light _ _ _ _ _ _ keeping .in-m
+  in-lengths = keeping-asks w light _ _ _ _ _ _ _ keeping .in-l
 
   in-words : word < length (start .args .words .now)
   in-words = omega (arith, in-lengths, keeping .l-same, entries-length (start .args .lengths .now), start .pre .1)
 
--- the lengths, by another name
-keeping-left : {w : ℕ → ℕ} {es m l l′ : List ℕ} {i a v : ℕ} → Keeping w es m l i a v → l ≡ l′ → Keeping w es m l′ i a v
-keeping-left {w} {es} {m} {i = i} {a = a} {v = v} k e = subst (λ (x : List ℕ). Keeping w es m x i a v) e k
-
--- the lengths after a turn's keeping
-module _ (c : tie.After-keep Inv-loop μ-loop) where
-  abbrev turn : tie.In-loop Inv-loop μ-loop
-  turn = c .before .before .before .before .before
-
-  in-kept : word turn < length (c .keep .last .1 .0)
-  in-kept = omega (arith, c .keep .kept .1 .0, in-lengths turn)
+-- a turn's keeping
+abbrev turn : tie.After-keep Inv-loop μ-loop → tie.In-loop Inv-loop μ-loop
+turn c = c .before .before .before .before .before
 
 pub keep-lengths-spec : {M : Type 1} → statement M
 keep-lengths-spec =
@@ -82,18 +73,13 @@ keep-lengths-spec =
     (λ c. omega (arith, in-words c))
     (λ c. in-words (c .before))
     (λ c κs. start (c .before) .pre .2)
-    (λ c κs. let d = c .before .before .before .before in (keeping-asks (w d) (light d) _ _ _ _ _ _ (keeping d), c .before .before .weigh .ensures .1))
-    (λ c. omega (arith, in-kept (c .before .before)))
-    (λ c. in-kept (c .before .before))
-    (λ c. in-marks (turn (c .before .before)))
-    (λ c. omega (arith, turn (c .before .before) .loop-test .taken))
+    (λ c κs. let d = c .before .before .before .before in (keeping-asks (w d) (light d) _ _ _ _ _ _ _ (keeping d), c .before .before .weigh .ensures .1))
+    (λ c. omega (arith, turn (c .before .before .before .before) .loop-test .taken))
     (λ c.
-    let k = c .before .before in
+    let k = c .before .before .before .before in
     let d = turn k in
-    keeping-left
-    (keeping-more (w d) (light d) _ _ _ _ _ _ (keeping d)
-    (keeps-at _ _ _ _ _ _ _ (k .before .before .before .weigh .ensures .0) (k .keep .ensures .0)))
-    (sym (k .keep .ensures .1 _)))
+    keeping-more (w d) (light d) _ _ _ _ _ _ _ (keeping d)
+    (keeps-at _ _ _ _ _ _ (k .before .before .before .weigh .ensures .0) (k .keep .ensures)))
     (λ c.
     let round = c .before in
     let s = round .before .before .before .before .before in
