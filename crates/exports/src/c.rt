@@ -15,7 +15,7 @@ use fields::lua54::lookup::mode;
 use fields::lua54::word::RawInstruction54;
 use fields::lua54::word::decode;
 use fields::version::Version;
-use records::refusals::planned;
+use tables::refusals::planned;
 use runs::c::FlatRun;
 use runs::c::FlatSuccessors;
 use runs::c::flat_run;
