@@ -30,7 +30,7 @@ use Rattle.touches.specs.Versions.{isStep, Go, Way, waysOf, next}
 use Rattle.touches.specs.Touched.{waysAt, Any, LeadsTo}
 use Rattle.touches.specs.Accesses.{OwnEdge, noEdge, «p+1», «p+2», «p+1-Bx», «p+1+sBx», edgeOf}
 use Rattle.touches.specs.Table.{edgeFrom, edgeNumber, opcodesOf}
-use Rattle.touches.proofs.Order.{split}
+use Rattle.locations.proofs.Order.{split}
 use Rattle.touches.proofs.Choices.{left-of, right-of}
 use Rattle.touches.proofs.Rows.{edge-back}
 
