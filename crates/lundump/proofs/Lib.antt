@@ -9,3 +9,4 @@ pub mod Whole
 pub mod Texts
 pub mod Takes
 pub mod Examples
+pub mod Full
