@@ -10,3 +10,4 @@ pub mod Texts
 pub mod Takes
 pub mod Examples
 pub mod Full
+pub mod Limits

@@ -9,3 +9,4 @@ pub mod Cursors
 pub mod Search
 pub mod Examples
 pub mod Full
+pub mod Limits
