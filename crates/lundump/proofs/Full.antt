@@ -23,7 +23,10 @@ unfolding readers fits filled
 bytes-refused =
     record {
       header-bytes = refl;
-      header-ends = refl;
+      ends-early = refl;
+      absent-short = refl;
+      absent-long = refl;
+      empty-string = refl;
       int-most = refl;
       int-over = refl;
       int-zeros = refl;

@@ -76,21 +76,34 @@ pub record FullRead : Type 0 where
 abbrev pub differing : ℕ → List ℕ
 differing i = take i header ++ ((getD header i 0 + 1) ∷ [])
 
--- what is answered where the bytes of so many places differ, and where the bytes end at these places
+-- what is answered where the bytes of so many places differ, and where some bytes end at these places
 abbrev pub differs : ℕ → List Counts
 differs zero = []
 differs (suc i) = countsOf (chosen 0 (differing i)) ∷ differs i
 
-abbrev pub ends : ℕ → List Counts
-ends zero = []
-ends (suc i) = countsOf (chosen 0 (take i header)) ∷ ends i
+abbrev pub ends : List ℕ → ℕ → List Counts
+ends bytes zero = []
+ends bytes (suc i) = countsOf (chosen 0 (take i bytes)) ∷ ends bytes i
 
 -- what is turned away, and the last that is not
 pub record BytesRefused : Type 0 where
   -- "14 a header byte that differs": each of the 31
   pub header-bytes : differs 31 ≡ replicate 31 (turnedAway 14)
-  -- "15 the bytes end early", there too
-  pub header-ends : ends 31 ≡ replicate 31 (turnedAway 15)
+  -- "15 the bytes end early", wherever they do
+  pub ends-early : ends example 61 ≡ replicate 61 (turnedAway 15)
+  -- "a constant string is absent", whatever its tag
+  pub absent-short :
+      countsOf (chosen 0 (header ++ (0 ∷ 128 ∷ 128 ∷ 128 ∷ 0 ∷ 1 ∷ 2 ∷ 128 ∷ 129 ∷ 4 ∷ replicate 8 128)))
+      ≡ turnedAway 15
+  pub absent-long :
+      countsOf (chosen 0 (header ++ (0 ∷ 128 ∷ 128 ∷ 128 ∷ 0 ∷ 1 ∷ 2 ∷ 128 ∷ 129 ∷ 20 ∷ replicate 8 128)))
+      ≡ turnedAway 15
+  -- one of no bytes is not
+  pub empty-string :
+      countsOf
+      (chosen 0
+      (header ++ (0 ∷ 128 ∷ 128 ∷ 128 ∷ 0 ∷ 1 ∷ 2 ∷ 128 ∷ 129 ∷ 4 ∷ 129 ∷ replicate 7 128)))
+      ≡ needs 0 1 0
   -- "15 .. a number overflows lundump.c's own limit": `x >= limit` before a byte is added, where limit is
   -- INT_MAX >> 7, and MAX_SIZET >> 7 for a size
   pub int-most : loadInt (7 ∷ 127 ∷ 127 ∷ 126 ∷ 255 ∷ []) 0 ≡ done 2147483519 5
