@@ -60,8 +60,8 @@ module _ (w0 w1 w2 w3 : List ℕ) (k q : ℕ) (choices : List ℕ) (limit : ℕ)
         → waitOf (rehearseOf w0 w1 w2 w3 k q choices limit marks lengths) i ≡ longestWait i events
     -- in the order in which the scripts are given, as Rust gets it, and as C does
     pub report :
-        rehearseOf w0 w1 w2 w3 k q choices limit marks lengths
-        ≡ Rehearsed (longestWait 0 events) (longestWait 1 events) (longestWait 2 events) (longestWait 3 events)
+        rehearseOf w0 w1 w2 w3 k q choices limit marks lengths ≡ Rehearsed (longestWait 0 events)
+        (longestWait 1 events) (longestWait 2 events) (longestWait 3 events)
     pub flat :
         flatRehearsal (rehearseOf w0 w1 w2 w3 k q choices limit marks lengths)
         ≡ record {
