@@ -6,7 +6,7 @@ use native.Mathlib.Omega.{arith}
 use Rattle.meter.specs.declared.step.Meter.{Meter}
 use Rattle.budget.specs.declared.step.Meters.{Meters}
 use Rattle.budget.specs.Four.{meterOf, withMeter, sumOf, othersOf}
-use Rattle.budget.specs.Counts as Claim
+use Rattle.budget.specs.Counts.{Counts}
 use Rattle.budget.proofs.Meters.{each}
 use Rattle.budget.proofs.Own.{at-axis, at-focuser, at-dome, at-guider, at-none}
 
@@ -22,7 +22,7 @@ scripts : (ms : Meters) → (meterOf ms 0 ≡ ms .axis) × ((meterOf ms 1 ≡ ms
 unfolding meterOf
 scripts ms = (refl, (refl, (refl, refl)))
 
-pub counts : Claim.Counts
+pub counts : Counts
 counts =
     record {
       sum = sum;
