@@ -1,6 +1,6 @@
 -- luad's own records, number by number: what its lift_proto_lua54, run by compare/oracle, answers of one word
--- or more of each opcode and of document 01's corners ("Records"), as the 53 numbers of include/RECORD.md. The
--- definition's are the same: a record changed in its definition and in the code alike is refused here.
+-- or more of each opcode and of document 01's corners ("Records"), as the 53 numbers of include/RECORD.md.
+-- The definition's are the same: a record changed in its definition and in the code alike is refused here.
 -- Assumes nothing.
 use Prim.Native.Nat.{ℕ, zero, suc, _+_, _-_, _*_, _≤_, _<_}
 use mathlib.Core.Path.{_≡_}
