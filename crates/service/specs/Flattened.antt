@@ -1,5 +1,5 @@
--- What C gets of an answer, number by number (include/lawendeb.h): one that is changed in its definition and in
--- the code alike is refused here.
+-- What C gets of an answer, number by number (include/lawendeb.h): one that is changed in its definition and
+-- in the code alike is refused here.
 -- Assumes nothing.
 use Prim.Native.Nat.{ℕ}
 use mathlib.Core.Path.{_≡_}
@@ -24,7 +24,8 @@ pub record Flattened : Type 0 where
   -- request C-22: "give the fewest words to the next serving step or return": C is told of k words exactly if
   -- they are the answer
   pub found :
-      (r : Nearest) (k : ℕ) → ((flatNearest r .found ≡ 1) × (flatNearest r .fewest ≡ k)) ↔ (r ≡ Nearest.Fewest k)
+      (r : Nearest) (k : ℕ)
+      → ((flatNearest r .found ≡ 1) × (flatNearest r .fewest ≡ k)) ↔ (r ≡ Nearest.Fewest k)
   pub fewest : (k : ℕ) → ToldNearest (flatNearest (Nearest.Fewest k)) 0 0 1 k
   -- "An unreachable word, or one past the end, has no fewest, and the answer says so"
   pub nowhere : ToldNearest (flatNearest Nearest.Nowhere) 0 0 0 0

@@ -1,5 +1,5 @@
--- What C gets of an answer, number by number (include/lawendeb.h): one that is changed in its definition and in
--- the code alike is refused here.
+-- What C gets of an answer, number by number (include/lawendeb.h): one that is changed in its definition and
+-- in the code alike is refused here.
 -- Assumes nothing.
 use Prim.Native.Nat.{ℕ}
 use mathlib.Core.Path.{_≡_}
@@ -23,5 +23,6 @@ pub record Flattened : Type 0 where
   -- "a refusal reports 0 for every number but its own and its place"
   pub refused : (k p : ℕ) → Told (flatPath (PathRun.Refused k p)) k p 0 0 0
   -- the same from the run's own answer and the path
-  pub of-run : (l f : ℕ) (path : List ℕ) → Told (flatPath (pathAnswerBy (Run.Accepted l f) path)) 0 0 l f (length path)
+  pub of-run :
+      (l f : ℕ) (path : List ℕ) → Told (flatPath (pathAnswerBy (Run.Accepted l f) path)) 0 0 l f (length path)
   pub of-refusal : (k p : ℕ) (path : List ℕ) → Told (flatPath (pathAnswerBy (Run.Refused k p) path)) k p 0 0 0
