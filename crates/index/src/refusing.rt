@@ -61,6 +61,8 @@ fn goes_on(chunk: &[u8]) -> bool
 // others behind them they are not. The rest of the room is used.
 pub fn ends_early(room: &mut [u8], n: usize) -> bool
     ensures { λ r. ⌜ r ≡ endsEarly (now (room .entry)) n ⌝ }
+    ensures { λ _. ⌜ now (room .exit) ≡ put (now (room .entry)) n
+        (replicate (length (now (room .entry)) - n) filler) ⌝ }
 {
     put_behind(room, n);
     goes_on(room)

@@ -8,5 +8,7 @@ pub mod Agree
 pub mod Heights
 pub mod Whole
 pub mod Meaning
+pub mod Examples
+pub mod Examples54
 pub mod Examples53
 pub mod Laws

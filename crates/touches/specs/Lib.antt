@@ -10,5 +10,6 @@ pub mod Versions
 pub mod Touches
 pub mod Touched
 pub mod Meaning
+pub mod Examples
 pub mod Table
 pub mod Laws

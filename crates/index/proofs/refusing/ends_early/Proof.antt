@@ -8,7 +8,7 @@ returns : tie.Need-returns
 unfolding endsEarly
 returns c =
     let at-put-behind = c .before .before .before .before in
-    c .goes-on .ensures ∙ ap goesOn (at-put-behind .put-behind .ensures)
+    (c .goes-on .ensures ∙ ap goesOn (at-put-behind .put-behind .ensures), at-put-behind .put-behind .ensures)
 
 pub ends-early-spec : {M : Type 1} → statement M
 ends-early-spec = tie.close (tie.spec (λ c κs. search needs) (λ c κs. search needs) (λ c. search needs) returns)
