@@ -12,8 +12,8 @@ use borrow.Author.Tests.{eq-eqb, eqb-true, eqb-false}
 use Rattle.common.specs.Chain.{choose}
 use Rattle.values.specs.declared.ir.SemanticInstruction.{SemanticInstruction}
 use Rattle.records.specs.Lift.{liftOf}
-use Rattle.records.specs.Refusals.{answerOf, planOf}
-use Rattle.records.proofs.Laws.{plan-laws}
+use Rattle.tables.specs.Refusals.{answerOf, planOf}
+use Rattle.tables.proofs.Laws.{plan-laws}
 use Rattle.exports.specs.Flat.{numbersOf, recordsNumbers, roomIn, numbersAfter, RecordWise}
 use Rattle.common.proofs.Put.{put-laws}
 use Rattle.exports.proofs.Counted.{length-numbers, length-records}
@@ -82,7 +82,7 @@ module _ (words tags payloads names : List ℕ) where
     kept : length (numbersAfter words tags payloads names bytes numbers) ≡ length numbers
     kept =
         let n = planOf (length words) tags payloads names bytes (roomIn numbers) .count in
-        let w = plan-laws words tags payloads names bytes (roomIn numbers) in
+        let w = plan-laws (length words) tags payloads names bytes (roomIn numbers) in
         let k : length (written n) ≡ 53 * n = length-records words tags payloads names n in
         rw (← k) (ap length (sym (put-laws .start numbers (written n)))
         ∙ put-laws .length-put numbers 0 (written n)

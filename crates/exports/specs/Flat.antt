@@ -20,7 +20,7 @@ use Rattle.values.specs.declared.ir.SemanticInstruction.{SemanticInstruction}
 use Rattle.common.specs.declared.c.FlatAnswer.{FlatAnswer}
 use Rattle.common.specs.Flat.{flatAnswer}
 use Rattle.records.specs.Lift.{liftOf}
-use Rattle.records.specs.Refusals.{answerOf, planOf}
+use Rattle.tables.specs.Refusals.{answerOf, planOf}
 use Rattle.numbered.specs.declared.parts.FlatSlot.{FlatSlot}
 use Rattle.numbered.specs.declared.parts.FlatPair.{FlatPair}
 use Rattle.numbered.specs.Parts.{flatOperand, flatTarget, flatEffect, flatFallback, flatPc, flatConfidence}

@@ -9,6 +9,7 @@ use crate::order::parent_in;
 use crate::order::set_key;
 use crate::order::sort;
 use crate::rooms;
+use found::Function;
 use lines::Choice;
 use lines::FlatHead;
 use pages::first;
@@ -21,24 +22,6 @@ const NO_SOURCE: u64 = 18446744073709551615;
 
 // 2^32: a name's place is its start and so many times its length.
 const SPAN: u64 = 4294967296;
-
-pub struct Function {
-    // 0, or why the run is refused, and where.
-    pub number: u64,
-    pub place: u64,
-    // Counted from 0 by first byte; the one that it stands in.
-    pub k: u64,
-    pub parent: u64,
-    pub words: usize,
-    // The lines of its source, both 0 for the main function.
-    pub first_line: u64,
-    pub last_line: u64,
-    pub parameters: u64,
-    // The longest run without a service, the word at which it starts, and how many words it has.
-    pub longest: u64,
-    pub start: usize,
-    pub count: usize,
-}
 
 // The name of the source, as the head at a place gives it; empty where there is none.
 pub fn source(bytes: &[u8], at: usize) -> &[u8] {

@@ -26,8 +26,8 @@ use Rattle.index.specs.declared.refusing.Why.the-variants.{
 }
 
 -- whether a chunk is not refused by 15
-unfoldable pub goesOn : List ℕ → Bool
-goesOn bytes = not (eqb (listedOf (functionsOf bytes) .number) «MALFORMED_CHUNK»)
+unfoldable pub readsOn : List ℕ → Bool
+readsOn bytes = not (eqb (listedOf (functionsOf bytes) .number) «MALFORMED_CHUNK»)
 
 -- Of 15's causes "the bytes end early" is one that other bytes behind them mend: the first n of a room are
 -- read on into as many of these as the room has. Each is a count of 1, the length of a string that has no
@@ -39,7 +39,7 @@ abbrev pub filler : ℕ
 filler = 129
 
 unfoldable pub endsEarly : List ℕ → ℕ → Bool
-endsEarly room n = goesOn (put room n (replicate (length room - n) filler))
+endsEarly room n = readsOn (put room n (replicate (length room - n) filler))
 
 -- LUA_SIGNATURE "\x1bLua"
 unfoldable pub signed : List ℕ → Bool

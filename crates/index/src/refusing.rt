@@ -6,7 +6,7 @@ ghost use Prim.Native.Nat.{_-_};
 ghost use lib.ListN.{length, replicate};
 ghost use Rattle.common.specs.Lists.{put};
 ghost use Rattle.index.specs.Refusing.{
-  goesOn,
+  readsOn,
   filler,
   endsEarly,
   signed,
@@ -52,7 +52,7 @@ fn put_behind(room: &mut [u8], n: usize)
 }
 
 fn goes_on(chunk: &[u8]) -> bool
-    ensures { λ r. ⌜ r ≡ goesOn (now (chunk .entry)) ⌝ }
+    ensures { λ r. ⌜ r ≡ readsOn (now (chunk .entry)) ⌝ }
 {
     count_functions(chunk).number != MALFORMED_CHUNK as u64
 }

@@ -12,7 +12,7 @@ use Rattle.common.specs.Limits.{mostWords, mostConstants, mostNames, shortLengt
 use Rattle.common.specs.Chain.{choose, answer, accepted}
 use Rattle.common.proofs.Lowest.{lowest-laws}
 use Rattle.values.specs.Spans.{past, firstNamePast}
-use Rattle.records.specs.Refusals.{unknownTag, unknownTagAt, isString, stringPastAt, firstUnknownTag, firstStringPast, answerOf}
+use Rattle.tables.specs.Refusals.{unknownTag, unknownTagAt, isString, stringPastAt, firstUnknownTag, firstStringPast, answerOf}
 use Rattle.lundump.specs.Reading.{Result, done}
 use Rattle.lundump.specs.Lundump.{Constant, plain, string, Function}
 use Rattle.lundump.specs.Chunk.{chosen, tagOf, payloadOf, nameNumber, stringTag, valuesOf, wordsOf, tagsOf, payloadsOf, namesOf}

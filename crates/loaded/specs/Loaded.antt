@@ -7,7 +7,7 @@ use Prim.Native.Nat.{ℕ, _≤_, _<_}
 use lib.ListN.{length}
 use Rattle.common.specs.declared.answer.Answer.{Answer}
 use Rattle.common.specs.Chain.{answer, accepted}
-use Rattle.records.specs.Refusals.{answerOf}
+use Rattle.tables.specs.Refusals.{answerOf}
 use Rattle.lundump.specs.Reading.{done}
 use Rattle.lundump.specs.Lundump.{Function}
 use Rattle.lundump.specs.Chunk.{chosen, wordsOf, tagsOf, payloadsOf, namesOf}

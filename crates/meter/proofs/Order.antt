@@ -7,6 +7,7 @@ use native.Mathlib.Omega.{arith}
 use lib.Dec.{ltb, leb, eqb}
 use borrow.Author.Tests.{ltb-true, ltb-false, lt-ltb, le-ltb, leb-true, leb-false, le-leb, lt-leb, eqb-true, eqb-false, eq-eqb, ne-eqb}
 use Rattle.common.specs.Limits.{mostWords, mostServices}
+use Rattle.common.proofs.Order.{no}
 use Rattle.graph.specs.Graph.{In, member}
 use Rattle.graph.proofs.Laws as graph
 use Rattle.runs.specs.Weights.{refusesWeights, weightsPlace}
@@ -194,10 +195,6 @@ module _ (s : Scale) (m : Meter) (q : ℕ) (first : m .begun ≡ 0 → q ≡ 0) 
           }
 
 -- The chain.
-
--- two things of which neither holds
-no : {A B : Type 0} → (A → ⊥) → (B → ⊥) → A ↔ B
-no f g = (λ h. absurd (f h), λ h. absurd (g h))
 
 module _ (m next : Meter) (p : ℕ) where
   abbrev chain : Bool → Bool → Bool → Bool → Fed

@@ -1,5 +1,4 @@
 // All that is told of a compiled script.
-use findings::Function;
 use findings::brief;
 use findings::is_refused_in;
 use findings::key_at;
@@ -8,6 +7,7 @@ use findings::longest_in;
 use findings::order_all;
 use findings::place_in;
 use findings::source;
+use found::Function;
 use pages::PageState;
 use pages::first_words;
 use reports::put_rows;

@@ -13,9 +13,9 @@ use borrow.Author.Tests.{eqb-true, eqb-false, eq-eqb}
 use Rattle.values.specs.declared.ir.SemanticInstruction.{SemanticInstruction}
 use Rattle.common.specs.Chain.{choose}
 use Rattle.records.specs.Lift.{liftOf}
-use Rattle.records.specs.Refusals.{answerOf, planOf}
+use Rattle.tables.specs.Refusals.{answerOf, planOf}
 use Rattle.records.specs.Walk.{filledRecords, ElementWise}
-use Rattle.records.proofs.Laws.{plan-laws}
+use Rattle.tables.proofs.Laws.{plan-laws}
 
 fits : {n m l : ℕ} → suc n ≤ m → l ≡ m → n < l
 fits a e = omega (arith, a, e)
@@ -71,7 +71,7 @@ module _ (words tags payloads names : List ℕ) where
     element-wise =
         record {
           same-length = length-filled count ys;
-          lifted = λ e i d h. below count ys i d (plan-laws words tags payloads names bytes (length ys) .within-room) (omega (arith, h, all e));
-          untouched = λ i d h. past count ys i d (omega (arith, h, plan-laws words tags payloads names bytes (length ys) .within-words));
+          lifted = λ e i d h. below count ys i d (plan-laws (length words) tags payloads names bytes (length ys) .within-room) (omega (arith, h, all e));
+          untouched = λ i d h. past count ys i d (omega (arith, h, plan-laws (length words) tags payloads names bytes (length ys) .within-words));
           refused = λ e. rw (none e);
         }

@@ -30,13 +30,13 @@ use denote.Triple.Spec.{tripleOf}
 use denote.Triple.Walked.{says}
 use denote.Triple.Clauses.{ensured, lasts}
 use Rattle.values.specs.declared.ir.SemanticInstruction.{SemanticInstruction}
-use Rattle.records.specs.declared.refusals.Plan.{Plan}
+use Rattle.tables.specs.declared.refusals.Plan.{Plan}
 use Rattle.common.specs.Limits.{mostWords}
 use Rattle.records.specs.Lift.{liftOf}
-use Rattle.records.specs.Refusals.{planOf}
+use Rattle.tables.specs.Refusals.{planOf}
 use Rattle.values.proofs.ir.SemanticInstruction as R
 use Rattle.records.proofs.lift.lift_at as one
-use Rattle.records.proofs.refusals.planned as pl
+use Rattle.tables.proofs.refusals.planned as pl
 
 -- ---- the types of the locals
 abbrev pub word : Ty

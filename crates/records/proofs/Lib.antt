@@ -2,7 +2,6 @@ pub mod ElementWise
 pub mod Fallbacks
 pub mod Laws
 pub mod Lent
-pub mod Order
 pub mod Sources
 pub mod Turns
 pub mod Wrap

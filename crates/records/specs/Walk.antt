@@ -17,9 +17,9 @@ use Rattle.common.specs.Numbers.{«ACCEPTED»}
 use Rattle.common.specs.Chain.{choose}
 use Rattle.builders.specs.Shapes.{operandsOf, readsOf, writesOf}
 use Rattle.records.specs.declared.lift.Lifted.{Lifted}
-use Rattle.records.specs.declared.refusals.Plan.{Plan}
+use Rattle.tables.specs.declared.refusals.Plan.{Plan}
 use Rattle.records.specs.Lift.{liftOf}
-use Rattle.records.specs.Refusals.{answerOf, planOf}
+use Rattle.tables.specs.Refusals.{answerOf, planOf}
 
 -- the records of the first n words, in the first n places of a list
 abbrev pub filledRecords : List ℕ → List ℕ → List ℕ → List ℕ → ℕ → List SemanticInstruction

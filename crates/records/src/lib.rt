@@ -1,5 +1,4 @@
 // Layer 4: the records of lifter.rs, one per word, in the caller's list.
 mod dispatch;
 pub mod lift;
-pub mod refusals;
 pub mod walk;

@@ -1,11 +1,11 @@
 // The records of all words, in the caller's list: a thin function over the covered lifter, proved by hand.
 ghost use mathlib.Core.Path.{_≡_};
 ghost use lib.ListN.{length};
-ghost use Rattle.records.specs.Refusals.{planOf};
+ghost use Rattle.tables.specs.Refusals.{planOf};
 ghost use Rattle.records.specs.Walk.{recordsAfter};
 use crate::lift::lift_at;
-use crate::refusals::planned;
 use common::Answer;
+use tables::refusals::planned;
 use values::ir::SemanticInstruction;
 
 // All decisions are the plan's: a refusal is a loop of no turns, so that nothing is written.

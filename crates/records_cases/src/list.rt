@@ -3,7 +3,7 @@
 // the record that was lent (compare/SAMPLE.md).
 ghost use mathlib.Core.Path.{_≡_};
 ghost use lib.ListN.{length, replicate};
-ghost use Rattle.records.specs.Refusals.{planOf};
+ghost use Rattle.tables.specs.Refusals.{planOf};
 ghost use Rattle.records.specs.Walk.{recordsAfter};
 use crate::sums;
 use common::Answer;

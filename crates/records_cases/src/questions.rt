@@ -11,7 +11,7 @@ use print_cases::end;
 use print_cases::number;
 use print_cases::text;
 use records::lift::lift_word;
-use records::refusals::planned;
+use tables::refusals::planned;
 use vectors::number_of;
 use vectors::part;
 

@@ -1,13 +1,13 @@
 // The longest run, a row for the words that stand together on a line of the source.
-use findings::Way;
-use findings::has_call;
-use findings::is_straight;
-use findings::landing;
-use findings::next;
-use findings::part;
-use findings::remains;
-use findings::row_end;
-use findings::way_behind;
+use found::Way;
+use found::has_call;
+use found::is_straight;
+use found::landing;
+use found::next;
+use found::part;
+use found::remains;
+use found::row_end;
+use found::way_behind;
 use pages::PageState;
 use pages::cell;
 use pages::either;

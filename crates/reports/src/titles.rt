@@ -1,5 +1,5 @@
 // The line that names a function.
-use findings::Function;
+use found::Function;
 use pages::PageState;
 use pages::either;
 use pages::fill;

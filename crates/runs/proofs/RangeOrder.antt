@@ -11,7 +11,7 @@ use borrow.Author.Tests.{ltb-true, ltb-false, lt-ltb, le-ltb, eqb-true, eq-eqb, 
 use Rattle.common.specs.Limits.{mostWords}
 use Rattle.common.specs.Lowest.{First}
 use Rattle.common.proofs.Lowest.{lowest-laws}
-use Rattle.common.proofs.Order.{split}
+use Rattle.common.proofs.Order.{split, yes, no}
 use Rattle.graph.specs.Longest.{longest, first}
 use Rattle.runs.specs.declared.longest.Run.{Run}
 use Rattle.runs.specs.declared.range.RunRange.{RunRange}
@@ -56,13 +56,6 @@ module _ (low high : List ℕ) where
       go false e = refl
 
 -- The chain.
-
--- two things that both hold, and two of which neither does
-yes : {A B : Type 0} → A → B → A ↔ B
-yes a b = (λ h. b, λ h. a)
-
-no : {A B : Type 0} → (A → ⊥) → (B → ⊥) → A ↔ B
-no f g = (λ h. absurd (f h), λ h. absurd (g h))
 
 module _ (x y z w : ℕ) (r : RunRange) (accepted : numberOf (lowRun r) ≡ 0) (placed : placeOf (lowRun r) ≡ 0) where
   abbrev run : Bool → Bool → Bool → Bool → Bool → Bool → Bool → Run

@@ -6,8 +6,8 @@ use Rattle.fields.specs.lua54.Table.{classOf, companionOf}
 use Rattle.sweep.specs.Steps.{unless, one, ordered, two}
 use Rattle.steps.specs.lua54.Successors.{opcodeAt, isBetween, companionPresent, successorsOf}
 use Rattle.touches.specs.Versions.{accessesOf}
-use Rattle.touches.specs.Canonical.{join, insert, add, addAll, insertRegister, putAll}
-use Rattle.touches.specs.Lists.{gather, rangesOf, indicesOf, firstTop}
+use Rattle.locations.specs.Canonical.{join, insert, add, addAll, insertRegister, putAll}
+use Rattle.locations.specs.Lists.{gather, rangesOf, indicesOf, firstTop}
 use Rattle.touches.specs.Touches.{touchesBy, touchesIn, touchesFor}
 use Rattle.touches.specs.Examples.{ExamplesHold}
 use Rattle.touches.specs.lua54.Examples.{examples}

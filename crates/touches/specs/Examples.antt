@@ -7,11 +7,11 @@ use mathlib.Core.Bool.{cond}
 use mathlib.Core.List.{List, [], _∷_, _++_}
 use lib.Dec.{eqb}
 use Rattle.fields.specs.declared.version.Version.{Version}
-use Rattle.touches.specs.declared.answer.Range.{Range}
-use Rattle.touches.specs.declared.answer.Top.{Top}
-use Rattle.touches.specs.declared.answer.Touches.{Touches}
+use Rattle.locations.specs.declared.answer.Range.{Range}
+use Rattle.locations.specs.declared.answer.Top.{Top}
+use Rattle.locations.specs.declared.answer.Touches.{Touches}
+use Rattle.locations.specs.Form.{rangesIn, numbersIn}
 use Rattle.touches.specs.Touches.{touchesFor}
-use Rattle.touches.specs.Meaning.{rangesIn, numbersIn}
 
 -- what an answer lists, an item at a time
 pub data TouchedItem : Type 0 where

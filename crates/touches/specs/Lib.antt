@@ -5,8 +5,6 @@ pub mod Operands
 pub mod Accesses
 pub mod lua54
 pub mod lua53
-pub mod Canonical
-pub mod Lists
 pub mod Cells
 pub mod Versions
 pub mod Touches

@@ -5,7 +5,7 @@ use crate::showing::NO_LIMIT;
 use crate::showing::is_marked;
 use crate::showing::unmarked;
 use common::numbers::MALFORMED_CHUNK;
-use findings::Function;
+use found::Function;
 use pages::PageState;
 use pages::byte_at;
 use pages::either;

@@ -5,7 +5,8 @@ use native.Mathlib.Omega.{arith}
 use lib.ListN.{length}
 use denote.Ref.{now}
 use borrow.Author.Needs.{needs}
-use Rattle.records.proofs.Laws.{plan-laws}
+use Rattle.tables.proofs.Laws.{plan-laws}
+use Rattle.records.proofs.Laws.{plan-recorded}
 use Rattle.exports.specs.Flat.{roomIn, recordsNumbers}
 use Rattle.common.proofs.Put.{put-laws}
 use Rattle.exports.proofs.Counted.{length-records}
@@ -17,8 +18,10 @@ put-records-requires c κs =
     let a = c .before .before .before .before .before .before .before .before .args in
     let words = now (a .words) in
     let room = roomIn (now (a .numbers)) in
-    let w = plan-laws words (now (a .tags)) (now (a .payloads)) (now (a .names)) (length (now (a .bytes))) room in
-    rw (c .before .planned .ensures) (omega (arith, w .within-room), w .recorded)
+    let bytes = length (now (a .bytes)) in
+    let w = plan-laws (length words) (now (a .tags)) (now (a .payloads)) (now (a .names)) bytes room in
+    rw (c .before .planned .ensures)
+    (omega (arith, w .within-room), plan-recorded words (now (a .tags)) (now (a .payloads)) (now (a .names)) bytes room)
 
 returns : tie.Need-returns
 returns c =

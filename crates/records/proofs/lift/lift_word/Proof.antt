@@ -8,9 +8,9 @@ use denote.Ref.{now}
 use borrow.Author.Needs.{needs}
 use borrow.Author.Tests.{lt-ltb, le-ltb}
 use Rattle.common.specs.Chain.{choose}
-use Rattle.records.specs.declared.refusals.Plan.{Plan}
+use Rattle.tables.specs.declared.refusals.Plan.{Plan}
 use Rattle.records.specs.Walk.{liftedBy}
-use Rattle.records.proofs.Laws.{plan-laws}
+use Rattle.tables.proofs.Laws.{plan-laws}
 use Rattle.records.proofs.lift.lift_word.Statement.{statement}
 use Rattle.records.proofs.lift.lift_word.Tie as tie
 
@@ -23,7 +23,7 @@ module _ (c : tie.Then1) where
   inside =
       let a = start .args in
       let h = subst (λ (p : Plan). a .pc < p .count) (c .before .before .planned .ensures) (c .if1 .taken) in
-      let w = plan-laws (now (a .words)) (now (a .tags)) (now (a .payloads)) (now (a .names)) (length (now (a .bytes))) (length (now (a .words))) in
+      let w = plan-laws (length (now (a .words))) (now (a .tags)) (now (a .payloads)) (now (a .names)) (length (now (a .bytes))) (length (now (a .words))) in
       (omega (arith, w .within-words, h), w .few-words (a .pc) h)
 
 lift-at-requires : tie.Need-lift-at-requires

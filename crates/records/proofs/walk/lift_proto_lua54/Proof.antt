@@ -52,31 +52,31 @@ use denote.Triple.Walked.{says, Stays, stay-slice, stay-none-slice, walkOf, AllG
 use denote.Exit.{yes}
 use denote.Triple.Clauses.{ensured}
 use Rattle.values.specs.declared.ir.SemanticInstruction.{SemanticInstruction}
-use Rattle.records.specs.declared.refusals.Plan.{Plan}
+use Rattle.tables.specs.declared.refusals.Plan.{Plan}
 use Rattle.common.specs.declared.answer.Answer.{Answer}
 use Rattle.records.specs.Lift.{liftOf}
-use Rattle.records.specs.Refusals.{planOf}
+use Rattle.tables.specs.Refusals.{planOf}
 use Rattle.records.specs.Walk.{filledRecords}
-use Rattle.records.specs.Laws.{PlanLaws}
-use Rattle.records.proofs.Laws.{plan-laws}
+use Rattle.tables.specs.Laws.{PlanLaws}
+use Rattle.tables.proofs.Laws.{plan-laws}
 use Rattle.records.proofs.ElementWise.{length-filled}
 use Rattle.records.proofs.Turns.{sz, holds, fails, one-more, offset-fits, next-fits, below-fits, less, moved, within}
 use Rattle.records.proofs.Lent as lent
 use Rattle.records.proofs.Lent.{One, Planned, word, slice₁, slice₂, slice₃, slice₄, slice₅, slice₆}
 use Rattle.values.proofs.ir.SemanticInstruction as R
 use Rattle.values.proofs.ir.SemanticInstruction.Laws as R′
-use Rattle.records.proofs.refusals.Plan as P
-use Rattle.records.proofs.refusals.Plan.Laws as P′
+use Rattle.tables.proofs.refusals.Plan as P
+use Rattle.tables.proofs.refusals.Plan.Laws as P′
 use Rattle.common.proofs.answer.Answer as N
 use Rattle.common.proofs.answer.Answer.Laws as N′
 use Rattle.records.proofs.lift.lift_at as one
 use Rattle.records.proofs.lift.lift_at.Symbol as one-def
 use Rattle.records.proofs.lift.lift_at.Symbol.{name as #lift-at}
 use Rattle.records.proofs.lift.lift_at.Met as one-thm
-use Rattle.records.proofs.refusals.planned as pl
-use Rattle.records.proofs.refusals.planned.Symbol as pl-def
-use Rattle.records.proofs.refusals.planned.Symbol.{name as #planned}
-use Rattle.records.proofs.refusals.planned.Met as pl-thm
+use Rattle.tables.proofs.refusals.planned as pl
+use Rattle.tables.proofs.refusals.planned.Symbol as pl-def
+use Rattle.tables.proofs.refusals.planned.Symbol.{name as #planned}
+use Rattle.tables.proofs.refusals.planned.Met as pl-thm
 use Rattle.records.proofs.walk.lift_proto_lua54.Key.{name as #lift-proto-lua54}
 use Rattle.records.proofs.walk.lift_proto_lua54 as f
 use Rattle.records.proofs.walk.lift_proto_lua54.Statement as stated
@@ -132,8 +132,8 @@ module _ {M : Type 1} (𝓤 : URA M) (H : Heap 𝓤) (A : Atoms 𝓤) (W : Given
   n = p .count
 
   -- n is within the words, and within the room
-  small : PlanLaws ws ts ps ns (length bs) (length ys)
-  small = plan-laws ws ts ps ns (length bs) (length ys)
+  small : PlanLaws (length ws) ts ps ns (length bs) (length ys)
+  small = plan-laws (length ws) ts ps ns (length bs) (length ys)
 
   -- the records once i are stored, and at exit
   abbrev done-to : ℕ → List SemanticInstruction
@@ -562,4 +562,4 @@ lift-proto-lua54-spec 𝓤 H 𝓜 𝓖 𝓡 =
     (tables 𝓤 H 𝓜 𝓡 code.env .C) (tables 𝓤 H 𝓜 𝓡 code.env .Λ) #lift-proto-lua54 code.function (code.unfolded 𝓤 H 𝓜 𝓡)
     (lift-proto-lua54-meets 𝓤 H (𝓖 .A) (givenOf 𝓤 H 𝓜 𝓖) (𝓜 .mem) (𝓡 .run) (tablesOf 𝓤 H 𝓜 (tables 𝓤 H 𝓜 𝓡 code.env))
     (cited 𝓤 H (One 𝓤 H (𝓖 .A) (𝓜 .mem) (𝓡 .run)) 𝓜 𝓡 code.env #lift-at one-def.routine code.calls-records·lift·lift-at (one-thm.met 𝓤 H 𝓜 𝓖 𝓡))
-    (cited 𝓤 H (Planned 𝓤 H (𝓖 .A) (𝓜 .mem) (𝓡 .run)) 𝓜 𝓡 code.env #planned pl-def.routine code.calls-records·refusals·planned (pl-thm.met 𝓤 H 𝓜 𝓖 𝓡)))
+    (cited 𝓤 H (Planned 𝓤 H (𝓖 .A) (𝓜 .mem) (𝓡 .run)) 𝓜 𝓡 code.env #planned pl-def.routine code.calls-tables·refusals·planned (pl-thm.met 𝓤 H 𝓜 𝓖 𝓡)))

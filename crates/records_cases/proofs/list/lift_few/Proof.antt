@@ -53,7 +53,7 @@ use denote.Exit.{yes}
 use denote.Triple.Clauses.{Lasts, lasts}
 use Rattle.values.specs.declared.ir.SemanticInstruction.{SemanticInstruction}
 use Rattle.common.specs.declared.answer.Answer.{Answer}
-use Rattle.records.specs.Refusals.{planOf}
+use Rattle.tables.specs.Refusals.{planOf}
 use Rattle.records.specs.Walk.{recordsAfter}
 use Rattle.values.proofs.ir.SemanticInstruction as R
 use Rattle.values.proofs.ir.SemanticInstruction.Laws as R′
