@@ -146,8 +146,9 @@ def hold(program, column, word, lua, rust):
                     words, p = in_context(at & ~0x7F | opcodes(column)[0])
                     if lists(program, words, p)["only"] != {("R", A(at))}:
                         wrong.append(f"word {at}: not listed with one step only")
-                if {kind for kind, _ in places} == {"U"}:  # the row is on the upvalue alone
-                    listed = {place for place in listed if place[0] == "U"}
+                kinds = {kind for kind, _ in places}
+                if kinds and ("U" not in kinds or kinds == {"U"}):  # the row is on all but upvalues, or on one alone
+                    listed = {place for place in listed if (place[0] == "U") == (kinds == {"U"})}
                 if places != listed and not ("only where" in lua and not places):
                     more = sorted(places - listed)[:4], sorted(listed - places)[:4]
                     wrong.append(f"word {at}, {verb}: the row has {more[0]} and not {more[1]}, as the lists")

@@ -22,7 +22,7 @@ use Rattle.sweep.specs.Steps.{isInvalid}
 use Rattle.steps.specs.lua54.Successors.{successorsOf}
 use Rattle.runs.specs.Run.{reachesInvalid, lowestInvalid}
 use Rattle.touches.specs.Touches.{touchesOf}
-use Rattle.touches.specs.Meaning.{rangesIn}
+use Rattle.locations.specs.Form.{rangesIn}
 use Rattle.assignment.specs.Uses.{readsBy, setsBy, registersOf, usageOf}
 use Rattle.assignment.specs.Answers.{unsetOf}
 use Rattle.assignment.specs.declared.search.Seen.{Seen}

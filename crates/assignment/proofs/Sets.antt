@@ -12,9 +12,9 @@ use lib.Dec.{leb, ltb}
 use Rattle.common.proofs.Order.{split}
 use Rattle.sweep.specs.declared.edges.Successors.{Successors}
 use Rattle.sweep.specs.Steps.{isInvalid}
-use Rattle.touches.specs.declared.answer.Range.{Range}
-use Rattle.touches.specs.declared.answer.Touches.{Touches}
-use Rattle.touches.specs.Meaning.{rangesIn}
+use Rattle.locations.specs.declared.answer.Range.{Range}
+use Rattle.locations.specs.declared.answer.Touches.{Touches}
+use Rattle.locations.specs.Form.{rangesIn}
 use Rattle.assignment.specs.declared.search.Seen.{Seen}
 use Rattle.assignment.specs.Uses.{inRange, inRanges, readsBy, setsBy, endOf}
 use Rattle.common.specs.Limits.{mostRegisters}

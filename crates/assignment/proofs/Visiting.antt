@@ -23,7 +23,7 @@ use Rattle.runs.specs.Script.{lua54, graphOf}
 use Rattle.sweep.specs.Steps.{listOf}
 use Rattle.steps.specs.lua54.Successors.{successorsOf}
 use Rattle.runs.proofs.Laws as runs
-use Rattle.touches.specs.declared.answer.Touches.{Touches}
+use Rattle.locations.specs.declared.answer.Touches.{Touches}
 use Rattle.touches.specs.Touches.{touchesOf}
 use Rattle.assignment.specs.Uses.{setsBy}
 use Rattle.assignment.specs.declared.search.Seen.{Seen}

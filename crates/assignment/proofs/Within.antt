@@ -8,8 +8,8 @@ use native.Mathlib.Omega.{arith}
 use borrow.Author.Tests.{leb-true, le-leb}
 use lib.Dec.{leb}
 use lib.ListN.{length, getD, take}
-use Rattle.touches.specs.declared.answer.Range.{Range}
-use Rattle.touches.specs.Meaning.{Within}
+use Rattle.locations.specs.declared.answer.Range.{Range}
+use Rattle.locations.specs.Form.{Within}
 use Rattle.assignment.specs.Uses.{inRange, inRanges, endOf}
 use Rattle.common.specs.Limits.{mostRegisters}
 use Rattle.assignment.specs.Blocks.{nextRegister, nextIn}

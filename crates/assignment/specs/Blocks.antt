@@ -20,10 +20,10 @@ use Rattle.sweep.specs.declared.edges.Successors.the-variants.{Invalid, Stop, O
 use Rattle.runs.specs.Script.{lua54, graphOf}
 use Rattle.sweep.specs.Steps.{isInvalid, Below}
 use Rattle.steps.specs.lua54.Successors.{successorsOf}
-use Rattle.touches.specs.declared.answer.Range.{Range}
-use Rattle.touches.specs.declared.answer.Touches.{Touches}
+use Rattle.locations.specs.declared.answer.Range.{Range}
+use Rattle.locations.specs.declared.answer.Touches.{Touches}
 use Rattle.touches.specs.Touches.{touchesOf}
-use Rattle.touches.specs.Meaning.{rangesIn}
+use Rattle.locations.specs.Form.{rangesIn}
 use Rattle.assignment.specs.declared.search.Seen.{Seen}
 use Rattle.assignment.specs.Uses.{readsBy, setsBy, endOf, readsEnd, usageOf}
 

@@ -7,10 +7,10 @@ use lib.Dec.{leb, eqb}
 use lib.ListN.{length}
 use Rattle.graph.specs.Longest.{most}
 use Rattle.graph.specs.Assignment.{Usage}
-use Rattle.touches.specs.declared.answer.Range.{Range}
-use Rattle.touches.specs.declared.answer.Touches.{Touches}
+use Rattle.locations.specs.declared.answer.Range.{Range}
+use Rattle.locations.specs.declared.answer.Touches.{Touches}
 use Rattle.touches.specs.Touches.{touchesOf}
-use Rattle.touches.specs.Meaning.{rangesIn}
+use Rattle.locations.specs.Form.{rangesIn}
 
 -- a register of one range, and of one of several
 abbrev pub inRange : ℕ → Range → Bool

@@ -4,16 +4,16 @@ ghost use mathlib.Core.Path.{_≡_};
 ghost use Prim.Native.Nat.{_≤_, _<_};
 ghost use lib.Dec.{ltb};
 ghost use lib.ListN.{length};
-ghost use Rattle.touches.specs.Meaning.{rangesIn};
+ghost use Rattle.locations.specs.Form.{rangesIn};
 ghost use Rattle.assignment.specs.Uses.{inRange, inRanges, endOf, setsBy};
 ghost use Rattle.common.specs.Limits.{mostRegisters};
 ghost use Rattle.assignment.specs.Blocks.{nextRegister, nextIn, TouchesListed, HoldsBits};
 use common::limits::MOST_REGISTERS;
 use common::widths::larger_size;
 use common::widths::smaller_size;
+use locations::answer::Range;
+use locations::answer::Ranges;
 use touches::Touches;
-use touches::answer::Range;
-use touches::answer::Ranges;
 
 // So many registers a block has.
 pub(crate) const BLOCK: usize = 63;

@@ -14,6 +14,7 @@ use Rattle.meter.specs.declared.step.Meter.{Meter}
 use Rattle.meter.specs.declared.step.Fed.{Fed}
 use Rattle.meter.specs.Feed.{Scale, beginOf, resetOf, feedOf}
 use Rattle.meter.specs.Model.{Call, begin, feed, reset}
+use Rattle.meter.proofs.Laws.{laws}
 use Rattle.budget.specs.declared.step.Meters.{Meters}
 use Rattle.budget.specs.declared.step.FedFour.{FedFour}
 use Rattle.budget.specs.Four.{meterOf, withMeter, sumOf, othersOf, isOutOfRange, refusedFour}
@@ -158,6 +159,56 @@ range (suc n) = ((λ h. (omega arith, ltb-false 16777216 (suc n) (rw some at h))
     some = ne-eqb (suc n) 0 (λ d. omega (arith, d))
 
 -- a begin or a reset
+changes : (ms : Meters) (i : ℕ) (m : Meter) (r : FedFour) → i ≤ 3 → r ≡ refuseIf (ltb lastScript i) (refusedFour «NO_SCRIPT» ms) (changedFour ms i m)
+    → (r .answer .number ≡ 0) × (r .meters ≡ withMeter ms i m)
+changes ms i m r l e =
+    let d : r ≡ changedFour ms i m = rw (le-ltb lastScript i l) at e in
+    (ap (λ (x : FedFour). x .answer .number) d, ap (λ (x : FedFour). x .meters) d)
+
+begins : (ms : Meters) (i : ℕ) → i ≤ 3 → (beginFourOf ms i .answer .number ≡ 0) × (beginFourOf ms i .meters ≡ withMeter ms i (beginOf (meterOf ms i)))
+unfolding beginFourOf
+begins ms i l = changes ms i (beginOf (meterOf ms i)) _ l refl
+
+resets : (ms : Meters) (i : ℕ) → i ≤ 3 → (resetFourOf ms i .answer .number ≡ 0) × (resetFourOf ms i .meters ≡ withMeter ms i (resetOf (meterOf ms i)))
+unfolding resetFourOf
+resets ms i l = changes ms i (resetOf (meterOf ms i)) _ l refl
+
+-- what names no place
+abbrev Placeless : FedFour → Type 0
+Placeless r = (turnsBack (r .answer .number) ≡ true → r .answer .place ≡ 0) × (r .answer .number ≡ 0 → r .answer .place ≡ 0)
+
+fed-place : (g : Scale) (ms : Meters) (i s q : ℕ) → Placeless (feedFourOf g ms i s q)
+fed-place g ms i s q =
+    outcomes g ms i s q Placeless
+    (λ h. refl, λ h. refl)
+    (λ h. refl, λ h. refl)
+    (λ d. own)
+    (λ l e b. (λ h. refl, λ h. refl))
+    (λ e b. own)
+  where
+    f : Fed
+    f = feedOf g (meterOf ms i) q
+
+    own : (turnsBack (f .answer .number) ≡ true → f .answer .place ≡ 0) × (f .answer .number ≡ 0 → f .answer .place ≡ 0)
+    own = (
+      λ h. absurd (true≢false (sym h ∙ fed-plain g (meterOf ms i) q .own)),
+      λ h. laws .order g (meterOf ms i) q .no-place (λ d. omega (arith, h, d)),
+    )
+
+changed-place : (ms : Meters) (i : ℕ) (m : Meter) (t : Bool) → Placeless (refuseIf t (refusedFour «NO_SCRIPT» ms) (changedFour ms i m))
+changed-place ms i m true = (λ h. refl, λ h. refl)
+changed-place ms i m false = (λ h. refl, λ h. refl)
+
+called-place : (g : Scripts) (ms : Meters) (i s : ℕ) (c : Call) → Placeless (madeBy g ms i s c)
+unfolding beginFourOf resetFourOf
+called-place g ms i s begin = changed-place ms i (beginOf (meterOf ms i)) (ltb lastScript i)
+called-place g ms i s (feed q) = fed-place (g i) ms i s q
+called-place g ms i s reset = changed-place ms i (resetOf (meterOf ms i)) (ltb lastScript i)
+
+placeless : (g : Scripts) (ms : Meters) (c : FourCall) → Placeless (made g ms c)
+unfolding made
+placeless g ms c = called-place g ms (c .script) (c .budget) (c .call)
+
 changed : (ms : Meters) (i : ℕ) (m : Meter) (t : Bool) → (refuseIf t (refusedFour «NO_SCRIPT» ms) (changedFour ms i m) .answer .number ≡ «ACCEPTED» → ⊥)
     → refuseIf t (refusedFour «NO_SCRIPT» ms) (changedFour ms i m) .meters ≡ ms
 changed ms i m true h = refl
@@ -207,4 +258,8 @@ refusals =
       only-out-of-range = only-range;
       own-refusal = own-refusal;
       taken = taken;
+      begins = begins;
+      resets = resets;
+      no-place = λ g ms c. placeless g ms c .0;
+      accepted-place = λ g ms c. placeless g ms c .1;
     }

@@ -7,10 +7,19 @@ use mathlib.Core.Logic.{_↔_}
 use Prim.Native.Nat.{ℕ, _+_, _<_, _≤_}
 use Rattle.common.specs.Numbers.{«ACCEPTED»}
 use Rattle.common.specs.Limits.{lastScript}
-use Rattle.meter.specs.Feed.{Scale, feedOf}
+use Rattle.meter.specs.Feed.{Scale, beginOf, resetOf, feedOf}
 use Rattle.budget.specs.declared.step.Meters.{Meters}
-use Rattle.budget.specs.Four.{meterOf, withMeter, sumOf, othersOf, isOutOfRange, feedFourOf}
-use Rattle.budget.specs.Calls.{FourCall, Scripts, made}
+use Rattle.budget.specs.Four.{
+  meterOf,
+  withMeter,
+  sumOf,
+  othersOf,
+  isOutOfRange,
+  beginFourOf,
+  resetFourOf,
+  feedFourOf,
+}
+use Rattle.budget.specs.Calls.{FourCall, Scripts, turnsBack, made}
 
 pub record Refusals : Type 0 where
   -- "with all four meters unchanged": so after every refusal, of a begin and a reset, too
@@ -53,3 +62,18 @@ pub record Refusals : Type 0 where
       → feedOf g (meterOf ms i) q .meter .count + othersOf ms i ≤ s
       → (feedFourOf g ms i s q .answer .number ≡ «ACCEPTED»)
       × (feedFourOf g ms i s q .meters ≡ withMeter ms i (feedOf g (meterOf ms i) q .meter))
+  -- "21 .. at a feed; 22 a feed ..": they are a feed's alone. A begin and a reset of scripts 0 to 3 are
+  -- accepted, whatever stands in the four meters, and are the script's own meter's. A reset that answers 21
+  -- and does nothing, in definition and code alike, is refused here
+  pub begins : (ms : Meters) (i : ℕ) → i ≤ 3
+      → (beginFourOf ms i .answer .number ≡ 0)
+      × (beginFourOf ms i .meters ≡ withMeter ms i (beginOf (meterOf ms i)))
+  pub resets : (ms : Meters) (i : ℕ) → i ≤ 3
+      → (resetFourOf ms i .answer .number ≡ 0)
+      × (resetFourOf ms i .meters ≡ withMeter ms i (resetOf (meterOf ms i)))
+  -- "Each answer carries its number .. and a place, 0 unless named": 20, 21 and 22 name none, nor does
+  -- what is accepted
+  pub no-place : (g : Scripts) (ms : Meters) (c : FourCall)
+      → turnsBack (made g ms c .answer .number) ≡ true → made g ms c .answer .place ≡ 0
+  pub accepted-place : (g : Scripts) (ms : Meters) (c : FourCall)
+      → made g ms c .answer .number ≡ 0 → made g ms c .answer .place ≡ 0

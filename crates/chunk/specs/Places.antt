@@ -9,23 +9,14 @@ use mathlib.Core.List.{List}
 use Prim.Native.Nat.{ℕ, _+_, _≤_, _<_}
 use lib.ListN.{length, getD}
 use Rattle.values.specs.declared.model.Name.the-variants.{Unnamed, Named}
-use Rattle.values.specs.Values.{
-  «TAG_NIL»,
-  «TAG_FALSE»,
-  «TAG_TRUE»,
-  «TAG_INTEGER»,
-  «TAG_FLOAT»,
-  spanOf,
-  nameOf,
-}
+use Rattle.values.specs.Values.{spanOf, nameOf}
 use Rattle.values.specs.Spans.{past, firstNamePast}
 use Rattle.lundump.specs.Lundump.{Text, absent, text, Constant, plain, string, Function}
 use Rattle.lundump.specs.Chunk.{payloadsOf, namesOf}
 
--- the tags that need no bytes
+-- the tags that need no bytes: "0 nil, 1 false, 17 true, 3 integer, 19 float"
 abbrev pub Plain : ℕ → Type 0
-Plain tag = (tag ≡ «TAG_NIL»)
-    ⊎ ((tag ≡ «TAG_FALSE») ⊎ ((tag ≡ «TAG_TRUE») ⊎ ((tag ≡ «TAG_INTEGER») ⊎ (tag ≡ «TAG_FLOAT»))))
+Plain tag = (tag ≡ 0) ⊎ ((tag ≡ 1) ⊎ ((tag ≡ 17) ⊎ ((tag ≡ 3) ⊎ (tag ≡ 19))))
 
 pub record Places (bytes : List ℕ) (f : Function) : Type 0 where
   -- a constant is one of the five, or a string that lies inside the bytes

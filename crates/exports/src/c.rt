@@ -15,11 +15,11 @@ use fields::lua54::lookup::mode;
 use fields::lua54::word::RawInstruction54;
 use fields::lua54::word::decode;
 use fields::version::Version;
-use tables::refusals::planned;
 use runs::c::FlatRun;
 use runs::c::FlatSuccessors;
 use runs::c::flat_run;
 use runs::c::flat_successors;
+use tables::refusals::planned;
 
 #[no_mangle]
 pub extern "C" fn lawendeb_successors(words: &[u32], p: usize) -> FlatSuccessors

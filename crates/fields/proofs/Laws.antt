@@ -5,6 +5,7 @@ use native.Mathlib.Omega.{arith}
 use Rattle.fields.specs.Laws.{Laws}
 use Rattle.fields.proofs.Lopcodes as lopcodes
 use Rattle.fields.proofs.Opmodes as opmodes
+use Rattle.fields.proofs.Pushed.{fallbacks}
 use Rattle.fields.proofs.Entries.{entry}
 use Rattle.fields.proofs.Bytes.{low-half, high-half}
 use Rattle.fields.proofs.Lopcodes53 as lopcodes53
@@ -20,6 +21,7 @@ laws =
       events = refl;
       lopcodes = lopcodes.agreement;
       opmodes = opmodes.agreement;
+      fallbacks = fallbacks;
       mode-entry = λ o h. entry o 0 h (omega arith);
       class-entry = λ o h. entry o 1 h (omega arith);
       companion-entry = λ o h. entry o 2 h (omega arith);

@@ -5,4 +5,5 @@ pub mod Word
 pub mod Lopcodes
 pub mod Table
 pub mod Opmodes
+pub mod Pushed
 pub mod Packed

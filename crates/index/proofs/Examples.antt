@@ -8,14 +8,14 @@ use Rattle.lundump.specs.Lundump.{namesFrom, loadNames, loadHead, functionWith,
 use Rattle.lundump.specs.Lundump.{checkBytes, checkHeader, undump}
 use Rattle.common.specs.Lists.{put}
 use Rattle.index.specs.Listing.{functionsOf}
-use Rattle.index.specs.Refusing.{goesOn, endsEarly, signed, whyRefused}
+use Rattle.index.specs.Refusing.{readsOn, endsEarly, signed, whyRefused}
 use Rattle.index.specs.Examples.{ExampleReasons}
 
 pub example-reasons : ExampleReasons
 unfolding repeat littleEnd loadBlock loadByte unsignedFrom loadUnsigned loadNumber loadInteger stringOf
     loadStringN loadString loadVector loadItems wordsFrom loadCode constantByTag loadConstant loadUpvalues
     loadAbsLine loadLocVar loadLines namesFrom loadNames loadHead functionWith several noneOf loadProtos
-    checkBytes checkHeader undump functionsOf put goesOn endsEarly signed whyRefused
+    checkBytes checkHeader undump functionsOf put readsOn endsEarly signed whyRefused
 example-reasons =
     record {
       text = refl;

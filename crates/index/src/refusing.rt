@@ -6,7 +6,7 @@ ghost use Prim.Native.Nat.{_-_};
 ghost use lib.ListN.{length, replicate};
 ghost use Rattle.common.specs.Lists.{put};
 ghost use Rattle.index.specs.Refusing.{
-  goesOn,
+  readsOn,
   filler,
   endsEarly,
   signed,
@@ -52,7 +52,7 @@ fn put_behind(room: &mut [u8], n: usize)
 }
 
 fn goes_on(chunk: &[u8]) -> bool
-    ensures { λ r. ⌜ r ≡ goesOn (now (chunk .entry)) ⌝ }
+    ensures { λ r. ⌜ r ≡ readsOn (now (chunk .entry)) ⌝ }
 {
     count_functions(chunk).number != MALFORMED_CHUNK as u64
 }
@@ -61,6 +61,8 @@ fn goes_on(chunk: &[u8]) -> bool
 // others behind them they are not. The rest of the room is used.
 pub fn ends_early(room: &mut [u8], n: usize) -> bool
     ensures { λ r. ⌜ r ≡ endsEarly (now (room .entry)) n ⌝ }
+    ensures { λ _. ⌜ now (room .exit) ≡ put (now (room .entry)) n
+        (replicate (length (now (room .entry)) - n) filler) ⌝ }
 {
     put_behind(room, n);
     goes_on(room)

@@ -11,7 +11,7 @@ use Rattle.lundump.specs.Chunk.{pick, chosen, valuesOf, countsOf, after}
 use Rattle.lundump.specs.Examples.{ExampleRead, NestedRead}
 
 -- all that the examples compute with
-readers : Unit {0}
+unfoldable pub readers : Unit {0}
 unfolding repeat littleEnd loadBlock loadByte unsignedFrom loadUnsigned loadNumber loadInteger stringOf
     loadStringN loadString loadVector loadItems wordsFrom loadCode constantByTag loadConstant loadUpvalues
     loadAbsLine loadLocVar loadLines namesFrom loadNames loadHead functionWith several noneOf loadProtos

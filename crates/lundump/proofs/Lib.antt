@@ -9,3 +9,5 @@ pub mod Whole
 pub mod Texts
 pub mod Takes
 pub mod Examples
+pub mod Full
+pub mod Limits

@@ -7,11 +7,11 @@ use Rattle.lundump.specs.declared.counts.Counts.{Counts}
 use Rattle.lundump.specs.Chunk.{chosen, countsOf, after, wordsOf, tagsOf, payloadsOf, namesOf}
 
 -- what a pass answers: an accepted function's words, constants and names; or a refusal's number, with place 0
-abbrev needs : ℕ → ℕ → ℕ → Counts
+abbrev pub needs : ℕ → ℕ → ℕ → Counts
 needs words constants names =
     record { number = 0; place = 0; words = words; constants = constants; names = names }
 
-abbrev turnedAway : ℕ → Counts
+abbrev pub turnedAway : ℕ → Counts
 turnedAway number = record { number = number; place = 0; words = 0; constants = 0; names = 0 }
 
 -- The 31 bytes that luac of Lua 5.4.8 begins each file with, where words have 4 bytes, integers

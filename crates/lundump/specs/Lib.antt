@@ -8,3 +8,5 @@ pub mod Stands
 pub mod Cursors
 pub mod Search
 pub mod Examples
+pub mod Full
+pub mod Limits

@@ -1,4 +1,4 @@
--- Inner: no promise and no law between crates rests on what stands here.
+-- Inner: no public promise and no law between crates rests on what stands here.
 -- The chosen function among those read, for the contracts within this crate: the code goes past functions
 -- and keeps the layout of one.
 -- Assumes nothing.

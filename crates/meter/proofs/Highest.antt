@@ -14,7 +14,7 @@ use Rattle.meter.specs.declared.step.Fed.{Fed}
 use Rattle.meter.specs.Feed.{Scale, isBegun, showing, movedTo, isForeign, isStray, beginOf, resetOf, feedOf}
 use Rattle.meter.specs.Model.{Call, begin, feed, reset}
 use Rattle.meter.specs.Calls.{meterCalled, meterAfter}
-use Rattle.meter.specs.Highest.{countsShown, largest, hasReset, atReset, HighestAfter}
+use Rattle.meter.specs.Highest.{countsShown, largest, hasReset, atReset, HighestAfter, Begins, Resets}
 
 -- number 11 does not refuse the meter for its highest
 abbrev pub Covers : Meter → Type 0
@@ -134,3 +134,11 @@ module _ (s : Scale) where
       go : (t : Bool) → hasReset (c ∷ cs) ≡ t → HighestAfter s (meterCalled s m c) cs → HighestAfter s m (c ∷ cs)
       go true e rest = record { highest = rw e (rest .highest); at-reset = at-reset m (c ∷ cs); since = rw e (rest .since); covers = covers-after m (c ∷ cs) }
       go false e rest = record { highest = rw e (risen m (c ∷ cs) e); at-reset = at-reset m (c ∷ cs); since = rw e; covers = covers-after m (c ∷ cs) }
+
+pub begins : (m : Meter) → Begins m
+unfolding beginOf
+begins m = record { begun = refl; last = refl; count = refl; services = refl; highest = refl }
+
+pub resets : (m : Meter) → Resets m
+unfolding resetOf
+resets m = record { highest = refl; begun = refl; last = refl; count = refl; services = refl }

@@ -3,7 +3,7 @@ use Rattle.runs.specs.Script.{scriptOf}
 use Rattle.runs.proofs.Laws as runs
 use Rattle.meter.specs.Feed.{scaleOf}
 use Rattle.meter.specs.Laws.{Laws}
-use Rattle.meter.proofs.Highest.{highest-after}
+use Rattle.meter.proofs.Highest.{highest-after, begins, resets}
 use Rattle.meter.proofs.Demand3.{demand3}
 use Rattle.meter.proofs.Earlier.{earlier-feed}
 use Rattle.meter.proofs.Changing.{follows-book}
@@ -19,6 +19,8 @@ laws =
       earlier-feed-of = λ version ws. earlier-feed (scriptOf version ws) (runs.laws .sound version ws);
       highest = highest-after;
       highest-of = λ version ws weights. highest-after (scaleOf (scriptOf version ws) weights);
+      begins = begins;
+      resets = resets;
       order = order;
       follows-book = follows-book;
       follows-book-of = λ version ws. follows-book (scriptOf version ws) (runs.laws .sound version ws);

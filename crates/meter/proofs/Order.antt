@@ -2,18 +2,19 @@
 use mathlib.Core.Path.{_≡_, refl, sym, ap, subst, _∙_}
 use mathlib.Core.Logic.{_↔_, _⊎_, inl, inr, ⊎-elim}
 use mathlib.Core.Bool.{Bool, true, false, cond, not, _||_, true≢false, false≢true}
-use Prim.Native.Nat.{ℕ, _+_, _*_, _≤_, _<_}
+use Prim.Native.Nat.{ℕ, _+_, _*_, _≤_, _<_, min, max}
 use native.Mathlib.Omega.{arith}
 use lib.Dec.{ltb, leb, eqb}
 use borrow.Author.Tests.{ltb-true, ltb-false, lt-ltb, le-ltb, leb-true, leb-false, le-leb, lt-leb, eqb-true, eqb-false, eq-eqb, ne-eqb}
-use Rattle.common.specs.Limits.{mostWords}
+use Rattle.common.specs.Limits.{mostWords, mostServices}
+use Rattle.common.proofs.Order.{no}
 use Rattle.graph.specs.Graph.{In, member}
 use Rattle.graph.proofs.Laws as graph
 use Rattle.runs.specs.Weights.{refusesWeights, weightsPlace}
 use Rattle.meter.specs.declared.step.Meter.{Meter}
 use Rattle.meter.specs.declared.step.Fed.{Fed}
-use Rattle.meter.specs.Feed.{Scale, follows, isBegun, isForeign, isStray, movedTo, refusal, feedOf}
-use Rattle.meter.specs.Order.{Foreign, below, far, none, much, last, count, Stray, past, no-step, not-first, Order}
+use Rattle.meter.specs.Feed.{Scale, follows, isBegun, oneService, showing, isForeign, isStray, movedTo, refusal, feedOf}
+use Rattle.meter.specs.Order.{Foreign, below, far, none, much, last, count, Stray, past, no-step, not-first, Moved, Order}
 
 -- a test of two is so exactly if one of them is
 or-so : (t u : Bool) → t || u ≡ true → (t ≡ true) ⊎ (u ≡ true)
@@ -146,11 +147,54 @@ module _ (s : Scale) (m : Meter) (q : ℕ) where
       so-right (leb (s .graph .size) q) (cond (isBegun m) (not steps) (not (eqb q 0)))
       (ap (λ (t : Bool). cond t (not steps) (not (eqb q 0))) (begun-none 0 m b) ∙ so-not (eqb q 0) (ne-eqb q 0 h))
 
--- The chain.
+-- What an accepted feed makes of the meter.
 
--- two things of which neither holds
-no : {A B : Type 0} → (A → ⊥) → (B → ⊥) → A ↔ B
-no f g = (λ h. absurd (f h), λ h. absurd (g h))
+one-more : (k : ℕ) → oneService k ≡ min (k + 1) 4294967295
+unfolding oneService
+one-more k = go (ltb k mostServices) refl
+  where
+    go : (t : Bool) → ltb k mostServices ≡ t → cond t (k + 1) mostServices ≡ min (k + 1) 4294967295
+    go true e = omega (arith, ltb-true k mostServices e)
+    go false e = omega (arith, ltb-false k mostServices e)
+
+module _ (s : Scale) (m : Meter) (q : ℕ) (first : m .begun ≡ 0 → q ≡ 0) where
+  moves-as : Moved s m q (movedTo s m q)
+  unfolding movedTo showing
+  moves-as = go (isBegun m) refl (s .graph .serves (m .last) q) refl
+    where
+      go : (t : Bool) → isBegun m ≡ t → (u : Bool) → s .graph .serves (m .last) q ≡ u
+          → Moved s m q (cond t (cond u (showing q (s .weight q) (oneService (m .services)) (m .highest))
+          (showing q (m .count + s .weight q) (m .services) (m .highest)))
+          (showing q (s .weight q) (m .services) (m .highest)))
+      go true b true e =
+          record {
+            begun = λ h. omega (arith, h);
+            last = refl;
+            first = λ h. absurd (is-begun 0 m b h);
+            serving = λ h d. (refl, one-more (m .services));
+            other = λ h d. absurd (true≢false (sym e ∙ d));
+            highest = refl;
+          }
+      go true b false e =
+          record {
+            begun = λ h. omega (arith, h);
+            last = refl;
+            first = λ h. absurd (is-begun 0 m b h);
+            serving = λ h d. absurd (false≢true (sym e ∙ d));
+            other = λ h d. (refl, refl);
+            highest = refl;
+          }
+      go false b u e =
+          record {
+            begun = λ h. omega (arith, h);
+            last = refl;
+            first = λ h. (first h, (refl, refl));
+            serving = λ h d. absurd (h (not-begun 0 m b));
+            other = λ h d. absurd (h (not-begun 0 m b));
+            highest = refl;
+          }
+
+-- The chain.
 
 module _ (m next : Meter) (p : ℕ) where
   abbrev chain : Bool → Bool → Bool → Bool → Fed
@@ -258,6 +302,14 @@ module _ (s : Scale) (m : Meter) (q : ℕ) where
       go true e = absurd (h (stray-of s m q e))
       go false e = refl
 
+  -- the first word that is no stray is 0
+  first-zero : isStray (s .graph) m q ≡ false → m .begun ≡ 0 → q ≡ 0
+  first-zero e b = go (eqb q 0) refl
+    where
+      go : (t : Bool) → eqb q 0 ≡ t → q ≡ 0
+      go true d = eqb-true q 0 d
+      go false d = absurd (not-stray e (not-first b (eqb-false q 0 d)))
+
   pub order : Order s m q
   unfolding feedOf
   order =
@@ -281,4 +333,5 @@ module _ (s : Scale) (m : Meter) (q : ℕ) where
         no-place = b .no-place;
         kept = b .kept;
         moved = b .moved;
+        moves = λ h. subst (Moved s m q) (sym (b .moved h)) (moves-as s m q (first-zero (b .accepted .0 h .3)));
       }

@@ -1,5 +1,6 @@
--- Request C-19, "the highest count a meter has shown, held in the meter", after any list of calls.
--- proofs/Highest.antt proves `HighestAfter` for any meter.
+-- Request C-19, "the highest count a meter has shown, held in the meter", after any list of calls, and what a
+-- begin and a reset make of any meter, field by field.
+-- proofs/Highest.antt proves `HighestAfter`, `Begins` and `Resets` for any meter.
 -- Assumes nothing.
 use mathlib.Core.Path.{_≡_}
 use mathlib.Core.Bool.{Bool, true, false, cond}
@@ -59,3 +60,21 @@ pub record HighestAfter (s : Scale) (m : Meter) (calls : List Call) : Type 0 whe
   -- and it is not below the count if it was not at the start: number 11 refuses no meter for its highest that
   -- it let through before the calls
   pub covers : m .count ≤ m .highest → meterAfter s m calls .count ≤ meterAfter s m calls .highest
+
+-- "Begin takes any meter, sets not begun, 0, 0 and keeps the services." Of the highest: "begin keeps it"
+pub record Begins (m : Meter) : Type 0 where
+  pub begun : beginOf m .begun ≡ 0
+  pub last : beginOf m .last ≡ 0
+  pub count : beginOf m .count ≡ 0
+  pub services : beginOf m .services ≡ m .services
+  pub highest : beginOf m .highest ≡ m .highest
+
+-- "A new reset sets it to the count of that moment and changes nothing else": of any meter, begun or not,
+-- also of one that no begin led to and that 11 refuses. A reset that cleans such a meter, in definition and
+-- code alike, is refused here
+pub record Resets (m : Meter) : Type 0 where
+  pub highest : resetOf m .highest ≡ m .count
+  pub begun : resetOf m .begun ≡ m .begun
+  pub last : resetOf m .last ≡ m .last
+  pub count : resetOf m .count ≡ m .count
+  pub services : resetOf m .services ≡ m .services

@@ -16,7 +16,7 @@ use Rattle.runs.specs.Weights.{Weighs}
 use Rattle.meter.specs.declared.step.Meter.{Meter}
 use Rattle.meter.specs.Feed.{Scale, scaleOf}
 use Rattle.meter.specs.Model.{Call, lastFrom, weightSince}
-use Rattle.meter.specs.Highest.{HighestAfter}
+use Rattle.meter.specs.Highest.{HighestAfter, Begins, Resets}
 use Rattle.meter.specs.Demand3.{Demand3}
 use Rattle.meter.specs.Earlier.{EarlierFeed}
 use Rattle.meter.specs.Changing as changing
@@ -36,7 +36,10 @@ pub record Laws : Type 0 where
   pub highest : (s : Scale) (m : Meter) (calls : List Call) → HighestAfter s m calls
   pub highest-of : (version : Version) (ws weights : List ℕ) (m : Meter) (calls : List Call)
       → HighestAfter (scaleOf (scriptOf version ws) weights) m calls
-  -- "Checks run in this order": 1, 18, 11 and 10, each exactly
+  -- "Begin takes any meter", and so does a reset, which "changes nothing else"
+  pub begins : (m : Meter) → Begins m
+  pub resets : (m : Meter) → Resets m
+  -- "Checks run in this order": 1, 18, 11 and 10, each exactly; and what an accepted feed makes of the meter
   pub order : (s : Scale) (m : Meter) (q : ℕ) → Order s m q
   -- a meter fed by changing weights: "nothing is lost or wraps". A meter's services are 32
   -- bits, and weights are bytes

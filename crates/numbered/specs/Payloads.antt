@@ -10,38 +10,28 @@ use lib.Dec.{eqb, ltb}
 use lib.ListN.{length, getD}
 use lib.Ieee.{binary64, toBits}
 use Rattle.common.specs.Chain.{choose}
-use Rattle.values.specs.Values.{
-  «TAG_FALSE»,
-  «TAG_TRUE»,
-  «TAG_INTEGER»,
-  «TAG_FLOAT»,
-  «TAG_SHORT_STRING»,
-  «TAG_LONG_STRING»,
-  unnamed,
-  valueOf,
-  constantOf,
-  nameOf,
-}
+use Rattle.values.specs.Values.{valueOf, constantOf, nameOf}
 use Rattle.records.specs.Lift.{liftOf}
 use Rattle.records.specs.Sources.{operandIn, targetIn, immediateFloat}
 use Rattle.numbered.specs.declared.parts.FlatSlot.{FlatSlot}
 use Rattle.numbered.specs.declared.parts.FlatPair.{FlatPair}
 use Rattle.numbered.specs.Parts.{pair, flatName, flatValue, flatOperand, flatTarget}
 
--- A constant as it was lent: the kind of its tag, and its payload. "Other payloads are ignored":
--- those of nil, false and true.
+-- A constant as it was lent: the kind of its tag, and its payload. Document 01: "0 nil, 1 false, 17 true, 3
+-- integer, 19 float, 4 short string, 20 long string". "Other payloads are ignored": those of nil,
+-- false and true.
 unfoldable pub lentConstant : ℕ → ℕ → FlatPair
 lentConstant tag payload =
-    choose (eqb tag «TAG_FALSE») (pair 1 0)
-    (choose (eqb tag «TAG_TRUE») (pair 1 1)
-    (choose (eqb tag «TAG_INTEGER») (pair 2 payload)
-    (choose (eqb tag «TAG_FLOAT») (pair 3 payload)
-    (choose (eqb tag «TAG_SHORT_STRING») (pair 4 payload)
-    (choose (eqb tag «TAG_LONG_STRING») (pair 5 payload) (pair 0 0))))))
+    choose (eqb tag 1) (pair 1 0)
+    (choose (eqb tag 17) (pair 1 1)
+    (choose (eqb tag 3) (pair 2 payload)
+    (choose (eqb tag 19) (pair 3 payload)
+    (choose (eqb tag 4) (pair 4 payload)
+    (choose (eqb tag 20) (pair 5 payload) (pair 0 0))))))
 
--- a name as it was lent: none, or its place
+-- a name as it was lent: none, "2^64 - 1 meaning unnamed", or its place
 unfoldable pub lentName : ℕ → FlatPair
-lentName payload = choose (eqb payload unnamed) (pair 0 0) (pair 1 payload)
+lentName payload = choose (eqb payload 18446744073709551615) (pair 0 0) (pair 1 payload)
 
 -- "A constant index past the table reads nil; an upvalue index past the table has no name"
 

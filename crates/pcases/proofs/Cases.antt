@@ -12,9 +12,10 @@ use Rattle.graph.specs.Longest.{within, heaviest, lengthOf, most, longest, firs
 use Rattle.runs.specs.Weights.{lowestZero, refusesWeights, weightsPlace}
 use Rattle.runs.specs.Run.{lowestInvalid, runOf}
 use Rattle.values.specs.Values.{choose, constantOf}
-use Rattle.builders.specs.Parts.{plus, eventOf, constant, arguments, results}
-use Rattle.records.specs.Lift.{extendedIndex, wrap, loads, arithmetic, control, calls, recordBody, before, companionPc, confidenceOf, liftOf}
-use Rattle.pcases.specs.Cases.{Hold, pCases, cases53}
+use Rattle.builders.specs.Shapes.{operandsOf, readsOf, writesOf}
+use Rattle.builders.specs.Parts.{plus, eventOf, constant, rk, rkTarget, arguments, results}
+use Rattle.records.specs.Lift.{extendedIndex, wrap, loads, tables, arithmetic, control, calls, recordBody, before, companionPc, confidenceOf, liftOf}
+use Rattle.pcases.specs.Cases.{Hold, pCases, recordPlaces, recordCorners, recordDisagreements, recordTests, cases53}
 
 pub cases-hold : Hold pCases
 unfolding unless one ordered two opcodeAt isBetween companionPresent successorsOf servesOf classOf companionOf
@@ -64,6 +65,30 @@ cases-hold = (
     ),
   ),
 )
+
+pub record-places-hold : Hold recordPlaces
+unfolding choose constantOf operandsOf readsOf writesOf plus eventOf constant rk rkTarget extendedIndex wrap loads tables arithmetic control calls
+    recordBody before companionPc confidenceOf fallbackOf liftOf
+record-places-hold =
+    ((refl, refl, refl), ((refl, refl, refl), ((refl, refl), (refl, (refl, tt)))))
+
+pub record-corners-hold : Hold recordCorners
+unfolding choose constantOf operandsOf readsOf writesOf plus eventOf constant rk rkTarget extendedIndex wrap loads tables arithmetic control calls
+    recordBody before companionPc confidenceOf fallbackOf liftOf
+record-corners-hold =
+    ((refl, refl), ((refl, refl), ((refl, refl), ((refl, refl), ((refl, refl), ((refl, refl), ((refl, refl), ((refl, refl), ((refl, refl), ((refl, refl), (refl, tt)))))))))))
+
+pub record-disagreements-hold : Hold recordDisagreements
+unfolding choose constantOf operandsOf readsOf writesOf plus eventOf constant rk rkTarget extendedIndex wrap loads tables arithmetic control calls
+    recordBody before companionPc confidenceOf fallbackOf liftOf
+record-disagreements-hold =
+    (refl, (refl, (refl, (refl, ((refl, refl), ((refl, refl), tt))))))
+
+pub record-tests-hold : Hold recordTests
+unfolding choose constantOf operandsOf readsOf writesOf plus eventOf constant rk rkTarget extendedIndex wrap loads tables arithmetic control calls
+    recordBody before companionPc confidenceOf fallbackOf liftOf
+record-tests-hold =
+    ((refl, refl), ((refl, refl), ((refl, refl), ((refl, refl), ((refl, refl), ((refl, refl), ((refl, refl), ((refl, refl), ((refl, refl), ((refl, refl), ((refl, refl), ((refl, refl), tt))))))))))))
 
 pub cases53-hold : Hold cases53
 unfolding unless one ordered two opcodeAt53 companionPresent53 successorsOf53 servesOf classOf53 companionOf53

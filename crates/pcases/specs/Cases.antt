@@ -1,9 +1,9 @@
 -- Document 01, "Bench cases": those marked P, in its order, shown for the definitions by one theorem over
--- their list; and cases of request C-24, of words of Lua 5.3.6 as numbers.
+-- their list; what "Records" says of the Rust; and cases of request C-24, of words of Lua 5.3.6 as numbers.
 -- Assumes nothing.
 use Prim.Native.Nat.{ℕ}
 use mathlib.Core.Path.{_≡_}
-use mathlib.Core.Bool.{Bool, true}
+use mathlib.Core.Bool.{Bool, true, false}
 use mathlib.Core.List.{List, [], _∷_, _++_}
 use lib.IntN.{ℤ, pos}
 use lib.ListN.{length, replicate}
@@ -27,10 +27,12 @@ use Rattle.values.specs.declared.ir.TypedOperand.the-variants as O
 use Rattle.values.specs.declared.ir.EffectTarget.{EffectTarget}
 use Rattle.values.specs.declared.ir.EffectTarget.the-variants as E
 use Rattle.values.specs.declared.ir.ImplicitEffect.{ImplicitEffect}
-use Rattle.values.specs.declared.ir.ImplicitEffect.the-variants.{CompanionPair}
+use Rattle.values.specs.declared.ir.ImplicitEffect.the-variants.{NoEffect, ConditionalSkip, CompanionPair}
 use Rattle.values.specs.declared.ir.CompanionRole.the-variants as role
 use Rattle.values.specs.declared.ir.Fallback.{Fallback}
 use Rattle.values.specs.declared.ir.Fallback.the-variants as fallback
+use Rattle.values.specs.declared.ir.OperandSlot.{OperandSlot}
+use Rattle.values.specs.declared.ir.TargetSlot.{TargetSlot}
 use Rattle.values.specs.declared.ir.OptionalPc.{OptionalPc}
 use Rattle.values.specs.declared.ir.OptionalPc.the-variants.{NoPc, Pc}
 use Rattle.values.specs.declared.ir.Confidence.{Confidence}
@@ -60,6 +62,8 @@ pub data PCase : Type 0 where
   jumps : List ℕ → ℕ → OptionalPc → PCase
   -- .. these reads and these writes
   touches : List ℕ → ℕ → List EffectTarget → List EffectTarget → PCase
+  -- .. in all places, those past the count too, these 4 operands, 3 reads and 2 writes
+  fills : List ℕ → ℕ → List TypedOperand → List EffectTarget → List EffectTarget → PCase
   -- .. these operands and this companion
   shows : List ℕ → ℕ → List TypedOperand → OptionalPc → PCase
   -- .. this implicit effect and this companion
@@ -72,6 +76,16 @@ pub data PCase : Type 0 where
 -- a record with no constants and no names
 abbrev recordAt : List ℕ → ℕ → SemanticInstruction
 recordAt words pc = liftOf words [] [] [] pc
+
+-- what stands in its places
+
+abbrev operandsIn : List OperandSlot → List TypedOperand
+operandsIn [] = []
+operandsIn (slot ∷ slots) = slot .operand ∷ operandsIn slots
+
+abbrev targetsIn : List TargetSlot → List EffectTarget
+targetsIn [] = []
+targetsIn (slot ∷ slots) = slot .target ∷ targetsIn slots
 
 abbrev pub HoldsOf : PCase → Type 0
 HoldsOf (fields word opcode a sbx) = (opcodeOf word ≡ opcode) × (aOf word ≡ a) × (sbxOf word ≡ sbx)
@@ -91,6 +105,10 @@ HoldsOf (refused53 words weights number place) =
 HoldsOf (jumps words pc target) = recordAt words pc .«jump_target» ≡ target
 HoldsOf (touches words pc reads writes) =
     (recordAt words pc .reads ≡ readsOf reads) × (recordAt words pc .writes ≡ writesOf writes)
+HoldsOf (fills words pc operands reads writes) =
+    (operandsIn (recordAt words pc .operands .slots) ≡ operands)
+    × (targetsIn (recordAt words pc .reads .slots) ≡ reads)
+    × (targetsIn (recordAt words pc .writes .slots) ≡ writes)
 HoldsOf (shows words pc operands companion) =
     (recordAt words pc .operands ≡ operandsOf operands) × (recordAt words pc .«companion_pc» ≡ companion)
 HoldsOf (pairs words pc effect companion) =
@@ -143,6 +161,75 @@ pCases =
     ∷ steps sheet 0 (One 1)
     ∷ steps sheet 1 (Two 2 3)
     ∷ steps sheet 2 (One 3)
+    ∷ []
+
+-- Document 01, "Records", RULES 10: what it says of the Rust, in its order, beyond the P cases
+
+-- what is kept
+abbrev pub recordPlaces : List PCase
+recordPlaces =
+    -- "Operand, read and write places past the count hold register 0": MOVE 1 2, and RETURN0, which has none
+    fills (131200 ∷ []) 0 (O.Register 1 ∷ O.Register 2 ∷ O.Register 0 ∷ O.Register 0 ∷ [])
+    (E.Register 2 ∷ E.Register 0 ∷ E.Register 0 ∷ []) (E.Register 1 ∷ E.Register 0 ∷ [])
+    ∷ fills (71 ∷ []) 0 (O.Register 0 ∷ O.Register 0 ∷ O.Register 0 ∷ O.Register 0 ∷ [])
+    (E.Register 0 ∷ E.Register 0 ∷ E.Register 0 ∷ []) (E.Register 0 ∷ E.Register 0 ∷ [])
+    -- "an absent effect, fallback, target or companion is an empty case": MOVE
+    ∷ pairs (0 ∷ []) 0 NoEffect NoPc
+    ∷ falls (0 ∷ []) 0 fallback.NoFallback
+    ∷ jumps (0 ∷ []) 0 NoPc
+    ∷ []
+
+-- "Corners where the Rust stands"
+abbrev pub recordCorners : List PCase
+recordCorners =
+    -- "A constant index past the table reads nil": here that of the EXTRAARG after LOADKX, which has the word
+    -- before it as companion
+    shows (4 ∷ 210 ∷ []) 0 (O.Register 0 ∷ O.Constant 1 Nil ∷ []) (Pc 1)
+    ∷ shows (4 ∷ 210 ∷ []) 1 (O.ExtraArg 1 ∷ []) (Pc 0)
+    -- "EXTRAARG and 46 to 48 have no companion at word 0, yet the pair effect of 46 to 48 names 0"
+    ∷ shows (82 ∷ []) 0 (O.ExtraArg 0 ∷ []) NoPc
+    ∷ pairs (47 ∷ []) 0 (CompanionPair 0 (role.Event 6)) NoPc
+    ∷ pairs (48 ∷ []) 0 (CompanionPair 0 (role.Event 6)) NoPc
+    ∷ pairs (0 ∷ 0 ∷ 46 ∷ []) 2 (CompanionPair 1 (role.Event 6)) (Pc 1)
+    -- "Register sums saturate at 255": of LOADNIL, SELF and TFORCALL
+    ∷ touches (98184 ∷ []) 0 [] (E.RegisterRange 255 255 ∷ [])
+    ∷ touches (32660 ∷ []) 0 (E.Register 0 ∷ E.Register 0 ∷ []) (E.Register 255 ∷ E.Register 255 ∷ [])
+    ∷ touches (4278222668 ∷ []) 0 (E.RegisterRange 254 255 ∷ []) (E.RegisterRange 255 255 ∷ [])
+    -- "CONCAT with A 0, B 0 ends at 0"
+    ∷ touches (53 ∷ []) 0 (E.RegisterRange 0 0 ∷ []) (E.Register 0 ∷ [])
+    -- "FORLOOP and TFORLOOP targets stop at 0": TFORLOOP with Bx 2 at 0
+    ∷ jumps (65613 ∷ []) 0 (Pc 0)
+    ∷ []
+
+-- "Disagreements known so far"
+abbrev pub recordDisagreements : List PCase
+recordDisagreements =
+    -- "C 0 to 16 to events C + 6, 17 to 4, 18 to 5, others to 25": with C 16 to 19
+    falls (268435502 ∷ []) 0 (fallback.Event 22)
+    ∷ falls (285212718 ∷ []) 0 (fallback.Event 4)
+    ∷ falls (301989934 ∷ []) 0 (fallback.Event 5)
+    ∷ falls (318767150 ∷ []) 0 (fallback.Event 25)
+    -- "NEWTABLE's hints are exchanged and its EXTRAARG unmentioned": B 1, C 2
+    ∷ shows (33619987 ∷ []) 0 (O.Register 0 ∷ O.Count 1 false ∷ O.Count 2 false ∷ []) NoPc
+    -- "TFORCALL's writes start one register low": A 0, C 1
+    ∷ touches (16777292 ∷ []) 0 (E.RegisterRange 0 2 ∷ []) (E.RegisterRange 3 3 ∷ [])
+    ∷ []
+
+abbrev pub recordTests : List PCase
+recordTests =
+    -- "opcodes 57 to 60, 66 and 67 list no reads"; where they skip to is pc + 2
+    touches (57 ∷ []) 0 [] []
+    ∷ pairs (57 ∷ []) 0 (ConditionalSkip 2) NoPc
+    ∷ touches (58 ∷ []) 0 [] []
+    ∷ pairs (58 ∷ []) 0 (ConditionalSkip 2) NoPc
+    ∷ touches (59 ∷ []) 0 [] []
+    ∷ pairs (59 ∷ []) 0 (ConditionalSkip 2) NoPc
+    ∷ touches (60 ∷ []) 0 [] []
+    ∷ pairs (60 ∷ []) 0 (ConditionalSkip 2) NoPc
+    ∷ touches (66 ∷ []) 0 [] []
+    ∷ pairs (66 ∷ []) 0 (ConditionalSkip 2) NoPc
+    ∷ touches (67 ∷ []) 0 [] []
+    ∷ pairs (67 ∷ []) 0 (ConditionalSkip 2) NoPc
     ∷ []
 
 -- request C-24: lopcodes.h of Lua 5.3.6 numbers LOADBOOL 3, JMP 30, EQ 31, TAILCALL 37, RETURN 38, FORLOOP

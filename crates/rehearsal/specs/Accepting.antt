@@ -5,12 +5,12 @@
 use mathlib.Core.Path.{_≡_}
 use mathlib.Core.Logic.{_⊎_}
 use mathlib.Core.List.{List}
-use Prim.Native.Nat.{ℕ, _+_, _<_}
+use Prim.Native.Nat.{ℕ, zero, suc, _+_, _<_}
 use lib.ListN.{length}
 use Rattle.common.specs.Numbers.{«ACCEPTED»}
 use Rattle.runs.specs.Run as Run
 use Rattle.rehearsal.specs.Trial.{trialOf, trialMarks, trialLengths}
-use Rattle.rehearsal.specs.Rehearse.{Tried, scriptAt, acceptance}
+use Rattle.rehearsal.specs.Rehearse.{Tried, scriptAt}
 
 module _ (w0 w1 w2 w3 : List ℕ) (k : ℕ) (marks lengths : List ℕ) where
   -- the longest run gives this number for script i
@@ -29,9 +29,18 @@ module _ (w0 w1 w2 w3 : List ℕ) (k : ℕ) (marks lengths : List ℕ) where
     pub number-same : number ≡ runNumber script
     pub place-same : place ≡ runPlace script
 
-  -- what the runs of the scripts below i leave
+  -- what the runs of the scripts below i leave, one after another, of the slices as they were lent: by the
+  -- longest run alone, so that a rehearsal that clears the slices first, in `acceptance` and code alike, is
+  -- refused at `last`
   abbrev pub leftBelow : ℕ → Tried
-  leftBelow i = acceptance w0 w1 w2 w3 i marks lengths
+  leftBelow zero = record { number = 0; place = 0; marks = marks; lengths = lengths }
+  leftBelow (suc i) =
+      record {
+        number = runNumber i;
+        place = runPlace i;
+        marks = trialMarks (scriptAt w0 w1 w2 w3 i) (leftBelow i .marks) (leftBelow i .lengths);
+        lengths = trialLengths (scriptAt w0 w1 w2 w3 i) (leftBelow i .marks) (leftBelow i .lengths);
+      }
 
   -- script i is the last that is tried: all below it were accepted, and it is refused or there is none after
   -- it. What the slices hold is what its run leaves of what the runs below it left

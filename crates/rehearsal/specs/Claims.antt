@@ -6,9 +6,9 @@ use mathlib.Core.Logic.{_↔_}
 use mathlib.Core.Bool.{true}
 use mathlib.Core.List.{List, []}
 use Prim.Native.Nat.{ℕ, _*_, _-_, _≤_, _<_}
-use Rattle.common.specs.Numbers.{«ACCEPTED», «OUT_OF_RANGE»}
+use Rattle.common.specs.Numbers.{«ACCEPTED»}
 use Rattle.graph.specs.Graph.{In}
-use Rattle.rehearsal.specs.declared.answer.Rehearsal.the-variants.{Refused}
+use Rattle.rehearsal.specs.declared.answer.Rehearsal.the-variants.{Rehearsed, Refused}
 use Rattle.rehearsal.specs.Machine.{Event}
 use Rattle.rehearsal.specs.Waits.{longestWait, WaitIn, Waits, turnsOf}
 use Rattle.rehearsal.specs.Schedule.{Scheduled}
@@ -25,6 +25,7 @@ use Rattle.rehearsal.specs.Rehearse.{
   rehearsalPlace,
   waitOf,
 }
+use Rattle.rehearsal.specs.Flat.{flatRehearsal}
 use Rattle.rehearsal.specs.Accepting.{runNumber, LowestRefused, LastTried}
 
 -- "1 to 4 accepted scripts", "q from 1 to 1,000", "a lent list of 0s and 1s"
@@ -57,6 +58,20 @@ module _ (w0 w1 w2 w3 : List ℕ) (k q : ℕ) (choices : List ℕ) (limit : ℕ)
     pub reports :
         (i : ℕ) → i < 4
         → waitOf (rehearseOf w0 w1 w2 w3 k q choices limit marks lengths) i ≡ longestWait i events
+    -- in the order in which the scripts are given, as Rust gets it, and as C does
+    pub report :
+        rehearseOf w0 w1 w2 w3 k q choices limit marks lengths ≡ Rehearsed (longestWait 0 events)
+        (longestWait 1 events) (longestWait 2 events) (longestWait 3 events)
+    pub flat :
+        flatRehearsal (rehearseOf w0 w1 w2 w3 k q choices limit marks lengths)
+        ≡ record {
+          number = 0;
+          place = 0;
+          first = longestWait 0 events;
+          second = longestWait 1 events;
+          third = longestWait 2 events;
+          fourth = longestWait 3 events;
+        }
     pub waits : (i : ℕ) → Waits i events
     -- "a script with fewer than two turns reports 0"
     pub few-turns : (i : ℕ) → turnsOf i events < 2 → longestWait i events ≡ 0
@@ -64,6 +79,11 @@ module _ (w0 w1 w2 w3 : List ℕ) (k q : ℕ) (choices : List ℕ) (limit : ℕ)
     pub bounded : (i w : ℕ) → WaitIn i events w → w ≤ (k - 1) * q
 
   pub record Claims : Type 0 where
+    -- "the first given first": which list is script 0, 1, 2 and 3. Two of them exchanged, in definitions and
+    -- code alike, are refused here
+    pub given :
+        (scriptAt w0 w1 w2 w3 0 ≡ w0)
+        × ((scriptAt w0 w1 w2 w3 1 ≡ w1) × ((scriptAt w0 w1 w2 w3 2 ≡ w2) × (scriptAt w0 w1 w2 w3 3 ≡ w3)))
     pub accepted : rehearsalNumber (rehearseOf w0 w1 w2 w3 k q choices limit marks lengths) ≡ «ACCEPTED»
         → Rehearses
     -- "with k scripts no wait .. exceeds (k - 1) times q": of each number that the answer reports
@@ -72,7 +92,7 @@ module _ (w0 w1 w2 w3 : List ℕ) (k q : ℕ) (choices : List ℕ) (limit : ℕ)
     pub range : (outOfRange k q choices ≡ true → ⊥) ↔ InRange k q choices
     pub turned-away :
         (InRange k q choices → ⊥)
-        → rehearseOf w0 w1 w2 w3 k q choices limit marks lengths ≡ Refused «OUT_OF_RANGE» 0
+        → rehearseOf w0 w1 w2 w3 k q choices limit marks lengths ≡ Refused 23 0
     -- "before anything is rehearsed": no slice is touched
     pub untouched :
         (InRange k q choices → ⊥)
@@ -94,3 +114,15 @@ module _ (w0 w1 w2 w3 : List ℕ) (k q : ℕ) (choices : List ℕ) (limit : ℕ)
     pub no-waits :
         (rehearsalNumber (rehearseOf w0 w1 w2 w3 k q choices limit marks lengths) ≡ «ACCEPTED» → ⊥)
         → (i : ℕ) → waitOf (rehearseOf w0 w1 w2 w3 k q choices limit marks lengths) i ≡ 0
+    -- so does what C gets
+    pub flat-refused :
+        (rehearsalNumber (rehearseOf w0 w1 w2 w3 k q choices limit marks lengths) ≡ «ACCEPTED» → ⊥)
+        → flatRehearsal (rehearseOf w0 w1 w2 w3 k q choices limit marks lengths)
+        ≡ record {
+          number = rehearsalNumber (rehearseOf w0 w1 w2 w3 k q choices limit marks lengths);
+          place = rehearsalPlace (rehearseOf w0 w1 w2 w3 k q choices limit marks lengths);
+          first = 0;
+          second = 0;
+          third = 0;
+          fourth = 0;
+        }

@@ -14,7 +14,7 @@ use Rattle.sweep.proofs.Laws as sweep
 use Rattle.runs.proofs.Lawful.{lawful, sound}
 use Rattle.runs.proofs.Nine.{never-given, within-words, counted}
 use Rattle.runs.proofs.Order.{order, weights-refused}
-use Rattle.runs.proofs.RangeOrder.{range-order, range-kept}
+use Rattle.runs.proofs.RangeOrder.{range-order, range-kept, range-left}
 use Rattle.runs.proofs.Between.{ends, table-refused}
 use Rattle.runs.proofs.Counted.{earlier-run, ones-accepted, ones-weigh}
 use Rattle.runs.proofs.Demand as first-half
@@ -57,6 +57,7 @@ laws =
       weights-refused = weights-refused;
       range-order = range-order;
       range-kept = range-kept;
+      range-left = range-left;
       never-given = never-given;
       within-words = within-words;
       counted = counted;

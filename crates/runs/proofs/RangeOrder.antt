@@ -11,7 +11,7 @@ use borrow.Author.Tests.{ltb-true, ltb-false, lt-ltb, le-ltb, eqb-true, eq-eqb, 
 use Rattle.common.specs.Limits.{mostWords}
 use Rattle.common.specs.Lowest.{First}
 use Rattle.common.proofs.Lowest.{lowest-laws}
-use Rattle.common.proofs.Order.{split}
+use Rattle.common.proofs.Order.{split, yes, no}
 use Rattle.graph.specs.Longest.{longest, first}
 use Rattle.runs.specs.declared.longest.Run.{Run}
 use Rattle.runs.specs.declared.range.RunRange.{RunRange}
@@ -20,8 +20,8 @@ use Rattle.runs.specs.Script.{Script, Sound, graphOf, weightOf}
 use Rattle.runs.specs.Weights.{refusesWeights, weightsPlace}
 use Rattle.runs.specs.Run.{numberOf, placeOf, lowestInvalid, runOf, untouched, marksAfter, lengthsAfter}
 use Rattle.runs.specs.Range.{lowRun, highRun, isAbove, lowestAbove, runsOf, refusesRange, marksAfterBoth, lengthsAfterBoth}
-use Rattle.runs.specs.Order.{AboveAt, report, RangeOrder, RangeKept}
-use Rattle.runs.proofs.Order.{few, short, shorter, long, longer}
+use Rattle.runs.specs.Order.{AboveAt, report, Sized, RangeOrder, RangeKept, RangeLeft}
+use Rattle.runs.proofs.Order.{few, short, shorter, long, longer, order}
 use Rattle.runs.proofs.Between.{ends}
 
 -- The place of 19.
@@ -56,13 +56,6 @@ module _ (low high : List ℕ) where
       go false e = refl
 
 -- The chain.
-
--- two things that both hold, and two of which neither does
-yes : {A B : Type 0} → A → B → A ↔ B
-yes a b = (λ h. b, λ h. a)
-
-no : {A B : Type 0} → (A → ⊥) → (B → ⊥) → A ↔ B
-no f g = (λ h. absurd (f h), λ h. absurd (g h))
 
 module _ (x y z w : ℕ) (r : RunRange) (accepted : numberOf (lowRun r) ≡ 0) (placed : placeOf (lowRun r) ≡ 0) where
   abbrev run : Bool → Bool → Bool → Bool → Bool → Bool → Bool → Run
@@ -271,3 +264,46 @@ module _ (ws : Script) (sound : Sound ws) (low high marks lengths : List ℕ) wh
   pub range-kept : RangeKept ws low high marks lengths
   unfolding marksAfterBoth lengthsAfterBoth
   range-kept = record { marks-kept = of-marks (refusesRange low high) refl; lengths-kept = of-lengths (refusesRange low high) refl }
+
+  -- What the high table's run leaves.
+
+  turned : Sized ws low high (length marks) (length lengths) → (t u v : Bool) → refusesWeights low ≡ t → refusesWeights high ≡ u
+      → ltb (lowestAbove low high) 128 ≡ v → t || (u || v) ≡ true → (number ≡ 18 → ⊥) → (number ≡ 19 → ⊥) → ⊥
+  turned s true u v e f g r a b = a (range-order ws low high (length marks) (length lengths) .eighteen .1 (s, inl e))
+  turned s false true v e f g r a b = a (range-order ws low high (length marks) (length lengths) .eighteen .1 (s, inr f))
+  turned s false false true e f g r a b =
+      b (range-order ws low high (length marks) (length lengths) .nineteen .1 (s, (e, f), (lowestAbove low high, above-there low high g)))
+  turned s false false false e f g r a b = false≢true r
+
+  -- tables that are refused, though with neither 18 nor 19: the sizes are, and before them
+  unsized : refusesRange low high ≡ true → (number ≡ 18 → ⊥) → (number ≡ 19 → ⊥)
+      → untouched (numberOf (runOf ws high (length marks) (length lengths))) ≡ true
+  unsized r a b = go (ltb mostWords (ws .size)) refl (ltb (length marks) (ws .size) || ltb (length lengths) (ws .size)) refl
+    where
+      go : (t : Bool) → ltb mostWords (ws .size) ≡ t → (u : Bool) → ltb (length marks) (ws .size) || ltb (length lengths) (ws .size) ≡ u
+          → untouched (numberOf (runOf ws high (length marks) (length lengths))) ≡ true
+      go true e u f = ap untouched (order ws high (length marks) (length lengths) .one .1 (ltb-true mostWords (ws .size) e))
+      go false e true f =
+          ap untouched
+          (order ws high (length marks) (length lengths) .six .1
+          (few ws high (length marks) (length lengths) e, short ws high (length marks) (length lengths) f))
+      go false e false f =
+          absurd
+          (turned (few ws low (length marks) (length lengths) e, long ws low (length marks) (length lengths) f)
+          (refusesWeights low) (refusesWeights high) (ltb (lowestAbove low high) 128) refl refl refl r a b)
+
+  left-marks : (t : Bool) → refusesRange low high ≡ t → (number ≡ 18 → ⊥) → (number ≡ 19 → ⊥)
+      → cond t marks (marksAfter ws high marks lengths) ≡ marksAfter ws high marks lengths
+  unfolding marksAfter
+  left-marks true e a b = rw (unsized e a b)
+  left-marks false e a b = refl
+
+  left-lengths : (t : Bool) → refusesRange low high ≡ t → (number ≡ 18 → ⊥) → (number ≡ 19 → ⊥)
+      → cond t lengths (lengthsAfter ws high marks lengths) ≡ lengthsAfter ws high marks lengths
+  unfolding lengthsAfter
+  left-lengths true e a b = rw (unsized e a b)
+  left-lengths false e a b = refl
+
+  pub range-left : RangeLeft ws low high marks lengths
+  unfolding marksAfterBoth lengthsAfterBoth
+  range-left = record { marks-left = left-marks (refusesRange low high) refl; lengths-left = left-lengths (refusesRange low high) refl }

@@ -19,7 +19,7 @@ use Rattle.runs.specs.Counted.{ones, EarlierRun}
 use Rattle.runs.specs.Range.{refusesRange}
 use Rattle.runs.specs.Between.{RangeEnds, TableRefused}
 use Rattle.runs.specs.Demand.{Demand}
-use Rattle.runs.specs.Order.{Order, WeightsRefused, RangeOrder, RangeKept}
+use Rattle.runs.specs.Order.{Order, WeightsRefused, RangeOrder, RangeKept, RangeLeft}
 use Rattle.runs.specs.Slices.{Slices}
 use Rattle.runs.specs.EntryLaws.{EntryLaws}
 
@@ -88,6 +88,8 @@ pub record Laws : Type 0 where
       (ws : Script) (low high : List ℕ) (marks lengths : ℕ) → RangeOrder ws low high marks lengths
   pub range-kept :
       (ws : Script) → Sound ws → (low high marks lengths : List ℕ) → RangeKept ws low high marks lengths
+  pub range-left :
+      (ws : Script) → Sound ws → (low high marks lengths : List ℕ) → RangeLeft ws low high marks lengths
   -- request C-13: "number 9 is never given". 9 for a run above some length, in definition and code alike, is
   -- refused here and in `demand`
   pub never-given : (ws : Script) (weights : List ℕ) (marks lengths : ℕ)

@@ -12,7 +12,7 @@ use lib.ListN.{length, getD}
 use Rattle.runs.specs.declared.longest.Run.{Run}
 use Rattle.runs.specs.Script.{Script}
 use Rattle.runs.specs.Weights.{refusesWeights, weightsPlace}
-use Rattle.runs.specs.Run.{runOf, numberOf, placeOf}
+use Rattle.runs.specs.Run.{runOf, numberOf, placeOf, marksAfter, lengthsAfter}
 use Rattle.runs.specs.Range.{lowRun, runsOf, marksAfterBoth, lengthsAfterBoth}
 
 -- a weight of 0 at i
@@ -103,3 +103,12 @@ module _ (ws : Script) (low high marks lengths : List ℕ) where
     pub lengths-kept :
         (reportedNumber ≡ 0 → ⊥) → (reportedNumber ≡ 8 → ⊥)
         → lengthsAfterBoth ws low high marks lengths ≡ lengths
+
+  -- "the work slices end as the high table's run leaves them", where the tables are not turned away. As the
+  -- low one's run does, in definition and code alike, is refused here
+  pub record RangeLeft : Type 0 where
+    pub marks-left : (reportedNumber ≡ 18 → ⊥) → (reportedNumber ≡ 19 → ⊥)
+        → marksAfterBoth ws low high marks lengths ≡ marksAfter ws high marks lengths
+    pub lengths-left :
+        (reportedNumber ≡ 18 → ⊥) → (reportedNumber ≡ 19 → ⊥)
+        → lengthsAfterBoth ws low high marks lengths ≡ lengthsAfter ws high marks lengths

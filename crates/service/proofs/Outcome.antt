@@ -41,7 +41,7 @@ use Rattle.service.specs.declared.crossing.Crossed.the-variants as Cross
 use Rattle.service.specs.Questions.{fewestOf, nearestBy, nearestOf, crossedBy, crossedOf, listedAt}
 use Rattle.service.specs.Questions.{withinOf, marksWithin, lengthsWithin, listBy, listWithin}
 use Rattle.service.specs.Pass.{Fits, noted, Holds, Notes, fewestIn, answerBy}
-use Rattle.service.specs.Pairs.{«LENGTHS», distanceIn, lengthIn, pairOf, Pairs, listedBy, byLowest, answerIn, lengthsIn, listIn}
+use Rattle.service.specs.Pairs.{«LENGTHS», distanceIn, pairedLength, pairAt, Pairs, listedBy, byLowest, answerIn, lengthsIn, listIn}
 use Rattle.service.proofs.Sizes.{run-many, run-short, run-none, run-sizes}
 use Rattle.service.proofs.Near.{entering, same-length}
 use Rattle.service.proofs.PairedWords.{pair-length, pair-listed}
@@ -137,22 +137,22 @@ module _ (m l : List ℕ) (a : FillAsks m l) (d : ℕ) (list : List ℕ) (long :
         let z : length es ≤ lowestBy (length es) (entrySteps es) = omega (arith, n, k .lowest-invalid) in
         rw (le-ltb (lowestBy (length es) (entrySteps es)) (length es) z)
 
-    pub listing-accepted : {e : ℕ} {l″ list′ : List ℕ} → e ≡ min d 65535 → l″ ≡ tabulate (lengthIn l′) 0 (length l′)
+    pub listing-accepted : {e : ℕ} {l″ list′ : List ℕ} → e ≡ min d 65535 → l″ ≡ tabulate (pairedLength l′) 0 (length l′)
         → list′ ≡ over (λ p. listedBy e (distanceIn l′ p)) (length l′) list → Listing (answer «ACCEPTED» 0) l″ list′
     listing-accepted {e} {l″} {list′} s x y = (accepted _ _, (lengths ∙ accepted _ _, listed ∙ accepted _ _))
       where
-        pair : (p : ℕ) → p < length es → getD l′ p 0 ≡ pairOf (graphIn es) p
+        pair : (p : ℕ) → p < length es → getD l′ p 0 ≡ pairAt (graphIn es) p
         pair p h = k .each p (omega (arith, n))
 
         length-at : (p : ℕ) → p < length es → getD l″ p 0 ≡ lengthOf (graphIn es) unitWeight p
         length-at p h =
-            ap (λ (z : List ℕ). getD z p 0) x ∙ over-laws .getD-tabulate (lengthIn l′) 0 (length l′) p (omega (arith, n, same))
-            ∙ ap (lengthIn l′) (omega arith) ∙ ap (λ (z : ℕ). z % «LENGTHS») (pair p h) ∙ pair-length (graphIn es) (a .held .law) (a .held .lent .few) p
+            ap (λ (z : List ℕ). getD z p 0) x ∙ over-laws .getD-tabulate (pairedLength l′) 0 (length l′) p (omega (arith, n, same))
+            ∙ ap (pairedLength l′) (omega arith) ∙ ap (λ (z : ℕ). z % «LENGTHS») (pair p h) ∙ pair-length (graphIn es) (a .held .law) (a .held .lent .few) p
 
         lengths : l″ ≡ tabulate (lengthOf (graphIn es) unitWeight) 0 (length es)
         lengths =
             over-laws .whole (lengthOf (graphIn es) unitWeight) (length es) l″
-            (ap length x ∙ over-laws .length-tabulate (lengthIn l′) 0 (length l′) ∙ same ∙ sym n)
+            (ap length x ∙ over-laws .length-tabulate (pairedLength l′) 0 (length l′) ∙ same ∙ sym n)
             length-at
 
         by : ℕ → ℕ

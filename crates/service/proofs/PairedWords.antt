@@ -28,7 +28,7 @@ use Rattle.sweep.specs.Steps.{listOf, isInvalid, ordered, servesOf, unitWeight}
 use Rattle.sweep.specs.Entries.{«ENTRIES», entryAt, entries, entrySteps, graphIn, invalidBy}
 use Rattle.sweep.specs.PassInvariants.{FillAsks, stepsIn, invalidFrom}
 use Rattle.service.specs.Questions.{listedAt}
-use Rattle.service.specs.Pairs.{«LENGTHS», distanceIn, lengthIn, pairOf, pairBy, Pairing, Paired, Pairs, listedBy}
+use Rattle.service.specs.Pairs.{«LENGTHS», distanceIn, pairedLength, pairAt, pairBy, Pairing, Paired, Pairs, listedBy}
 use Rattle.service.proofs.Near.{entering, going, in-order-one, in-order-up, in-order-down}
 
 -- two steps are no invalid word's
@@ -51,7 +51,7 @@ module _ (l : List ℕ) (p : ℕ) where
   pub pair-target : (t : ℕ) {x : ℕ} → x ≡ beyondOf t → (es : List ℕ) → x + 65537 ≡ pairBy es l p (listOf (One t))
   pair-target t {x} e es = go (servesOf p t) e
     where
-      go : (b : Bool) → x ≡ cond b 0 (getD l t 0) → x + 65537 ≡ (1 + cond (b || false) 0 (distanceIn l t)) * «LENGTHS» + (1 + max (cond b 0 (lengthIn l t)) 0)
+      go : (b : Bool) → x ≡ cond b 0 (getD l t 0) → x + 65537 ≡ (1 + cond (b || false) 0 (distanceIn l t)) * «LENGTHS» + (1 + max (cond b 0 (pairedLength l t)) 0)
       go true h = omega (arith, h)
       go false h = omega (arith, h)
 
@@ -117,29 +117,29 @@ module _ (m l : List ℕ) (p i : ℕ) where
 
 -- the parts of a pair
 module _ (g : Graph) (law : Lawful g) (few : g .size ≤ mostWords) where
-  pub pair-unmarked : (q : ℕ) → markOf g q ≡ 0 → pairOf g q ≡ 0
+  pub pair-unmarked : (q : ℕ) → markOf g q ≡ 0 → pairAt g q ≡ 0
   pair-unmarked q e = rw (ne-eqb (markOf g q) 1 (λ o. omega arith))
 
-  pub pair-marked : (q : ℕ) → markOf g q ≡ 1 → pairOf g q ≡ distanceOf g q * «LENGTHS» + lengthOf g unitWeight q
+  pub pair-marked : (q : ℕ) → markOf g q ≡ 1 → pairAt g q ≡ distanceOf g q * «LENGTHS» + lengthOf g unitWeight q
   pair-marked q e = rw (eq-eqb (markOf g q) 1 e)
 
   lengths-few : (q : ℕ) → lengthOf g unitWeight q ≤ mostWords
   lengths-few q = omega (arith, ceiling .lengths g law unitWeight 1 (λ p. omega arith) q, few)
 
-  pub pair-length : (q : ℕ) → pairOf g q % «LENGTHS» ≡ lengthOf g unitWeight q
+  pub pair-length : (q : ℕ) → pairAt g q % «LENGTHS» ≡ lengthOf g unitWeight q
   pair-length q =
       ⊎-elim
       (λ e. let z = laws .passing g law unitWeight .unmarked q e in omega (arith, z, pair-unmarked q e))
       (λ e. omega (arith, pair-marked q e, lengths-few q))
       (bit (laws .marking g law .bit q))
 
-  pub pair-low : (q : ℕ) → pairOf g q % «LENGTHS» ≤ mostWords
+  pub pair-low : (q : ℕ) → pairAt g q % «LENGTHS» ≤ mostWords
   pair-low q = omega (arith, pair-length q, lengths-few q)
 
-  pub pair-distance : (q : ℕ) → markOf g q ≡ 1 → pairOf g q / «LENGTHS» ≡ distanceOf g q
+  pub pair-distance : (q : ℕ) → markOf g q ≡ 1 → pairAt g q / «LENGTHS» ≡ distanceOf g q
   pair-distance q e = omega (arith, pair-marked q e, lengths-few q)
 
-  pub pair-near : (q : ℕ) → q < g .size → pairOf g q / «LENGTHS» ≤ mostWords
+  pub pair-near : (q : ℕ) → q < g .size → pairAt g q / «LENGTHS» ≤ mostWords
   pair-near q h =
       ⊎-elim
       (λ e. omega (arith, pair-unmarked q e))
@@ -147,10 +147,10 @@ module _ (g : Graph) (law : Lawful g) (few : g .size ≤ mostWords) where
       (bit (laws .marking g law .bit q))
 
   -- what is listed by a pair: no distance is too large for the shortened d
-  pub pair-listed : (d e : ℕ) → e ≡ min d 65535 → (q : ℕ) → q < g .size → listedBy e (pairOf g q / «LENGTHS») ≡ listedAt g d q
+  pub pair-listed : (d e : ℕ) → e ≡ min d 65535 → (q : ℕ) → q < g .size → listedBy e (pairAt g q / «LENGTHS») ≡ listedAt g d q
   pair-listed d e k q h = ⊎-elim unreached reached (bit (laws .marking g law .bit q))
     where
-      unreached : markOf g q ≡ 0 → listedBy e (pairOf g q / «LENGTHS») ≡ listedAt g d q
+      unreached : markOf g q ≡ 0 → listedBy e (pairAt g q / «LENGTHS») ≡ listedAt g d q
       unreached z = ap (λ (x : ℕ). listedBy e (x / «LENGTHS»)) (pair-unmarked q z) ∙ rw (ne-eqb (markOf g q) 1 (λ o. omega arith))
 
       near : (x : ℕ) → x ≤ mostWords → leb x e ≡ leb x d
@@ -160,7 +160,7 @@ module _ (g : Graph) (law : Lawful g) (few : g .size ≤ mostWords) where
           (λ y. let z : e < x = omega (arith, k) in lt-leb x e z ∙ sym (lt-leb x d y))
           (split x d)
 
-      reached : markOf g q ≡ 1 → listedBy e (pairOf g q / «LENGTHS») ≡ listedAt g d q
+      reached : markOf g q ≡ 1 → listedBy e (pairAt g q / «LENGTHS») ≡ listedAt g d q
       reached o =
           let some = distances g law .some q (laws .marking g law .reachable q h o) in
           ap (listedBy e) (pair-distance q o)
@@ -178,7 +178,7 @@ pub record Passed (l₀ m l : List ℕ) (i a v : ℕ) : Type 0 where
   pub asks : FillAsks m l₀
   pub same : length l ≡ length l₀
   pub upto : i ≤ length l₀
-  pub from : (q : ℕ) → i ≤ q → q < length l₀ → getD l q 0 ≡ pairOf (graphIn (entries l₀)) q
+  pub from : (q : ℕ) → i ≤ q → q < length l₀ → getD l q 0 ≡ pairAt (graphIn (entries l₀)) q
   pub below : (q : ℕ) → q < i → getD l q 0 % «ENTRIES» ≡ getD (entries l₀) q 0
   pub above : a ≡ getD l i 0
   pub lowest : v ≡ lowestFrom (invalidBy (length (entries l₀)) (entrySteps (entries l₀))) i (length (entries l₀) - i)
@@ -217,7 +217,7 @@ module _ (l₀ m l : List ℕ) (p a v : ℕ) (f : Passed l₀ m l (p + 1) a v) w
   entry-here : stepsIn l p ≡ entrySteps es p
   entry-here = ap (λ (x : ℕ). entryAt x p) (f .below p (omega arith))
 
-  above-is : (q : ℕ) → p < q → q < length es → getD l q 0 ≡ pairOf g q
+  above-is : (q : ℕ) → p < q → q < length es → getD l q 0 ≡ pairAt g q
   above-is q h k = f .from q (omega arith) (omega (arith, entering .as-long l₀))
 
   pub passed-asks : Pairing m l p a
@@ -265,11 +265,11 @@ module _ (l₀ m l : List ℕ) (p a v : ℕ) (f : Passed l₀ m l (p + 1) a v) w
         ∙ ap (λ (x : ℕ). 1 + cond (endsBy g p (listOf (entrySteps es p))) 0 x)
         (least-same known (distanceIn l) (listOf (entrySteps es p)) (λ q i. rw (eq-eqb (markOf g q) 1 (onto q i))))
 
-    length-found : lengthOf g unitWeight p ≡ 1 + best g p (lengthIn l) (listOf (entrySteps es p))
+    length-found : lengthOf g unitWeight p ≡ 1 + best g p (pairedLength l) (listOf (entrySteps es p))
     length-found =
-        laws .passing g law unitWeight .marked (lengthIn l) p inside o (λ q h k. ap (λ (x : ℕ). x % «LENGTHS») (above-is q h k) ∙ pair-length g law few q)
+        laws .passing g law unitWeight .marked (pairedLength l) p inside o (λ q h k. ap (λ (x : ℕ). x % «LENGTHS») (above-is q h k) ∙ pair-length g law few q)
 
-    pair-found : pairBy es l p (listOf (stepsIn l p)) ≡ pairOf g p
+    pair-found : pairBy es l p (listOf (stepsIn l p)) ≡ pairAt g p
     pair-found =
         ap (λ (s : Successors). pairBy es l p (listOf s)) entry-here
         ∙ ap₂ (λ (x y : ℕ). x * «LENGTHS» + y) (sym distance-found) (sym length-found)
@@ -278,7 +278,7 @@ module _ (l₀ m l : List ℕ) (p a v : ℕ) (f : Passed l₀ m l (p + 1) a v) w
   marked : (getD m p 0 ≡ 0 → ⊥) → markOf g p ≡ 1
   marked n = one-of (laws .marking g law .bit p) (λ z. n (mark-is ∙ z))
 
-  found : cond (eqb (getD m p 0) 0) 0 (pairBy es l p (listOf (stepsIn l p))) ≡ pairOf g p
+  found : cond (eqb (getD m p 0) 0) 0 (pairBy es l p (listOf (stepsIn l p))) ≡ pairAt g p
   found =
       ⊎-elim
       (λ e. rw (eq-eqb (getD m p 0) 0 e) (sym (pair-unmarked g law few p (sym mark-is ∙ e))))
@@ -301,7 +301,7 @@ module _ (l₀ m l : List ℕ) (p a v : ℕ) (f : Passed l₀ m l (p + 1) a v) w
         from =
             λ q h k.
             ⊎-elim
-            (λ w. w .1 ∙ d .pair-is es ∙ found ∙ ap (pairOf g) (sym (w .0)))
+            (λ w. w .1 ∙ d .pair-is es ∙ found ∙ ap (pairAt g) (sym (w .0)))
             (λ w. w .1 ∙ f .from q (omega (arith, past h (w .0))) k)
             (at-set l p x q (omega (arith, f .upto, f .same)));
         below = λ q h. ap (λ (z : ℕ). z % «ENTRIES») (getD-set-other l p q x 0 (λ z. omega arith)) ∙ f .below q (omega arith);

@@ -5,5 +5,6 @@ pub mod ListedWords
 pub mod Crossings
 pub mod Versions
 pub mod Flat
+pub mod Flattened
 pub mod Pass
 pub mod Pairs

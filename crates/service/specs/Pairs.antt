@@ -30,18 +30,18 @@ abbrev pub «LENGTHS» : ℕ
 abbrev pub distanceIn : List ℕ → ℕ → ℕ
 distanceIn l p = getD l p 0 / «LENGTHS»
 
-abbrev pub lengthIn : List ℕ → ℕ → ℕ
-lengthIn l p = getD l p 0 % «LENGTHS»
+abbrev pub pairedLength : List ℕ → ℕ → ℕ
+pairedLength l p = getD l p 0 % «LENGTHS»
 
 -- the pair of word p of a graph: 0 if it is unreachable
-abbrev pub pairOf : Graph → ℕ → ℕ
-pairOf g p = cond (eqb (markOf g p) 1) (distanceOf g p * «LENGTHS» + lengthOf g unitWeight p) 0
+abbrev pub pairAt : Graph → ℕ → ℕ
+pairAt g p = cond (eqb (markOf g p) 1) (distanceOf g p * «LENGTHS» + lengthOf g unitWeight p) 0
 
 -- the pair of a reachable word p, whose steps are qs, from those above it. Which steps serve does not hang on
 -- the entries es
 abbrev pub pairBy : List ℕ → List ℕ → ℕ → List ℕ → ℕ
 pairBy es l p qs = (1 + cond (endsBy (graphIn es) p qs) 0 (leastOf (distanceIn l) qs)) * «LENGTHS»
-    + (1 + best (graphIn es) p (lengthIn l) qs)
+    + (1 + best (graphIn es) p (pairedLength l) qs)
 
 -- what pairing word p asks: the words above it have their pairs, none too large, and a is that of the next
 pub record Pairing (m l : List ℕ) (p a : ℕ) : Type 0 where
@@ -50,7 +50,7 @@ pub record Pairing (m l : List ℕ) (p a : ℕ) : Type 0 where
   pub steps : (q : ℕ) → In q (listOf (stepsIn l p)) → q < length l
   pub next : a ≡ getD l (p + 1) 0
   pub near : (q : ℕ) → p < q → distanceIn l q ≤ mostWords
-  pub low : (q : ℕ) → p < q → lengthIn l q ≤ mostWords
+  pub low : (q : ℕ) → p < q → pairedLength l q ≤ mostWords
 
 -- and what it finds: the word's pair, and the lowest invalid word from it on
 pub record Paired (m l : List ℕ) (p i v i′ : ℕ) : Type 0 where
@@ -59,7 +59,7 @@ pub record Paired (m l : List ℕ) (p i v i′ : ℕ) : Type 0 where
 
 -- what the pass leaves: the pairs where the entries stood. Its answer is the lowest reachable invalid word
 pub record Pairs (l l′ : List ℕ) (r : ℕ) : Type 0 where
-  pub each : (p : ℕ) → p < length l → getD l′ p 0 ≡ pairOf (graphIn (entries l)) p
+  pub each : (p : ℕ) → p < length l → getD l′ p 0 ≡ pairAt (graphIn (entries l)) p
   pub lowest-invalid : r ≡ lowestBy (length (entries l)) (entrySteps (entries l))
 
 -- what is listed by a pair's distance x: an unreachable word has 0

@@ -13,7 +13,7 @@ ghost use Rattle.service.specs.Questions.{listBy, withinOf, marksWithin,
 ghost use Rattle.service.specs.Pass.{answerBy};
 ghost use Rattle.service.specs.Pairs.{
   distanceIn,
-  lengthIn,
+  pairedLength,
   listedBy,
   answerIn,
   lengthsIn,
@@ -60,7 +60,7 @@ fn listed(d: u32, distance: u32) -> u8
 fn write_list(d: u32, lengths: &mut [u32], list: &mut [u8])
     requires { ⌜ length (now lengths) ≤ length (now list) ⌝ }
     ensures { λ _. ⌜ now (lengths .exit)
-        ≡ tabulate (lengthIn (now (lengths .entry))) 0 (length (now (lengths .entry))) ⌝ }
+        ≡ tabulate (pairedLength (now (lengths .entry))) 0 (length (now (lengths .entry))) ⌝ }
     ensures { λ _. ⌜ now (list .exit) ≡ over (λ p. listedBy d (distanceIn (now (lengths .entry)) p))
         (length (now (lengths .entry))) (now (list .entry)) ⌝ }
 {

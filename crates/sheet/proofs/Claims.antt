@@ -13,12 +13,14 @@ use borrow.Author.Tests.{ne-eqb}
 use Rattle.common.specs.Limits.{mostWord}
 use Rattle.sheet.specs.declared.reading.Sheet.{Sheet}
 use Rattle.sheet.specs.declared.reading.Sheet.the-variants.{Words, Malformed, TooLong}
+use Rattle.sheet.specs.Columns.{columns}
 use Rattle.sheet.specs.Line.{lineOf, lineValue, isLine}
 use Rattle.sheet.specs.Format.{readFrom, sheetOf, sheetWordAt, sheetWords}
 use Rattle.sheet.specs.Claims.{textOf, AllWords, Accepted, Broken, Overfull, SheetSays, Claims}
 use Rattle.sheet.proofs.Widths.{length-line}
 use Rattle.sheet.proofs.Round.{apart, line-shows, line-good, good-line, good-value}
 use Rattle.sheet.proofs.Scanned.{read-none, read-full, read-bad, read-more}
+use Rattle.sheet.proofs.Justified.{justified}
 
 -- lines of words are read, and then what comes after them
 read-past : (room k : ℕ) (ws rest : List ℕ) → AllWords ws → length ws ≤ room
@@ -271,5 +273,9 @@ enough : (room more : ℕ) (text : List ℕ) → sheetOf room (take (11 * room +
 unfolding sheetOf
 enough room more text = read-enough room 0 more text
 
+line : (v : ℕ) → lineOf v ≡ columns 10 v ++ (10 ∷ [])
+unfolding lineOf
+line v = refl
+
 pub claims : Claims
-claims = record { says = says; only = only; accepted = accepted; every = every; back = back; enough = enough }
+claims = record { justified = justified; line = line; says = says; only = only; accepted = accepted; every = every; back = back; enough = enough }

@@ -3,5 +3,6 @@ pub mod Columns
 pub mod Compare
 pub mod Round
 pub mod Scanned
+pub mod Justified
 pub mod Claims
 pub mod Laws

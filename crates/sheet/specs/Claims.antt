@@ -3,12 +3,29 @@
 -- Assumes nothing.
 use mathlib.Core.Path.{_≡_}
 use mathlib.Core.List.{List, [], _∷_, _++_}
-use Prim.Native.Nat.{ℕ, _+_, _*_, _≤_, _<_}
-use lib.ListN.{length, take}
+use Prim.Native.Nat.{ℕ, zero, suc, _+_, _*_, _-_, _/_, _%_, _^_, _≤_, _<_}
+use lib.ListN.{length, take, replicate}
 use Rattle.sheet.specs.declared.reading.Sheet.{Sheet}
 use Rattle.sheet.specs.declared.reading.Sheet.the-variants.{Words, Malformed, TooLong}
+use Rattle.sheet.specs.Columns.{columns}
 use Rattle.sheet.specs.Line.{lineOf}
 use Rattle.sheet.specs.Format.{sheetOf, sheetWords}
+
+-- the last digits of v, so many, as bytes: those of `0` to `9` are 48 to 57
+abbrev pub decimal : ℕ → ℕ → List ℕ
+decimal zero v = []
+decimal (suc count) v = decimal count (v / 10) ++ ((48 + v % 10) ∷ [])
+
+-- "a decimal number, right-justified in [k] columns, blanks to its left, no needless leading 0"
+pub record Justified (k v : ℕ) (text : List ℕ) : Type 0 where
+  pub count : ℕ
+  pub some : 1 ≤ count
+  pub fits : count ≤ k
+  -- all of its digits show, and the first is no 0 if there is another
+  pub all : v < 10 ^ count
+  pub needed : 1 < count → 10 ^ (count - 1) ≤ v
+  -- the byte of a blank is 32
+  pub is : text ≡ replicate (k - count) 32 ++ decimal count v
 
 -- the sheet of words: their lines, one after another
 unfoldable pub textOf : List ℕ → List ℕ
@@ -56,6 +73,10 @@ SheetSays room text (Malformed line) = Broken room text line
 SheetSays room text TooLong = Overfull room text
 
 pub record Claims : Type 0 where
+  -- columns show each number that they are wide enough for
+  pub justified : (k v : ℕ) → 0 < k → v < 10 ^ k → Justified k v (columns k v)
+  -- "a newline", whose byte is 10, behind 10 columns
+  pub line : (v : ℕ) → lineOf v ≡ columns 10 v ++ (10 ∷ [])
   -- what is answered is so
   pub says : (room : ℕ) (text : List ℕ) → SheetSays room text (sheetOf room text)
   -- what is so is answered: each text has one answer

@@ -23,7 +23,7 @@ use Rattle.fields.proofs.Laws.{laws}
 use Rattle.steps.specs.lua54.Columns.{classFrom, companionFrom}
 use Rattle.sweep.specs.Steps.{one, isInvalid, listOf}
 use Rattle.steps.specs.lua54.Successors.{opcodeAt, nextOf, standsAt, companionPresent, successorsOf}
-use Rattle.steps.specs.Executions.{gosOf, leading}
+use Rattle.steps.specs.Executions.{gosOf, leadingTo}
 use Rattle.steps.specs.lua54.Lvm.{Go, vmbreak, «pc++», «pc++-if-k», jump, donextjump, «pc-=Bx», «pc+=Bx+1»}
 use Rattle.steps.specs.lua54.Lvm.{«goto-l_tforcall», «goto-l_tforloop», leave, Body, bodyOf, l_tforcall, jmp}
 use Rattle.steps.specs.lua54.Lvm.{dojump, onward, bodyAt, waysAt, goesOn, Agreement}
@@ -133,7 +133,7 @@ k-clear w e = eq-eqb («TESTARG_k» w) 0 (omega (arith, test-is w))
 module _ (ws : List ℕ) (n w p : ℕ) where
   -- where the ways lead
   abbrev nexts : Shape → List ℤ
-  nexts s = targetsOf (leading (onward ws (pos (p + 1)) w) (gosBy s))
+  nexts s = targetsOf (leadingTo (onward ws (pos (p + 1)) w) (gosBy s))
 
   list-same : (t u : Bool) → eqb (kOf w) 1 ≡ t → eqb («TESTARG_k» w) 0 ≡ u
       → isInvalid (cond t (one n (pos (p + 2))) (one n (pos (p + 1)))) ≡ false
@@ -172,8 +172,8 @@ same ws p e =
     let w : ℕ = getD ws p 0 in
     let s : Shape = shapeAt (opcodeOf w) in
     found-same (goesOn ws p) (nexts ws (length ws) w p s) (successorsOf ws p) (nextOf (classBy s) (length ws) w p)
-    (ap (λ (o : ℕ). targetsOf (leading (onward ws (pos (p + 1)) w) (gosOf (bodyOf o)))) (opcode-is w)
-    ∙ ap (λ (gos : List Go). targetsOf (leading (onward ws (pos (p + 1)) w) gos)) (gos-by (opcodeOf w) (omega arith)))
+    (ap (λ (o : ℕ). targetsOf (leadingTo (onward ws (pos (p + 1)) w) (gosOf (bodyOf o)))) (opcode-is w)
+    ∙ ap (λ (gos : List Go). targetsOf (leadingTo (onward ws (pos (p + 1)) w) gos)) (gos-by (opcodeOf w) (omega arith)))
     (steps-by ws p e ∙ ap (λ (x : StepClass). nextOf x (length ws) w p) (class-by (opcodeOf w) (omega arith)))
     (shape-same ws (length ws) w p s)
     e
@@ -209,7 +209,7 @@ lean ws p e =
 -- where the case of a JMP leads
 jump-ways : (ws : List ℕ) (q : ℕ) → bodyAt ws q ≡ jmp → waysAt ws q ≡ fetch (dojump (pos (q + 1)) (getD ws q 0) (pos 0)) ∷ []
 unfolding waysAt
-jump-ways ws q e = ap (λ (b : Body). leading (onward ws (pos (q + 1)) (getD ws q 0)) (gosOf b)) e
+jump-ways ws q e = ap (λ (b : Body). leadingTo (onward ws (pos (q + 1)) (getD ws q 0)) (gosOf b)) e
 
 module _ (ws : List ℕ) (p : ℕ) where
   abbrev AlikeTo : List (Way Body) → Type 0
@@ -221,7 +221,7 @@ module _ (ws : List ℕ) (p : ℕ) where
   either : (t : Bool) (x y : ℤ) → AlikeTo (cond t (fetch x ∷ []) (fetch y ∷ []) ++ [])
   either t x y = subst AlikeTo (sym (append-nil (cond t (fetch x ∷ []) (fetch y ∷ [])))) (fetched jmp (bodyAt ws) (waysAt ws) t x y)
 
-  shape-alike : (s : Shape) → standsAt (wantedBy s) ws p ≡ true → AlikeTo (leading (onward ws (pos (p + 1)) (getD ws p 0)) (gosBy s))
+  shape-alike : (s : Shape) → standsAt (wantedBy s) ws p ≡ true → AlikeTo (leadingTo (onward ws (pos (p + 1)) (getD ws p 0)) (gosBy s))
   -- a JMP that is done at once
   shape-alike test h =
       let b : bodyAt ws (p + 1) ≡ jmp = body-by ws (p + 1) «OP_JMP» (eqb-true _ _ h) in
@@ -243,7 +243,7 @@ unfolding waysAt
 alike ws p e =
     let o : ℕ = opcodeAt ws p in
     let gos : gosOf (bodyAt ws p) ≡ gosBy (shapeAt o) = ap gosOf (body-by ws p o refl) ∙ gos-by o (opcode-fits ws p) in
-    subst (λ (gos : List Go). AlikeTo ws p (leading (onward ws (pos (p + 1)) (getD ws p 0)) gos)) (sym gos) (shape-alike ws p (shapeAt o) (lean ws p e))
+    subst (λ (gos : List Go). AlikeTo ws p (leadingTo (onward ws (pos (p + 1)) (getD ws p 0)) gos)) (sym gos) (shape-alike ws p (shapeAt o) (lean ws p e))
 
 pub agreement-holds : Agreement
 agreement-holds = record { same = same; alike = alike }

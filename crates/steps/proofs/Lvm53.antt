@@ -22,7 +22,7 @@ use Rattle.fields.proofs.Laws.{laws}
 use Rattle.steps.specs.lua53.Columns.{classFrom, companionFrom}
 use Rattle.sweep.specs.Steps.{one, two, isInvalid, listOf}
 use Rattle.steps.specs.lua53.Successors.{opcodeAt, nextOf, standsAt, companionPresent, successorsOf}
-use Rattle.steps.specs.Executions.{gosOf, leading}
+use Rattle.steps.specs.Executions.{gosOf, leadingTo}
 use Rattle.steps.specs.lua53.Lvm.{Go, vmbreak, «pc++», «pc++-if-C», «pc++-if-not-C», jump, donextjump}
 use Rattle.steps.specs.lua53.Lvm.{compared-0, compared-1, «pc+=sBx», «goto-l_tforloop», leave, Body, bodyOf}
 use Rattle.steps.specs.lua53.Lvm.{jmp, dojump, nextjump, compared, onward, bodyAt, waysAt, goesOn}
@@ -130,7 +130,7 @@ module _ (w : ℕ) where
 module _ (ws : List ℕ) (n w p : ℕ) where
   -- where the ways lead
   abbrev nexts : Shape → List ℤ
-  nexts s = targetsOf (leading (onward ws (pos (p + 1)) w) (gosBy s))
+  nexts s = targetsOf (leadingTo (onward ws (pos (p + 1)) w) (gosBy s))
 
   -- C decides between two words
   either-same : (t : Bool) (x y x′ y′ : ℤ) → x ≡ x′ → y ≡ y′ → isInvalid (cond t (one n x′) (one n y′)) ≡ false
@@ -192,8 +192,8 @@ same ws p e =
     let w : ℕ = getD ws p 0 in
     let s : Shape = shapeAt (opcodeOf w) in
     found-same (goesOn ws p) (nexts ws (length ws) w p s) (successorsOf ws p) (nextOf (classBy s) (length ws) w p)
-    (ap (λ (o : ℕ). targetsOf (leading (onward ws (pos (p + 1)) w) (gosOf (bodyOf o)))) (opcode-is w)
-    ∙ ap (λ (gos : List Go). targetsOf (leading (onward ws (pos (p + 1)) w) gos)) (gos-by (opcodeOf w) (omega arith)))
+    (ap (λ (o : ℕ). targetsOf (leadingTo (onward ws (pos (p + 1)) w) (gosOf (bodyOf o)))) (opcode-is w)
+    ∙ ap (λ (gos : List Go). targetsOf (leadingTo (onward ws (pos (p + 1)) w) gos)) (gos-by (opcodeOf w) (omega arith)))
     (steps-by ws p e ∙ ap (λ (x : StepClass). nextOf x (length ws) w p) (class-by (opcodeOf w) (omega arith)))
     (shape-same ws (length ws) w p s)
     e
@@ -229,7 +229,7 @@ lean ws p e =
 -- where the case of a JMP leads
 jump-ways : (ws : List ℕ) (q : ℕ) → bodyAt ws q ≡ jmp → waysAt ws q ≡ fetch (dojump (pos (q + 1)) (getD ws q 0) (pos 0)) ∷ []
 unfolding waysAt
-jump-ways ws q e = ap (λ (b : Body). leading (onward ws (pos (q + 1)) (getD ws q 0)) (gosOf b)) e
+jump-ways ws q e = ap (λ (b : Body). leadingTo (onward ws (pos (q + 1)) (getD ws q 0)) (gosOf b)) e
 
 module _ (ws : List ℕ) (p : ℕ) where
   abbrev AlikeTo : List (Way Body) → Type 0
@@ -245,7 +245,7 @@ module _ (ws : List ℕ) (p : ℕ) where
       let b : bodyAt ws (p + 1) ≡ jmp = body-by ws (p + 1) «OP_JMP» (eqb-true _ _ h) in
       at-once jmp (bodyAt ws) (waysAt ws) (p + 1) («GETARG_sBx» (getD ws (p + 1) 0)) (pos (p + 1) +ℤ pos 1) b (jump-ways ws (p + 1) b) t ways rest
 
-  shape-alike : (s : Shape) → standsAt (wantedBy s) ws p ≡ true → AlikeTo (leading (onward ws (pos (p + 1)) (getD ws p 0)) (gosBy s))
+  shape-alike : (s : Shape) → standsAt (wantedBy s) ws p ≡ true → AlikeTo (leadingTo (onward ws (pos (p + 1)) (getD ws p 0)) (gosBy s))
   shape-alike compare h =
       let a : ℕ = «GETARG_A» (getD ws p 0) in
       test-alike (eqb 0 a) h (compared ws (pos (p + 1)) (getD ws p 0) 1 ∷ []) (test-alike (eqb 1 a) h [] tt)
@@ -267,7 +267,7 @@ unfolding waysAt
 alike ws p e =
     let o : ℕ = opcodeAt ws p in
     let gos : gosOf (bodyAt ws p) ≡ gosBy (shapeAt o) = ap gosOf (body-by ws p o refl) ∙ gos-by o (opcode-fits ws p) in
-    subst (λ (gos : List Go). AlikeTo ws p (leading (onward ws (pos (p + 1)) (getD ws p 0)) gos)) (sym gos) (shape-alike ws p (shapeAt o) (lean ws p e))
+    subst (λ (gos : List Go). AlikeTo ws p (leadingTo (onward ws (pos (p + 1)) (getD ws p 0)) gos)) (sym gos) (shape-alike ws p (shapeAt o) (lean ws p e))
 
 pub agreement-holds : Agreement
 agreement-holds = record { same = same; alike = alike }

@@ -69,6 +69,6 @@ abbrev pub gosOf : {Go : Type 0} → List (Arm Go) → List Go
 gosOf [] = []
 gosOf (way ∷ ways) = goOf way ∷ gosOf ways
 
-abbrev pub leading : {Go X : Type 0} → (Go → List X) → List Go → List X
-leading onward [] = []
-leading onward (go ∷ gos) = onward go ++ leading onward gos
+abbrev pub leadingTo : {Go X : Type 0} → (Go → List X) → List Go → List X
+leadingTo onward [] = []
+leadingTo onward (go ∷ gos) = onward go ++ leadingTo onward gos

@@ -13,7 +13,7 @@ use Rattle.common.specs.Limits.{mostWords, mostConstants, mostNames}
 use Rattle.common.specs.Chain.{choose, answer}
 use Rattle.common.specs.Lowest.{First, lowest}
 use Rattle.common.proofs.Lowest.{lowest-laws}
-use Rattle.common.proofs.Order.{split}
+use Rattle.common.proofs.Order.{split, yes, no}
 use Rattle.values.specs.Spans.{past, namePastAt, firstNamePast}
 use Rattle.tables.specs.Refusals.{unknownTag, unknownTagAt, isString, stringPastAt, firstUnknownTag, firstStringPast, answerOf}
 use Rattle.tables.specs.Order as order
@@ -165,13 +165,6 @@ module _ (tags payloads names : List ℕ) (bytes : ℕ) where
   name-sought = sought (namePastAt names bytes) NamePast name-says (length names)
 
 -- The chain.
-
--- two things that both hold, and two of which neither does
-yes : {A B : Type 0} → A → B → A ↔ B
-yes a b = (λ h. b, λ h. a)
-
-no : {A B : Type 0} → (A → ⊥) → (B → ⊥) → A ↔ B
-no f g = (λ h. absurd (f h), λ h. absurd (g h))
 
 neither : (false ≡ true) ⊎ (false ≡ true) → ⊥
 neither = ⊎-elim false≢true false≢true

@@ -1,9 +1,4 @@
-pub mod Order
-pub mod Ranges
-pub mod Rising
-pub mod Unique
 pub mod Rows
-pub mod Answers
 pub mod Choices
 pub mod Cells
 pub mod Isk
@@ -13,5 +8,7 @@ pub mod Agree
 pub mod Heights
 pub mod Whole
 pub mod Meaning
+pub mod Examples
+pub mod Examples54
 pub mod Examples53
 pub mod Laws

@@ -18,7 +18,7 @@ use Rattle.graph.proofs.Laws as graph
 use Rattle.sweep.specs.Steps.{isInvalid, listOf}
 use Rattle.steps.specs.Ways as lvm
 use Rattle.steps.specs.Ways.{targetsOf, integers}
-use Rattle.steps.specs.Executions.{Arm, goOf, gosOf, leading}
+use Rattle.steps.specs.Executions.{Arm, goOf, gosOf, leadingTo}
 use Rattle.steps.specs.lua54.Lvm as lvm54
 use Rattle.steps.specs.lua53.Lvm as lvm53
 use Rattle.runs.specs.Script.{stepsOf}
@@ -30,7 +30,7 @@ use Rattle.touches.specs.Versions.{isStep, Go, Way, waysOf, next}
 use Rattle.touches.specs.Touched.{waysAt, Any, LeadsTo}
 use Rattle.touches.specs.Accesses.{OwnEdge, noEdge, «p+1», «p+2», «p+1-Bx», «p+1+sBx», edgeOf}
 use Rattle.touches.specs.Table.{edgeFrom, edgeNumber, opcodesOf}
-use Rattle.touches.proofs.Order.{split}
+use Rattle.locations.proofs.Order.{split}
 use Rattle.touches.proofs.Choices.{left-of, right-of}
 use Rattle.touches.proofs.Rows.{edge-back}
 
@@ -53,10 +53,10 @@ targets-append (x ∷ xs) ys z =
     )
 
 module _ {Go Body : Type 0} (onward : Go → List (lvm.Way Body)) (z : ℤ) where
-  led : (ways : List (Arm Go)) → Any (λ (w : Arm Go). In z (targetsOf (onward (goOf w)))) ways ↔ In z (targetsOf (leading onward (gosOf ways)))
+  led : (ways : List (Arm Go)) → Any (λ (w : Arm Go). In z (targetsOf (onward (goOf w)))) ways ↔ In z (targetsOf (leadingTo onward (gosOf ways)))
   led [] = (λ m. m, λ m. m)
   led (w ∷ ways) =
-      let parts = targets-append (onward (goOf w)) (leading onward (gosOf ways)) z in (
+      let parts = targets-append (onward (goOf w)) (leadingTo onward (gosOf ways)) z in (
         ⊎-elim (λ m. parts .1 (inl m)) (λ m. parts .1 (inr (led ways .0 m))),
         λ m. ⊎-elim (λ l. inl l) (λ r. inr (led ways .1 r)) (parts .0 m),
       )

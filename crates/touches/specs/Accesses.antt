@@ -38,5 +38,5 @@ abbrev pub onEdge : List Operand → List Operand → OwnEdge → List Operand �
 onEdge reads writes edge more = record { reads = reads; writes = writes; edge = edge; «edge-writes» = more }
 
 -- what the case of an opcode lists, nothing where there is none
-abbrev pub listedOf : List (Case Accesses) → ℕ → Accesses
-listedOf cases o = vmdispatch cases (always [] []) o
+abbrev pub accessesFor : List (Case Accesses) → ℕ → Accesses
+accessesFor cases o = vmdispatch cases (always [] []) o

@@ -5,12 +5,11 @@ pub mod Operands
 pub mod Accesses
 pub mod lua54
 pub mod lua53
-pub mod Canonical
-pub mod Lists
 pub mod Cells
 pub mod Versions
 pub mod Touches
 pub mod Touched
 pub mod Meaning
+pub mod Examples
 pub mod Table
 pub mod Laws

@@ -1,2 +1,3 @@
 -- Lua 5.4.8.
 pub mod Cases
+pub mod Examples

@@ -18,20 +18,20 @@ ghost use Rattle.touches.specs.Table.{
   touchesWith,
 };
 ghost use Rattle.touches.specs.Touches.{touchesBy, touchesFor, touchesOf};
-use crate::answer::Touches;
 use crate::arguments::Arguments;
 use crate::arguments::arguments_of;
 use crate::arguments::arguments_of_53;
-use crate::indices::constants_in;
-use crate::indices::upvalues_in;
-use crate::intervals::ranges_in;
-use crate::locations::Location;
-use crate::locations::location_of;
+use crate::locating::location_of;
 use crate::lua53::table::TABLE_53;
 use crate::lua54::table::ACCESSES;
 use crate::operands::*;
-use crate::tops::top_in;
 use fields::lua53::word::OFFSET_SBX;
+use locations::answer::Touches;
+use locations::indices::constants_in;
+use locations::indices::upvalues_in;
+use locations::intervals::ranges_in;
+use locations::location::Location;
+use locations::tops::top_in;
 use sweep::edges::Successors;
 
 // By value: reading a constant array copies it, so a loop takes the table once and lends it to `touches_in`.

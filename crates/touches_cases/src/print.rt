@@ -1,13 +1,13 @@
 // What the cases print: only lists that hold something.
+use locations::answer::Indices;
+use locations::answer::Range;
+use locations::answer::Ranges;
+use locations::answer::Top;
+use locations::answer::Touches;
 use print_cases::end;
 use print_cases::number;
 use print_cases::number_u32;
 pub use print_cases::text;
-use touches::answer::Indices;
-use touches::answer::Range;
-use touches::answer::Ranges;
-use touches::answer::Top;
-use touches::answer::Touches;
 
 fn range(r: Range) {
     number(r.first as u64);

@@ -57,7 +57,7 @@ use Rattle.steps.specs.Executions.{
   Arm,
   arm,
   gosOf,
-  leading,
+  leadingTo,
 }
 
 -- how a case goes on, pc being past the word
@@ -246,7 +246,7 @@ bodyAt ws p = bodyOf («GET_OPCODE» (getD ws p 0))
 
 -- how luaV_execute can go on after word p, `i = *(ci->u.l.savedpc++)`
 unfoldable pub waysAt : List ℕ → ℕ → List (Way Body)
-waysAt ws p = leading (onward ws (pos (p + 1)) (getD ws p 0)) (gosOf (bodyAt ws p))
+waysAt ws p = leadingTo (onward ws (pos (p + 1)) (getD ws p 0)) (gosOf (bodyAt ws p))
 
 -- the words at which it can go on
 abbrev pub goesOn : List ℕ → ℕ → List ℤ

@@ -1,56 +1,24 @@
 -- Lists of Lua 5.3 by hand: words of each opcode by its number in lopcodes.h and by the bits of its fields
 -- there, then corners of RK, counts, tops, loops and bad words. What each touches is read off lopcodes.h and
--- lvm.c of 5.3.6 once more, so that no line of Cases53 and Executions53 is its only carrier.
+-- lvm.c of 5.3.6 once more, so that no line of specs/lua53/Cases.antt and steps/specs/lua53/Lvm.antt is its
+-- only carrier.
 -- Assumes nothing.
 use Prim.Native.Nat.{ℕ, _+_, _*_}
-use mathlib.Core.Path.{_≡_}
-use mathlib.Core.Bool.{cond}
-use mathlib.Core.List.{List, [], _∷_, _++_}
-use lib.Dec.{eqb}
-use Rattle.fields.specs.declared.version.Version.the-variants.{Lua53}
-use Rattle.touches.specs.declared.answer.Range.{Range}
-use Rattle.touches.specs.declared.answer.Top.{Top}
-use Rattle.touches.specs.declared.answer.Touches.{Touches}
-use Rattle.touches.specs.Touches.{touchesFor}
-use Rattle.touches.specs.Meaning.{rangesIn, numbersIn}
-
--- what an answer lists, an item at a time
-pub data TouchedItem : Type 0 where
-  -- registers, the first and the last
-  reads : ℕ → ℕ → TouchedItem
-  -- registers from this one up to the top
-  reads-from : ℕ → TouchedItem
-  constant : ℕ → TouchedItem
-  upvalue : ℕ → TouchedItem
-  writes : ℕ → ℕ → TouchedItem
-  writes-from : ℕ → TouchedItem
-  -- an upvalue that is written
-  sets : ℕ → TouchedItem
-  -- only on the step to a word, which stands first
-  writes-to : ℕ → ℕ → ℕ → TouchedItem
-
-abbrev ranged : (ℕ → ℕ → TouchedItem) → List Range → List TouchedItem
-ranged item [] = []
-ranged item (r ∷ rs) = item (r .first) (r .last) ∷ ranged item rs
-
-abbrev indexed : (ℕ → TouchedItem) → List ℕ → List TouchedItem
-indexed item [] = []
-indexed item (n ∷ ns) = item n ∷ indexed item ns
-
-abbrev topped : (ℕ → TouchedItem) → Top → List TouchedItem
-topped item t = cond (eqb (t .count) 0) [] (item (t .first) ∷ [])
-
--- all of them, list by list
-abbrev pub itemsOf : Touches → List TouchedItem
-itemsOf t =
-    ranged reads (rangesIn (t .reads))
-    ++ (topped reads-from (t .«reads_to_top»)
-    ++ (indexed constant (numbersIn (t .constants))
-    ++ (indexed upvalue (numbersIn (t .upvalues))
-    ++ (ranged writes (rangesIn (t .writes))
-    ++ (topped writes-from (t .«writes_to_top»)
-    ++ (indexed sets (numbersIn (t .«upvalue_writes»))
-    ++ ranged (writes-to (t .edge)) (rangesIn (t .«edge_writes»))))))))
+use mathlib.Core.List.{List, [], _∷_}
+use Rattle.touches.specs.Examples.{
+  reads,
+  reads-from,
+  constant,
+  upvalue,
+  writes,
+  writes-from,
+  sets,
+  writes-to,
+  Example,
+  at,
+  alone,
+  along,
+}
 
 -- words by their fields: the opcode in bits 0 to 5, A from 6, C from 14, B from 23, Bx from 14, Ax
 -- from 6; sBx is Bx - 131,071
@@ -62,24 +30,6 @@ abx opcode a bx = opcode + 64 * a + 16384 * bx
 
 abbrev ax : ℕ → ℕ → ℕ
 ax opcode extra = opcode + 64 * extra
-
-pub data Example : Type 0 where
-  -- of these words, the one of this number touches this
-  at : List ℕ → ℕ → List TouchedItem → Example
-
-abbrev pub ExampleHolds : Example → Type 0
-ExampleHolds (at words p items) = itemsOf (touchesFor Lua53 words p) ≡ items
-
-abbrev pub ExamplesHold : List Example → Type 0
-ExamplesHold [] = Unit {0}
-ExamplesHold (example ∷ examples) = ExampleHolds example × ExamplesHold examples
-
--- word 1 of four; word 0 is a MOVE, and so are those after it, or those after the one that it wants there
-abbrev alone : ℕ → List TouchedItem → Example
-alone word items = at (0 ∷ word ∷ 0 ∷ 0 ∷ []) 1 items
-
-abbrev along : ℕ → ℕ → List TouchedItem → Example
-along word companion items = at (0 ∷ word ∷ companion ∷ 0 ∷ []) 1 items
 
 -- with A 5, B 7 and C 260, which as RK(C) is constant 4, or as said
 abbrev pub examples : List Example

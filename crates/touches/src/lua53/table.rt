@@ -96,7 +96,7 @@ pub const TABLE_53: [u64; 64] = [
     READ * R_A_1 + EDGE * P_1_SBX + ON_EDGE * R_A,
     // OP_SETLIST: R(A)[(C-1)*FPF+i] := R(A+i), 1 <= i <= B
     READ * R_A + READ_2 * ELEMENTS,
-    // OP_CLOSURE: R(A) := closure(KPROTO[Bx]); what it
+    // OP_CLOSURE: R(A) := closure(KPROTO[Bx])
     WRITE * R_A,
     // OP_VARARG: R(A), R(A+1), ..., R(A+B-2) = vararg
     WRITE * RETURNED,

@@ -3,7 +3,7 @@ use mathlib.Core.List.{List}
 use Prim.Native.Nat.{ℕ}
 use lib.Bits.{bitOr}
 use borrow.Author.Needs.{needs}
-use Rattle.touches.specs.declared.answer.Range.{Range}
+use Rattle.locations.specs.declared.answer.Range.{Range}
 use Rattle.assignment.specs.Uses.{inRanges}
 use Rattle.assignment.specs.Blocks.{HoldsBits}
 use Rattle.assignment.proofs.Within.{of-none, of-one, of-two, of-three}

@@ -5,14 +5,14 @@ use native.Mathlib.Omega.{arith}
 use lib.ListN.{length, getD}
 use borrow.Author.Needs.{needs}
 use Rattle.common.proofs.Writing.{Writing, writing-none, writing-more, writing-done, Ahead, ahead-more}
-use Rattle.service.specs.Pairs.{«LENGTHS», distanceIn, lengthIn, listedBy}
+use Rattle.service.specs.Pairs.{«LENGTHS», distanceIn, pairedLength, listedBy}
 use Rattle.service.proofs.PairedWords.{whole}
 use Rattle.service.proofs.within.write_list.Statement.{statement}
 use Rattle.service.proofs.within.write_list.Tie as tie
 
 abbrev Inv-loop : tie.InvT-loop
 Inv-loop d lengths₀ list₀ n i₀ lengths list i =
-    Writing (lengthIn lengths₀) (length lengths₀) lengths₀ lengths i
+    Writing (pairedLength lengths₀) (length lengths₀) lengths₀ lengths i
     × (Ahead lengths₀ lengths i × Writing (λ p. listedBy d (distanceIn lengths₀ p)) (length lengths₀) list₀ list i)
 
 abbrev μ-loop : tie.MeasureT-loop
@@ -46,7 +46,7 @@ loop-again c =
     let s = start t in
     let v = loop t .loop .inv in
     let e = v .1 .0 (loop t .loop .i) (omega arith) in (
-      writing-more (lengthIn (l s)) (length (l s)) (l s) (v .0) (t .loop-test .taken) (ap (λ (x : ℕ). x % «LENGTHS») e),
+      writing-more (pairedLength (l s)) (length (l s)) (l s) (v .0) (t .loop-test .taken) (ap (λ (x : ℕ). x % «LENGTHS») e),
       (
         ahead-more (l s) (loop t .loop .lengths) (loop t .loop .i) (getD (loop t .loop .lengths) (loop t .loop .i) 0 % «LENGTHS») (v .1 .0),
         writing-more (listed s) (length (l s)) _ (v .1 .1) (t .loop-test .taken) (c .listed .ensures ∙ ap (λ (x : ℕ). listedBy (s .args .d) (x / «LENGTHS»)) e),
@@ -57,7 +57,7 @@ returns : tie.Need-returns Inv-loop μ-loop
 returns c =
     let s = c .before .before .before .before in
     let v = c .before .loop .inv in (
-      whole (lengthIn (l s)) (l s) (writing-done (lengthIn (l s)) (length (l s)) (l s) (v .0) (c .loop-test .left)),
+      whole (pairedLength (l s)) (l s) (writing-done (pairedLength (l s)) (length (l s)) (l s) (v .0) (c .loop-test .left)),
       writing-done (listed s) (length (l s)) _ (v .1 .1) (c .loop-test .left),
     )
 

@@ -1,4 +1,4 @@
--- `touches::word::table` meets its contract: antt computes the 128 numbers from the cases and holds the table against
+-- `touches::word::access_table` meets its contract: antt computes the 128 numbers from the cases and holds the table against
 -- them.
 -- Assumes nothing.
 use Rattle.touches.proofs.Choices.{by-test}
