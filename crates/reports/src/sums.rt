@@ -14,12 +14,20 @@ fn put_refused_part(page: &mut [u8], s: PageState, refused: u64) -> PageState {
     )
 }
 
-fn put_over_part(page: &mut [u8], s: PageState, over: u64, limit: u64) -> PageState {
+// Where all are refused it is not known.
+fn put_over_part(
+    page: &mut [u8],
+    s: PageState,
+    over: u64,
+    limit: u64,
+    is_unknown: bool,
+) -> PageState {
     let text = either(over == 0, b", none over the limit", b", # over the limit");
+    let known = either(is_unknown, b"", text);
     fill(
         page,
         s,
-        either(limit == NO_LIMIT, b"", text),
+        either(limit == NO_LIMIT, b"", known),
         [over, 0, 0, 0],
     )
 }
@@ -67,6 +75,6 @@ pub fn put_sum(
     let a = put_most(page, s, most, is_weighted, n, refused);
     let count = either(n == 1, b"# function", b"# functions");
     let b = fill(page, a, count, [n, 0, 0, 0]);
-    let c = put_over_part(page, b, over, limit);
+    let c = put_over_part(page, b, over, limit, refused == n);
     put_refused_part(page, c, refused)
 }
