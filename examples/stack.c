@@ -116,16 +116,17 @@ static int leave(void) {
 /* The running function goes to a word. */
 static int go(size_t q) {
     struct activation *a;
-    uint32_t services;
+    int serves;
     uint64_t told, alive = 0;
     if (deep == 0)
         return alarm("nothing runs");
     a = &stack[deep - 1];
-    services = a->meter.services;
+    /* By the step: the meter's services stay at 4,294,967,295 once they are there. */
+    serves = a->meter.begun && q <= a->meter.last;
     if (lawendeb_feed(a->function->words, a->function->n, weights, LAWENDEB_WEIGHTS, &a->meter, q)
             .number != LAWENDEB_ACCEPTED)
         return alarm("no step");
-    if (a->meter.services != services)
+    if (serves)
         serve();
     since++;
     told = left + a->meter.count;

@@ -1,4 +1,4 @@
-//! bench [ROUNDS]: nanoseconds a word or feed, every side in one run, as the tables of docs/BENCHMARKS.md.
+//! bench [ROUNDS]: nanoseconds a word or feed, every side in one run, as the tables of docs/benchmarks.txt, part 1.
 
 mod heap;
 mod rows;

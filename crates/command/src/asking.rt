@@ -17,15 +17,18 @@ pub enum Awaits {
     Anything,
     Limit,
     Weights,
+    Name,
 }
 
-// The arguments by number: the file with the weights, 0 for none, and the script.
+// The arguments by number: the file with the weights and the name that the script is told by, each 0 for
+// none, and the script.
 pub struct Asked {
     pub wish: Wish,
     pub awaits: Awaits,
     pub limit: u64,
     pub is_json: bool,
     pub weights: usize,
+    pub name: usize,
     pub file: usize,
 }
 
@@ -64,6 +67,7 @@ fn wished(a: Asked, wish: Wish) -> Asked {
         limit: a.limit,
         is_json: a.is_json,
         weights: a.weights,
+        name: a.name,
         file: a.file,
     }
 }
@@ -76,6 +80,7 @@ fn awaiting(a: Asked, awaits: Awaits) -> Asked {
         limit: a.limit,
         is_json: a.is_json,
         weights: a.weights,
+        name: a.name,
         file: a.file,
     }
 }
@@ -91,6 +96,7 @@ fn with_limit(a: Asked, limit: u64, i: usize) -> Asked {
         limit,
         is_json: a.is_json,
         weights: a.weights,
+        name: a.name,
         file: a.file,
     }
 }
@@ -103,6 +109,20 @@ fn with_weights(a: Asked, i: usize) -> Asked {
         limit: a.limit,
         is_json: a.is_json,
         weights: i,
+        name: a.name,
+        file: a.file,
+    }
+}
+
+fn with_name(a: Asked, i: usize) -> Asked {
+    let wish = a.wish;
+    Asked {
+        wish,
+        awaits: Awaits::Anything,
+        limit: a.limit,
+        is_json: a.is_json,
+        weights: a.weights,
+        name: i,
         file: a.file,
     }
 }
@@ -119,6 +139,7 @@ fn with_file(a: Asked, i: usize) -> Asked {
         limit: a.limit,
         is_json: a.is_json,
         weights: a.weights,
+        name: a.name,
         file: i,
     }
 }
@@ -131,6 +152,7 @@ fn with_json(a: Asked) -> Asked {
         limit: a.limit,
         is_json: true,
         weights: a.weights,
+        name: a.name,
         file: a.file,
     }
 }
@@ -142,6 +164,9 @@ fn with_option(a: Asked, text: &[u8], i: usize) -> Asked {
     }
     if is_same(text, b"--weights") {
         return awaiting(a, Awaits::Weights);
+    }
+    if is_same(text, b"--name") {
+        return awaiting(a, Awaits::Name);
     }
     if is_same(text, b"--json") {
         return with_json(a);
@@ -169,6 +194,7 @@ fn with_argument(a: Asked, text: &[u8], i: usize) -> Asked {
         Awaits::Anything => with_option(a, text, i),
         Awaits::Limit => with_limit(a, decimal(text), i),
         Awaits::Weights => with_weights(a, i),
+        Awaits::Name => with_name(a, i),
     }
 }
 
@@ -202,6 +228,7 @@ pub fn read_all() -> Asked {
         limit: NO_LIMIT,
         is_json: false,
         weights: 0,
+        name: 0,
         file: 0,
     };
     for i in 1..os::arg_count() {

@@ -9,7 +9,7 @@ fn put_purpose(page: &mut [u8], s: PageState) -> PageState {
     let a = put(
         page,
         s,
-        b"lawendeb [--limit N] [--weights FILE] [--json] FILE\n",
+        b"lawendeb [--limit N] [--weights FILE] [--json | --html] [--name NAME] FILE\n",
     );
     let b = put(
         page,
@@ -23,28 +23,39 @@ fn put_purpose(page: &mut [u8], s: PageState) -> PageState {
     )
 }
 
-// The options.
-fn put_options(page: &mut [u8], s: PageState) -> PageState {
+// The options that say what is counted.
+fn put_counting(page: &mut [u8], s: PageState) -> PageState {
     let a = put(
         page,
         s,
         b"  --limit N       only the functions with more than N, and line by line how they get there\n",
     );
-    let b = put(
+    put(
         page,
         a,
         b"  --weights FILE  a line as `CONCAT 40` for each opcode that does not weigh 1, up to 255\n",
+    )
+}
+
+// The options that say how it is told. `--html` is for the script before this program.
+fn put_telling(page: &mut [u8], s: PageState) -> PageState {
+    let a = put(page, s, b"  --json          one object a line\n");
+    let b = put(
+        page,
+        a,
+        b"  --html          a page of the source (needs python3)\n",
     );
-    let c = put(page, b, b"  --json          one object a line\n");
+    let c = put(page, b, b"  --name NAME     tells of FILE by this name\n");
     put(page, c, b"  --version       which release this is\n\n")
 }
 
 pub fn put_usage(page: &mut [u8], s: PageState) -> PageState {
     let a = put_purpose(page, s);
-    let b = put_options(page, a);
+    let b = put_counting(page, a);
+    let c = put_telling(page, b);
     put(
         page,
-        b,
+        c,
         b"FILE is what `luac -o FILE SCRIPT.lua` writes, up to 4 MiB; `-s` strips it of its lines.\n",
     )
 }

@@ -71,7 +71,8 @@ shortLength = 40
 abbrev pub mostRegisters : ℕ
 mostRegisters = 65536
 
--- the owner's command: bytes of a file, and functions in it, that there is room for; more are refused by 6
+-- the owner's command: bytes of a file, and functions in it, that there is room for; more bytes are refused
+-- by 15, more functions by 6
 abbrev pub fileBytes : ℕ
 fileBytes = 4194304
 

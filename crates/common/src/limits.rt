@@ -50,7 +50,7 @@ pub const SHORT_LENGTH: usize = 40;
 // Registers are numbers of 16 bits, so many of them (request C-14).
 pub const MOST_REGISTERS: usize = 65536;
 
-// Number 6, of the owner's command: bytes of a file, and functions in it.
+// The owner's command: bytes of a file, more are refused by 15, and functions in it, more are refused by 6.
 pub const FILE_BYTES: usize = 4194304;
 
 pub const MOST_FUNCTIONS: usize = 131072;

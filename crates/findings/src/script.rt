@@ -35,7 +35,7 @@ pub fn source(bytes: &[u8], at: usize) -> &[u8] {
     )
 }
 
-// A function that is refused: no word of its run is told.
+// A function that is refused: nothing of its run is told, nor counts for the most.
 fn refused(f: Function, number: u64, place: u64) -> Function {
     Function {
         number,
@@ -46,8 +46,8 @@ fn refused(f: Function, number: u64, place: u64) -> Function {
         first_line: f.first_line,
         last_line: f.last_line,
         parameters: f.parameters,
-        longest: f.longest,
-        start: f.start,
+        longest: 0,
+        start: 0,
         count: 0,
     }
 }

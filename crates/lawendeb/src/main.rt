@@ -102,23 +102,40 @@ fn tell_open(
     }
 }
 
-// Tells of a script by its name.
-fn tell_file(file: &[u8], o: Options, weights: &[u8], page: &mut [u8], s: PageState) -> PageState {
+// Tells of a script by a name.
+fn tell_file(
+    file: &[u8],
+    name: &[u8],
+    o: Options,
+    weights: &[u8],
+    page: &mut [u8],
+    s: PageState,
+) -> PageState {
     let fd = os::open_read(file);
     if fd < 0 {
-        os::fail(file);
+        os::fail(name);
         return s;
     }
-    let t = tell_open(fd, file, o, weights, page, s);
+    let t = tell_open(fd, name, o, weights, page, s);
     libc::close(fd);
     t
 }
 
-// Tells of a script by its argument.
-fn tell_argument(i: usize, o: Options, weights: &[u8], page: &mut [u8], s: PageState) -> PageState {
+// The argument that has the script's name: its own where no other is asked for.
+fn named(a: Asked) -> usize {
+    if a.name == 0 {
+        return a.file;
+    }
+    a.name
+}
+
+// Tells of a script by its arguments.
+fn tell_argument(a: Asked, o: Options, weights: &[u8], page: &mut [u8], s: PageState) -> PageState {
     let mut file = io::buffer();
-    let n = os::arg(i, &mut file);
-    tell_file(&file[..n], o, weights, page, s)
+    let n = os::arg(a.file, &mut file);
+    let mut name = io::buffer();
+    let k = os::arg(named(a), &mut name);
+    tell_file(&file[..n], &name[..k], o, weights, page, s)
 }
 
 // The weights in an open file; or which of its lines can't be read, and then nothing more is told.
@@ -132,7 +149,7 @@ fn tell_weighed(fd: i32, name: &[u8], a: Asked, page: &mut [u8], s: PageState) -
             if line != 0 {
                 return put_bad_line(page, s, name, line);
             }
-            return tell_argument(a.file, options(a, true), &weights, page, s);
+            return tell_argument(a, options(a, true), &weights, page, s);
         }
         Reading::Longer => {
             return put_bad_line(page, s, name, 0);
@@ -169,7 +186,7 @@ fn tell_by_weights(a: Asked, page: &mut [u8], s: PageState) -> PageState {
 // With weights of 1.
 fn tell_by_words(a: Asked, page: &mut [u8], s: PageState) -> PageState {
     let weights = rooms::weights();
-    tell_argument(a.file, options(a, false), &weights, page, s)
+    tell_argument(a, options(a, false), &weights, page, s)
 }
 
 fn answer(a: Asked, page: &mut [u8], s: PageState) -> PageState {

@@ -14,18 +14,36 @@ fn put_refused_part(page: &mut [u8], s: PageState, refused: u64) -> PageState {
     )
 }
 
-fn put_over_part(page: &mut [u8], s: PageState, over: u64, limit: u64) -> PageState {
+// Where all are refused it is not known.
+fn put_over_part(
+    page: &mut [u8],
+    s: PageState,
+    over: u64,
+    limit: u64,
+    is_unknown: bool,
+) -> PageState {
     let text = either(over == 0, b", none over the limit", b", # over the limit");
+    let known = either(is_unknown, b"", text);
     fill(
         page,
         s,
-        either(limit == NO_LIMIT, b"", text),
+        either(limit == NO_LIMIT, b"", known),
         [over, 0, 0, 0],
     )
 }
 
-// The most, what it is of, and how many functions there are.
-fn put_most(page: &mut [u8], s: PageState, most: u64, is_weighted: bool, n: u64) -> PageState {
+// The most, and of which functions it is: of those that are not refused, where there are any.
+fn put_most(
+    page: &mut [u8],
+    s: PageState,
+    most: u64,
+    is_weighted: bool,
+    n: u64,
+    refused: u64,
+) -> PageState {
+    if refused == n {
+        return s;
+    }
     let a = fill(
         page,
         s,
@@ -35,14 +53,13 @@ fn put_most(page: &mut [u8], s: PageState, most: u64, is_weighted: bool, n: u64)
     let b = put(
         page,
         a,
-        b" of each function; in a script whose calls nest d deep, up to d times as much\n",
+        either(
+            refused == 0,
+            b" of each function; in a script whose calls nest d deep,",
+            b" of each function that is not refused; where calls of these alone nest d deep,",
+        ),
     );
-    fill(
-        page,
-        b,
-        either(n == 1, b"# function", b"# functions"),
-        [n, 0, 0, 0],
-    )
+    put(page, b, b" up to d times as much\n")
 }
 
 pub fn put_sum(
@@ -55,7 +72,9 @@ pub fn put_sum(
     refused: u64,
     most: u64,
 ) -> PageState {
-    let a = put_most(page, s, most, is_weighted, n);
-    let b = put_over_part(page, a, over, limit);
-    put_refused_part(page, b, refused)
+    let a = put_most(page, s, most, is_weighted, n, refused);
+    let count = either(n == 1, b"# function", b"# functions");
+    let b = fill(page, a, count, [n, 0, 0, 0]);
+    let c = put_over_part(page, b, over, limit, refused == n);
+    put_refused_part(page, c, refused)
 }

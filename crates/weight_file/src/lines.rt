@@ -2,6 +2,7 @@
 ghost use Prim.Native.Nat.{_≤_};
 use crate::names::NONE;
 use crate::names::opcode_named;
+use common::limits::HEAVIEST_WEIGHT;
 use pages::before;
 use pages::byte_at;
 use pages::first;
@@ -51,7 +52,7 @@ fn weighed(opcode: u8, weight: u32) -> Entry {
     if weight == 0 {
         return Entry::Bad;
     }
-    if 255 < weight {
+    if HEAVIEST_WEIGHT < weight as usize {
         return Entry::Bad;
     }
     Entry::Weight(opcode, weight as u8)

@@ -219,7 +219,7 @@ pub fn put_too_long(page: &mut [u8], s: PageState, file: &[u8]) -> PageState {
 }
 
 // The last object: how many functions there are, how many are over the limit and refused, and the
-// most that can pass in one.
+// most that can pass in one that is not refused, absent where all are.
 pub fn put_sum(
     page: &mut [u8],
     s: PageState,
@@ -228,10 +228,13 @@ pub fn put_sum(
     refused: u64,
     most: u64,
 ) -> PageState {
+    let a = fill(page, s, b"{\"functions\":#", [functions, 0, 0, 0]);
+    let part = either(refused == functions, b"", b",\"most\":#");
+    let b = fill(page, a, part, [most, 0, 0, 0]);
     fill(
         page,
-        s,
-        b"{\"functions\":#,\"most\":#,\"over\":#,\"refused\":#}\n",
-        [functions, most, over, refused],
+        b,
+        b",\"over\":#,\"refused\":#}\n",
+        [over, refused, 0, 0],
     )
 }
