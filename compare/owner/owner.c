@@ -36,7 +36,7 @@ static void bad(const char *what, size_t k) {
 }
 
 static int is_step(const uint32_t *w, size_t n, uint32_t p, uint32_t q) {
-    struct lawendeb_successors s = lawendeb_successors(w, n, p);
+    struct lawendeb_steps s = lawendeb_successors(w, n, p);
     return (s.kind >= 2 && s.first == q) || (s.kind == 3 && s.second == q);
 }
 
@@ -59,7 +59,7 @@ static void check_path(size_t k, size_t n) {
         bad("the path's start", k);
     for (size_t i = 0; i < r.count && i < n; i++) {
         uint32_t p = path[i];
-        struct lawendeb_successors s = lawendeb_successors(words, n, p);
+        struct lawendeb_steps s = lawendeb_successors(words, n, p);
         uint64_t to[2] = {s.first, s.second}, best = 0, found = 0, at = 0;
         for (size_t j = 0; j + 2 <= s.kind && j < 2; j++)
             if (to[j] > p && (!found || lengths[to[j]] > best)) {
