@@ -1,7 +1,7 @@
 -- The limits of documents 01 and 02 by their own numbers, beside the names that contracts cite: one that is
 -- changed in its definition and in the code alike is refused here. By number stand also those of C-20 and
 -- C-21, and a chunk's bytes, in the statements of budget, rehearsal and chunk, the services in meter's, and
--- the largest word in sheet's. The last three fields are no document's numbers.
+-- the largest word in sheet's. The last two fields are no document's numbers.
 -- Assumes nothing.
 use Prim.Native.Nat.{ℕ}
 use mathlib.Core.Path.{_≡_}
