@@ -10,15 +10,15 @@ use Rattle.common.proofs.Put.{put_laws}
 use Rattle.common.proofs.text.put_text.Statement.{statement}
 use Rattle.common.proofs.text.put_text.Tie as tie
 
-abbrev invariant_loop : tie.invariant-loop
+abbrev invariant_loop : tie.invariant-loop-i
 invariant_loop page₀ at text i₀ page i = (i ≤ length text) × (length page ≡ length page₀) × (page ≡ put page₀ at (take i text))
 
-abbrev decreases_loop : tie.decreases-loop
+abbrev decreases_loop : tie.decreases-loop-i
 decreases_loop page₀ at text i₀ page i = length text - i
 
-loop_again : tie.Need-loop-preserved invariant_loop decreases_loop
+loop_again : tie.Need-loop-i-preserved invariant_loop decreases_loop
 loop_again c =
-    let l = c.before.before.loop in
+    let l = c.before.before.loop-i in
     let s = c.before.before.before in (
       omega arith,
       simp length-set l.invariant.1,
@@ -28,7 +28,7 @@ loop_again c =
 
 returns : tie.Need-returns invariant_loop decreases_loop
 returns c =
-    let l = c.before.loop in
+    let l = c.before.loop-i in
     let s = c.before.before.args in
     let e : l.i ≡ length s.text.now = omega arith in
     l.invariant.2 ∙ ap (λ (t : List ℕ). put s.page.now s.at t) (rw e (take-length s.text.now))
@@ -46,5 +46,5 @@ put_text_spec =
     (λ c. omega arith)
     (λ c. omega arith)
     loop_again
-    (λ c. c.before.loop.invariant.1)
+    (λ c. c.before.loop-i.invariant.1)
     returns)

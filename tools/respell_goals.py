@@ -1,0 +1,101 @@
+#!/usr/bin/env python3
+"""Brings the generated names that a proof by hand cites to today's, in the crates that are named.
+
+usage: tools/respell_goals.py NAME..      at the top of the repository, each crate's dependencies built
+
+`rt check --generated DIR --old-names` lists for each function how places, steps, loops and goals were called and are
+called. In proofs/MODULE/F/Proof.antt `tie.Then1`, `.if1`, `tie.Need-returns-2` become what is listed. Dashes and
+underscores are alike in the old names. A file that cites none is left as it is. Run it once for each crate: `returns` may be an old name and a new one."""
+
+import json
+import os
+import re
+import subprocess
+import sys
+import tempfile
+
+WORD = r"[A-Za-z0-9_+·'μ\-]+"
+
+
+def norm(x):
+    x = x.replace("_", "-")
+    x = re.sub(r"^(After-)?(shared-|mut-)?slice-", r"\1slice-", x)
+    return re.sub(r"-?(\d+)$", r"\1", x)
+
+
+def table(pairs):
+    out = {}
+    for old, new in pairs:
+        if old:
+            out.setdefault(norm(old), new)
+    return out
+
+
+def turn(text, d):
+    places = [(p[0], n) for p, n in zip(d["places"], d["places_by_name"])]
+    places += [(p[0], p[1]) for p in d.get("asked_at", [])]
+    steps = [tuple(p[2]) for p in d["places"] if p[2] and p[2][0]]
+    loops = [tuple(l[0]) for l in d["loops"]]
+    needs = [tuple(n) for n in d["needs"]]
+    place, step, need = table(places), table(steps), table(needs)
+    known = {n for _, n in places} | {n for _, n in steps}
+    loop = {}
+    for old, new in loops:
+        for head in ("invariant-", "decreases-"):
+            loop[norm(head + old)] = head + new
+        step.setdefault(norm(old), new)
+        step.setdefault(norm(old + "-test"), new + "-test")
+
+    def of_tie(m):
+        w = m[1]
+        if w.startswith("Need-"):
+            return "tie.Need-" + need.get(norm(w[5:]), w[5:])
+        if norm(w) in loop:
+            return "tie." + loop[norm(w)]
+        return "tie." + (w if w in known else place.get(norm(w), w))
+
+    def field(m):
+        w = m[1]
+        if w in known or w in ("before", "args", "now", "ensures"):
+            return m[0]
+        return "." + step.get(norm(w), w)
+
+    text = re.sub(r"(?<![\w.\-])tie\.(" + WORD + ")", of_tie, text)
+    lines = text.split("\n")
+    for i, l in enumerate(lines):
+        if not l.startswith("use "):
+            lines[i] = re.sub(r"(?<!tie)\.(?!\d)(" + WORD + ")", field, l)
+    return "\n".join(lines)
+
+
+def main(names):
+    for c in names:
+        top = os.path.join("crates", c)
+        with tempfile.TemporaryDirectory() as d:
+            r = subprocess.run(["rt", "check", "--generated", os.path.join(d, "n"), "--old-names"], cwd=top, capture_output=True, text=True)
+            path = os.path.join(d, "n", "names.json")
+            if not os.path.exists(path):
+                print(f"{c}: no names: {(r.stdout + r.stderr)[-600:]}")
+                continue
+            with open(path) as f:
+                listed = json.load(f)
+        n = 0
+        for key, it in listed.items():
+            m = re.fullmatch(r"Rattle-[^.]*\.(.*)\.Lts(.*)", key)
+            if not m:
+                continue
+            file = os.path.join(top, "proofs", *m[1].split("."), "Proof.antt")
+            if not os.path.exists(file):
+                continue
+            with open(file) as f:
+                old = f.read()
+            new = turn(old, it)
+            if new != old:
+                with open(file, "w") as f:
+                    f.write(new)
+                n += 1
+        print(f"{c}: {n} files of {len(listed)} functions")
+
+
+if __name__ == "__main__":
+    main(sys.argv[1:])
