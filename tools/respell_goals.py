@@ -20,6 +20,7 @@ WORD = r"[A-Za-z0-9_+·'μ\-]+"
 def norm(x):
     x = x.replace("_", "-")
     x = re.sub(r"^(After-)?(shared-|mut-)?slice-", r"\1slice-", x)
+    x = re.sub(r"^overflow-", "", x)
     return re.sub(r"-?(\d+)$", r"\1", x)
 
 
@@ -60,6 +61,13 @@ def turn(text, d):
             return m[0]
         return "." + step.get(norm(w), w)
 
+    for arm in d["arms"]:
+        for new, old, path in arm[2] if arm else []:
+            if path:
+                text = re.sub(rf"\.{re.escape(old)}\.{re.escape('.'.join(path))}(?![\w\-])", f".{arm[0]}.{new}", text)
+            elif old:
+                text = re.sub(rf"\.{re.escape(old)}\.rest(?![\w\-])", f".{arm[0]}.{new}.rest", text)
+    text = text.replace(".type-inv", ".type_inv").replace(".well-formed", ".well_formed")
     text = re.sub(r"(?<![\w.\-])tie\.(" + WORD + ")", of_tie, text)
     lines = text.split("\n")
     for i, l in enumerate(lines):
@@ -79,6 +87,8 @@ def main(names):
                 continue
             with open(path) as f:
                 listed = json.load(f)
+            with open(f"/tmp/names-{c}.json", "w") as f:
+                json.dump(listed, f, indent=1, ensure_ascii=False)
         n = 0
         for key, it in listed.items():
             m = re.fullmatch(r"Rattle-[^.]*\.(.*)\.Lts(.*)", key)

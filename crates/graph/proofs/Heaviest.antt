@@ -12,6 +12,7 @@ use Rattle.graph.specs.Longest.{best, within, heaviest}
 use Rattle.graph.proofs.Paths.{Free}
 
 pub best_upper : (g : Graph) (p : ℕ) (f : ℕ → ℕ) (l : List ℕ) {q : ℕ} → In q l → g.serves p q ≡ false → f q ≤ best g p f l
+best_upper g p f [] {q = q} i s = elim i [ ]
 best_upper g p f (x ∷ xs) {q} (inl e) s =
     let v : cond (g.serves p x) 0 (f x) ≡ f x = ap (λ (b : Bool). cond b 0 (f x)) (subst (λ (y : ℕ). g.serves p y ≡ false) e s) in
     let u : f q ≡ f x = ap f e in

@@ -5,13 +5,13 @@ use Rattle.fields.proofs.Difference.{difference_fits, difference}
 use Rattle.fields.proofs.bits.signed.Statement.{statement}
 use Rattle.fields.proofs.bits.signed.Tie as tie
 
-cast_result : tie.Need-overflow-cast-result
+cast_result : tie.Need-overflow_cast-result
 cast_result c = search rules
 
-cast_result_2 : tie.Need-overflow-cast-result-2
+cast_result_2 : tie.Need-overflow_cast-result-2
 cast_result_2 c = search rules
 
-sub_result : tie.Need-overflow-sub-result
+sub_result : tie.Need-overflow_sub-result
 sub_result c = difference_fits c.args.field c.args.offset c.requires.0 c.requires.1
 
 returns : tie.Need-returns

@@ -9,34 +9,34 @@ use mir.Syntax.{w64}
 use Rattle.values.proofs.lookup.value.Statement.{statement}
 use Rattle.values.proofs.lookup.value.Tie as tie
 
-returns : tie.Need-returns
+returns : tie.Need-returns-in-1
 unfolding value_of choose
-returns c = rw c.match.keys1
+returns c = rw c.in-1.is
 
-returns_2 : tie.Need-returns-2
+returns_2 : tie.Need-returns-in-17
 unfolding value_of choose
-returns_2 c = rw c.match.keys2
+returns_2 c = rw c.in-17.is
 
-returns_3 : tie.Need-returns-3
+returns_3 : tie.Need-returns-in-3
 unfolding value_of choose
-returns_3 c = rw c.before.match.keys3 (ap Integer (kept w64 c.signed.type-inv c.signed.ensures))
+returns_3 c = rw c.before.in-3.is (ap Integer (kept w64 c.signed.type_inv c.signed.ensures))
 
-returns_4 : tie.Need-returns-4
+returns_4 : tie.Need-returns-in-19
 unfolding value_of choose
-returns_4 c = rw c.before.match.keys4 c.float.ensures
+returns_4 c = rw c.before.in-19.is c.float.ensures
 
-returns_5 : tie.Need-returns-5
+returns_5 : tie.Need-returns-in-4
 unfolding value_of choose
-returns_5 c = rw c.before.match.keys5 c.short-string.ensures
+returns_5 c = rw c.before.in-4.is c.short_string.ensures
 
-returns_6 : tie.Need-returns-6
+returns_6 : tie.Need-returns-in-20
 unfolding value_of choose
-returns_6 c = rw c.before.match.keys6 c.long-string.ensures
+returns_6 c = rw c.before.in-20.is c.long_string.ensures
 
-returns_7 : tie.Need-returns-7
+returns_7 : tie.Need-returns-in_default
 unfolding value_of choose
 returns_7 c =
-    let r = c.match.rest in
+    let r = c.in_default.in_default-own.rest in
     rw (
       ne_eqb _ _ r.0.0.0.0.0.1,
       ne_eqb _ _ r.0.0.0.0.1,

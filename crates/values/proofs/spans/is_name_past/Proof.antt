@@ -6,13 +6,13 @@ use Rattle.common.specs.Chain.{choose}
 use Rattle.values.proofs.spans.is_name_past.Statement.{statement}
 use Rattle.values.proofs.spans.is_name_past.Tie as tie
 
-returns : tie.Need-returns
+returns : tie.Need-returns-then-payload-eq-UNNAMED
 unfolding choose
-returns c = rw (eq-eqb _ _ c.if1.true)
+returns c = rw (eq-eqb _ _ c.if-payload-eq-UNNAMED.true)
 
-returns_2 : tie.Need-returns-2
+returns_2 : tie.Need-returns-else-payload-eq-UNNAMED
 unfolding choose
-returns_2 c = rw (ne_eqb _ _ c.before.if1.false) c.is-past.ensures
+returns_2 c = rw (ne_eqb _ _ c.before.if-payload-eq-UNNAMED.false) c.is_past.ensures
 
 pub is_name_past_spec : {M : Type 1} → statement M
 is_name_past_spec = tie.close (tie.spec (λ c κs. search rules) returns returns_2)

@@ -13,11 +13,11 @@ unfolding eight_of mode_of
 eight_modes_spec =
     tie.close
     (tie.spec
-    (λ c. at_block mode_byte c.match.keys1 refl)
-    (λ c. at_block mode_byte c.match.keys2 refl)
-    (λ c. at_block mode_byte c.match.keys3 refl)
-    (λ c. at_block mode_byte c.match.keys4 refl)
-    (λ c. at_block mode_byte c.match.keys5 refl)
-    (λ c. at_block mode_byte c.match.keys6 refl)
-    (λ c. at_block mode_byte c.match.keys7 refl)
-    (λ c. at_others mode_byte 8 (6 ∷ 5 ∷ 4 ∷ 3 ∷ 2 ∷ 1 ∷ 0 ∷ []) _ tt c.before.args.block c.before.requires c.match.rest))
+    (λ c. at_block mode_byte c.in-0.is refl)
+    (λ c. at_block mode_byte c.in-1.is refl)
+    (λ c. at_block mode_byte c.in-2.is refl)
+    (λ c. at_block mode_byte c.in-3.is refl)
+    (λ c. at_block mode_byte c.in-4.is refl)
+    (λ c. at_block mode_byte c.in-5.is refl)
+    (λ c. at_block mode_byte c.in-6.is refl)
+    (λ c. at_others mode_byte 8 (6 ∷ 5 ∷ 4 ∷ 3 ∷ 2 ∷ 1 ∷ 0 ∷ []) _ tt c.before.args.block c.before.requires c.in_default.in_default-own.rest))

@@ -10,7 +10,7 @@ use Rattle.fields.proofs.lua53.packed.mode.Tie as tie
 
 returns : tie.Need-returns
 returns c =
-    rw (c.byte.ensures, c.before.eight-modes.ensures, div-one) (mode-byte (c.before.before.args.word % 64) (omega arith))
+    rw (c.byte.ensures, c.before.eight_modes.ensures, div-one) (mode-byte (c.before.before.args.word % 64) (omega arith))
 
 pub mode_spec : {M : Type 1} → statement M
 mode_spec = tie.close (tie.spec (λ c κs. search rules) (λ c κs. search rules) returns)

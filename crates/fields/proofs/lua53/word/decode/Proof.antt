@@ -15,4 +15,4 @@ decode_spec =
     (λ c. search rules)
     (λ c. search rules)
     (λ c κs. search rules)
-    (λ c. rw (kept c.signed.type-inv c.signed.ensures, div-one)))
+    (λ c. rw (kept c.signed.type_inv c.signed.ensures, div-one)))

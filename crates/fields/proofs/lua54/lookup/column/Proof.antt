@@ -5,16 +5,16 @@ use borrow.Author.Rules.{rules}
 use Rattle.fields.proofs.lua54.lookup.column.Statement.{statement}
 use Rattle.fields.proofs.lua54.lookup.column.Tie as tie
 
-cast_result : tie.Need-overflow-cast-result
+cast_result : tie.Need-overflow_cast-result
 cast_result c = search rules
 
-mul_result : tie.Need-overflow-mul-result
+mul_result : tie.Need-overflow_mul-result
 mul_result c = search rules
 
-add_result : tie.Need-overflow-add-result
+add_result : tie.Need-overflow_add-result
 add_result c = search rules
 
-element_copy_out_result : tie.Need-element-copy-out-result
+element_copy_out_result : tie.Need-bounds-table-word
 element_copy_out_result c = search rules
 
 returns : tie.Need-returns

@@ -7,7 +7,7 @@ use Rattle.fields.proofs.lua54.lookup.companion.Statement.{statement}
 use Rattle.fields.proofs.lua54.lookup.companion.Tie as tie
 
 returns : tie.Need-returns
-returns c = high_half (opcode_of c.before.args.word) c.companion-and-class.ensures
+returns c = high_half (opcode_of c.before.args.word) c.companion_and_class.ensures
 
 pub companion_spec : {M : Type 1} → statement M
 companion_spec = tie.close (tie.spec (λ c κs. search rules) returns)

@@ -10,7 +10,7 @@ use Rattle.fields.proofs.lua54.lookup.fallback.Tie as tie
 
 returns : tie.Need-returns
 returns c =
-    rw (c.byte.ensures, c.before.eight-fallbacks.ensures, div-one) (rule_byte (c.before.before.args.word % 128) (omega arith))
+    rw (c.byte.ensures, c.before.eight_fallbacks.ensures, div-one) (rule_byte (c.before.before.args.word % 128) (omega arith))
 
 pub fallback_spec : {M : Type 1} → statement M
 fallback_spec = tie.close (tie.spec (λ c κs. search rules) (λ c κs. search rules) returns)

@@ -7,7 +7,7 @@ use Rattle.fields.proofs.lua54.lookup.step_class.Statement.{statement}
 use Rattle.fields.proofs.lua54.lookup.step_class.Tie as tie
 
 returns : tie.Need-returns
-returns c = low_half (opcode_of c.before.args.word) c.companion-and-class.ensures
+returns c = low_half (opcode_of c.before.args.word) c.companion_and_class.ensures
 
 pub step_class_spec : {M : Type 1} → statement M
 step_class_spec = tie.close (tie.spec (λ c κs. search rules) returns)

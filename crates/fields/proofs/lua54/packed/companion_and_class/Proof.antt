@@ -10,7 +10,7 @@ use Rattle.fields.proofs.lua54.packed.companion_and_class.Tie as tie
 
 returns : tie.Need-returns
 returns c =
-    rw (c.byte.ensures, c.before.eight-steps.ensures, div-one) (steps_byte (c.before.before.args.word % 128) (omega arith))
+    rw (c.byte.ensures, c.before.eight_steps.ensures, div-one) (steps_byte (c.before.before.args.word % 128) (omega arith))
 
 pub companion_and_class_spec : {M : Type 1} → statement M
 companion_and_class_spec = tie.close (tie.spec (λ c κs. search rules) (λ c κs. search rules) returns)

@@ -14,9 +14,9 @@ unfolding eight_of fallback_of
 eight_fallbacks_spec =
     tie.close
     (tie.spec
-    (λ c. at_block rule_of c.match.keys1 refl)
-    (λ c. at_block rule_of c.match.keys2 refl)
-    (λ c. at_block rule_of c.match.keys3 refl)
-    (λ c. at_block rule_of c.match.keys4 refl)
-    (λ c. at_block rule_of c.match.keys5 refl)
-    (λ c. at_others rule_of 16 (8 ∷ 6 ∷ 5 ∷ 2 ∷ 1 ∷ []) _ tt c.before.args.block c.before.requires c.match.rest))
+    (λ c. at_block rule_of c.in-1.is refl)
+    (λ c. at_block rule_of c.in-2.is refl)
+    (λ c. at_block rule_of c.in-5.is refl)
+    (λ c. at_block rule_of c.in-6.is refl)
+    (λ c. at_block rule_of c.in-8.is refl)
+    (λ c. at_others rule_of 16 (8 ∷ 6 ∷ 5 ∷ 2 ∷ 1 ∷ []) _ tt c.before.args.block c.before.requires c.in_default.in_default-own.rest))

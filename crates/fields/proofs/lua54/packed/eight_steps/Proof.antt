@@ -14,22 +14,22 @@ unfolding eight_of class_of companion_of
 eight_steps_spec =
     tie.close
     (tie.spec
-    (λ c. at_block companion_and_class c.match.keys1 refl)
-    (λ c. at_block companion_and_class c.match.keys2 refl)
-    (λ c. at_block companion_and_class c.match.keys3 refl)
-    (λ c. at_block companion_and_class c.match.keys4 refl)
-    (λ c. at_block companion_and_class c.match.keys5 refl)
-    (λ c. at_block companion_and_class c.match.keys6 refl)
-    (λ c. at_block companion_and_class c.match.keys7 refl)
-    (λ c. at_block companion_and_class c.match.keys8 refl)
-    (λ c. at_block companion_and_class c.match.keys9 refl)
-    (λ c. at_block companion_and_class c.match.keys10 refl)
-    (λ c. at_block companion_and_class c.match.keys11 refl)
-    (λ c. at_block companion_and_class c.match.keys12 refl)
-    (λ c. at_block companion_and_class c.match.keys13 refl)
-    (λ c. at_block companion_and_class c.match.keys14 refl)
-    (λ c. at_block companion_and_class c.match.keys15 refl)
+    (λ c. at_block companion_and_class c.in-0.is refl)
+    (λ c. at_block companion_and_class c.in-1.is refl)
+    (λ c. at_block companion_and_class c.in-2.is refl)
+    (λ c. at_block companion_and_class c.in-3.is refl)
+    (λ c. at_block companion_and_class c.in-4.is refl)
+    (λ c. at_block companion_and_class c.in-5.is refl)
+    (λ c. at_block companion_and_class c.in-6.is refl)
+    (λ c. at_block companion_and_class c.in-7.is refl)
+    (λ c. at_block companion_and_class c.in-8.is refl)
+    (λ c. at_block companion_and_class c.in-9.is refl)
+    (λ c. at_block companion_and_class c.in-10.is refl)
+    (λ c. at_block companion_and_class c.in-11.is refl)
+    (λ c. at_block companion_and_class c.in-12.is refl)
+    (λ c. at_block companion_and_class c.in-13.is refl)
+    (λ c. at_block companion_and_class c.in-14.is refl)
     (λ c.
     at_others companion_and_class 16
     (14 ∷ 13 ∷ 12 ∷ 11 ∷ 10 ∷ 9 ∷ 8 ∷ 7 ∷ 6 ∷ 5 ∷ 4 ∷ 3 ∷ 2 ∷ 1 ∷ 0 ∷ []) _ tt
-    c.before.args.block c.before.requires c.match.rest))
+    c.before.args.block c.before.requires c.in_default.in_default-own.rest))

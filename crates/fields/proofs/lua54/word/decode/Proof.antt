@@ -6,22 +6,22 @@ use Rattle.fields.proofs.Difference.{kept}
 use Rattle.fields.proofs.lua54.word.decode.Statement.{statement}
 use Rattle.fields.proofs.lua54.word.decode.Tie as tie
 
-cast_t7 : tie.Need-overflow-cast-t7
+cast_t7 : tie.Need-overflow_cast-result
 cast_t7 c = search rules
 
-cast_t10 : tie.Need-overflow-cast-t10
+cast_t10 : tie.Need-overflow_cast-result-2
 cast_t10 c = search rules
 
-cast_t13 : tie.Need-overflow-cast-t13
+cast_t13 : tie.Need-overflow_cast-result-3
 cast_t13 c = search rules
 
-cast_t14 : tie.Need-overflow-cast-t14
+cast_t14 : tie.Need-overflow_cast-result-4
 cast_t14 c = search rules
 
 signed_requires : tie.Need-signed-requires
 signed_requires c κs = search rules
 
-cast_t16 : tie.Need-overflow-cast-t16
+cast_t16 : tie.Need-overflow_cast-result-5
 cast_t16 c = search rules
 
 signed_requires_2 : tie.Need-signed-requires-2
@@ -36,10 +36,10 @@ signed_requires_4 c κs = search rules
 returns : tie.Need-returns
 returns c =
     rw (
-      kept c.before.before.before.signed.type-inv c.before.before.before.signed.ensures,
-      kept c.before.before.signed2.type-inv c.before.before.signed2.ensures,
-      kept c.before.signed3.type-inv c.before.signed3.ensures,
-      kept c.signed4.type-inv c.signed4.ensures,
+      kept c.before.before.before.signed.type_inv c.before.before.before.signed.ensures,
+      kept c.before.before.signed-2.type_inv c.before.before.signed-2.ensures,
+      kept c.before.signed-3.type_inv c.before.signed-3.ensures,
+      kept c.signed-4.type_inv c.signed-4.ensures,
       div-one,
     )
 
