@@ -14,7 +14,7 @@ import subprocess
 import sys
 import tempfile
 
-WORD = r"[A-Za-z0-9_+·'μ\-]+"
+WORD = r"[A-Za-z0-9_+·'μ₀-₉\-]+"
 
 
 def norm(x):
@@ -55,24 +55,48 @@ def turn(text, d):
             return "tie." + loop[norm(w)]
         return "tie." + (w if w in known else place.get(norm(w), w))
 
-    def field(m):
-        w = m[1]
-        if w in known or w in ("before", "args", "now", "ensures"):
-            return m[0]
-        return "." + step.get(norm(w), w)
+    def by_path(m):
+        """A path of fields: only its first, or one behind `before`, can be a step."""
+        parts = m[0].split(".")
+        for i in range(1, len(parts)):
+            w = parts[i]
+            if w in ("before", "args", "requires", "ensures", "new", "now"):
+                continue
+            if w in known or not (i == 1 or parts[i - 1] == "before"):
+                continue
+            new = step.get(norm(w), w)
+            # A step that Rattle adds has a count behind its name; a variable of that name is cited more often.
+            if new.endswith("-1") and "-" not in w and parts[i - 1] != "before":
+                continue
+            parts[i] = new
+        # What is known further out is a field here too, so that only a place that is handed on needs `before`.
+        while len(parts) > 2 and parts[1] == "before" and any(q != "before" for q in parts[2:]):
+            del parts[1]
+        return ".".join(parts)
 
     for arm in d["arms"]:
         for new, old, path in arm[2] if arm else []:
-            if path:
-                text = re.sub(rf"\.{re.escape(old)}\.{re.escape('.'.join(path))}(?![\w\-])", f".{arm[0]}.{new}", text)
-            elif old:
-                text = re.sub(rf"\.{re.escape(old)}\.rest(?![\w\-])", f".{arm[0]}.{new}.rest", text)
+            for spelled in {old, (old or "").replace("_", "-")} - {None, ""}:
+                if path:
+                    text = re.sub(rf"\.{re.escape(spelled)}\.{re.escape('.'.join(path))}(?![\w\-])", f".{arm[0]}.{new}", text)
+                else:
+                    text = re.sub(rf"\.{re.escape(spelled)}\.rest(?![\w\-])", f".{arm[0]}.{new}.rest", text)
+    text = text.replace(".pre.", ".requires.").replace(".pre ", ".requires ").replace(".pre)", ".requires)").replace(".pre;", ".requires;")
+    for p in d["places"]:
+        names = d["params"].get(p[3] or "", [])
+        for old in (p[2][0] if p[2] else None, p[2][1] if p[2] else None):
+            for spelled in {old, (old or "").replace("_", "-")} - {None, ""}:
+                text = re.sub(
+                    rf"\.{re.escape(spelled)}\.(new|auto|kept|last)\.((?:1\.)*)0(?![\w.])",
+                    lambda m: f".{spelled}.{ {'last': 'new', 'kept': 'auto'}.get(m[1], m[1])}.{names[len(m[2]) // 2]}" if len(m[2]) // 2 < len(names) else m[0],
+                    text,
+                )
     text = text.replace(".type-inv", ".type_inv").replace(".well-formed", ".well_formed")
     text = re.sub(r"(?<![\w.\-])tie\.(" + WORD + ")", of_tie, text)
     lines = text.split("\n")
     for i, l in enumerate(lines):
         if not l.startswith("use "):
-            lines[i] = re.sub(r"(?<!tie)\.(?!\d)(" + WORD + ")", field, l)
+            lines[i] = re.sub(r"(?<![\w.\-)])(?!tie\.)" + WORD + r"(?:\." + WORD + ")+", by_path, l)
     return "\n".join(lines)
 
 

@@ -2,7 +2,7 @@
 // lifter.rs makes stand here.
 use crate::model::{ConstantValue, Name};
 
-#[derive(Drop)]
+#[derive(Clone, Copy)]
 pub enum EffectTarget {
     Register { index: u8 },
     RegisterRange { start: u8, end: u8 },
@@ -13,7 +13,7 @@ pub enum EffectTarget {
     JumpTarget { pc: usize },
 }
 
-#[derive(Drop)]
+#[derive(Clone, Copy)]
 pub enum TypedOperand {
     Register { index: u8 },
     Constant { index: usize, value: ConstantValue },
@@ -28,13 +28,13 @@ pub enum TypedOperand {
 }
 
 // The Rust's companion_role, a text, as EXTRAARG or an event's number.
-#[derive(Drop)]
+#[derive(Clone, Copy)]
 pub enum CompanionRole {
     ExtraArg,
     Event(u8),
 }
 
-#[derive(Drop)]
+#[derive(Clone, Copy)]
 pub enum ImplicitEffect {
     NoEffect,
     CloseUpvalues {
@@ -50,57 +50,57 @@ pub enum ImplicitEffect {
 }
 
 // A metamethod by its event's number in ltm.h, or 25 for `__metamethod`.
-#[derive(Drop)]
+#[derive(Clone, Copy)]
 pub enum Fallback {
     NoFallback,
     Event(u8),
 }
 
 // The Rust's Option<usize> for a word number.
-#[derive(Drop)]
+#[derive(Clone, Copy)]
 pub enum OptionalPc {
     NoPc,
     Pc(usize),
 }
 
-#[derive(Drop)]
+#[derive(Clone, Copy)]
 pub enum Confidence {
     Reviewed,
     Unverified,
 }
 
 // An array holds structs, so each enum stands in one.
-#[derive(Drop)]
+#[derive(Clone, Copy)]
 pub struct OperandSlot {
     pub operand: TypedOperand,
 }
 
-#[derive(Drop)]
+#[derive(Clone, Copy)]
 pub struct TargetSlot {
     pub target: EffectTarget,
 }
 
 // Lists of at most 4, 3 and 2: places past the count hold register 0.
 
-#[derive(Drop)]
+#[derive(Clone, Copy)]
 pub struct Operands {
     pub slots: [OperandSlot; 4],
     pub count: u8,
 }
 
-#[derive(Drop)]
+#[derive(Clone, Copy)]
 pub struct Reads {
     pub slots: [TargetSlot; 3],
     pub count: u8,
 }
 
-#[derive(Drop)]
+#[derive(Clone, Copy)]
 pub struct Writes {
     pub slots: [TargetSlot; 2],
     pub count: u8,
 }
 
-#[derive(Drop)]
+#[derive(Clone, Copy)]
 pub struct SemanticInstruction {
     pub pc: usize,
     pub raw_word: u32,

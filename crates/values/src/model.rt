@@ -1,13 +1,13 @@
 // The Rust's model.rs as far as a record speaks of it: constant values and names. A string is its
 // span in the string bytes.
 
-#[derive(Drop)]
+#[derive(Clone, Copy)]
 pub struct Span {
     pub start: u32,
     pub len: u32,
 }
 
-#[derive(Drop)]
+#[derive(Clone, Copy)]
 pub enum ConstantValue {
     Nil,
     Boolean(bool),
@@ -20,7 +20,7 @@ pub enum ConstantValue {
 }
 
 // The Rust's Option<String> for an upvalue's name.
-#[derive(Drop)]
+#[derive(Clone, Copy)]
 pub enum Name {
     Unnamed,
     Named(Span),

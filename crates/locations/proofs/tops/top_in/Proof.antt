@@ -7,7 +7,7 @@ use Rattle.locations.proofs.tops.top_in.Statement.{statement}
 use Rattle.locations.proofs.tops.top_in.Tie as tie
 
 returns : tie.Need-returns
-returns c = rw (c.top-or3.ensures, c.before.top-or2.ensures, c.before.before.top-or.ensures) (sym (first_three _ _ _))
+returns c = rw (c.top_or-3.ensures, c.top_or-2.ensures, c.top_or.ensures) (sym (first_three _ _ _))
 
 pub top_in_spec : {M : Type 1} → statement M
 top_in_spec = tie.close (tie.spec (λ c κs. search rules) (λ c κs. search rules) (λ c κs. search rules) returns)

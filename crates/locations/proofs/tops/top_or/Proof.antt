@@ -5,25 +5,25 @@ use borrow.Author.Rules.{rules}
 use Rattle.locations.proofs.tops.top_or.Statement.{statement}
 use Rattle.locations.proofs.tops.top_or.Tie as tie
 
-returns : tie.Need-returns
+returns : tie.Need-returns-in-ToTop
 unfolding first_top
-returns c = rw c.before.location.given.1
+returns c = rw c.in-ToTop.is
 
-returns_2 : tie.Need-returns-2
+returns_2 : tie.Need-returns-in-Nothing
 unfolding first_top
-returns_2 c = rw c.enum_told.given.1
+returns_2 c = rw c.in-Nothing.is
 
-returns_3 : tie.Need-returns-3
+returns_3 : tie.Need-returns-in-Registers
 unfolding first_top
-returns_3 c = rw c.enum-told2.given.1
+returns_3 c = rw c.in-Registers.is
 
-returns_4 : tie.Need-returns-4
+returns_4 : tie.Need-returns-in-Constant
 unfolding first_top
-returns_4 c = rw c.enum-told3.given.1
+returns_4 c = rw c.in-Constant.is
 
-returns_5 : tie.Need-returns-5
+returns_5 : tie.Need-returns-in-Upvalue
 unfolding first_top
-returns_5 c = rw c.enum-told4.given.1
+returns_5 c = rw c.in-Upvalue.is
 
 pub top_or_spec : {M : Type 1} → statement M
 top_or_spec =

@@ -10,13 +10,13 @@ use borrow.Author.Rules.{rules}
 use Rattle.sweep.proofs.edges.both_of.Statement.{statement}
 use Rattle.sweep.proofs.edges.both_of.Tie as tie
 
-returns_2 : tie.Need-returns-2
-returns_2 c = c.two-of2.ensures ∙ two_swap _ _ _ c.before.if2.true
+returns_2 : tie.Need-returns-then-r-q
+returns_2 c = c.two_of-then-r-q.ensures ∙ two_swap _ _ _ c.if-r-q.true
 
-returns_3 : tie.Need-returns-3
+returns_3 : tie.Need-returns
 returns_3 c =
     let s = c.before.before.before in
-    let e : s.args.q ≡ s.args.r = omega (arith, c.before.before.if1.false, c.before.if2.false) in
+    let e : s.args.q ≡ s.args.r = omega (arith, c.if-q-r.false, c.if-r-q.false) in
     c.one_of.ensures ∙ two_equal s.args.n s.args.q ∙ ap (λ (x : ℕ). two s.args.n (pos s.args.q) (pos x)) e
 
 pub both_of_spec : {M : Type 1} → statement M

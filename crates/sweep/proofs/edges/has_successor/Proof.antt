@@ -6,14 +6,14 @@ use borrow.Author.Rules.{rules}
 use Rattle.sweep.proofs.edges.has_successor.Statement.{statement}
 use Rattle.sweep.proofs.edges.has_successor.Tie as tie
 
-returns_3 : tie.Need-returns-3
-returns_3 c = rw (c.before.s.given.1, or-false)
+returns_3 : tie.Need-returns-in-One
+returns_3 c = rw (c.in-One.is, or-false)
 
-returns_4 : tie.Need-returns-4
-returns_4 c = rw (c.before.before.s2.given.1, eq-eqb _ _ c.if1.true)
+returns_4 : tie.Need-returns-then-a-q
+returns_4 c = rw (c.in-Two.is, eq-eqb _ _ c.if-a-q.true)
 
-returns_5 : tie.Need-returns-5
-returns_5 c = rw (c.before.before.s2.given.1, ne_eqb _ _ c.if1.false, or-false)
+returns_5 : tie.Need-returns-else-a-q
+returns_5 c = rw (c.in-Two.is, ne_eqb _ _ c.if-a-q.false, or-false)
 
 pub has_successor_spec : {M : Type 1} → statement M
 has_successor_spec =

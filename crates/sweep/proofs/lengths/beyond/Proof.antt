@@ -31,10 +31,10 @@ module _ (c : tie.After-later) where
   served = serves_of start.args.p start.args.q
 
   inside : c.later.result < length l
-  inside = subst (λ (x : ℕ). x < length l) (sym c.later.ensures) (either_in served l start.args.p start.args.q start.pre.0 start.pre.1)
+  inside = subst (λ (x : ℕ). x < length l) (sym c.later.ensures) (either_in served l start.args.p start.args.q start.requires.0 start.requires.1)
 
   adds : at l c.later.result ≡ cond served 0 (at l start.args.q)
-  adds = ap (at l) c.later.ensures ∙ either_adds served l start.args.p start.args.q start.pre.2
+  adds = ap (at l) c.later.ensures ∙ either_adds served l start.args.p start.args.q start.requires.2
 
 pub beyond_spec : {M : Type 1} → statement M
 beyond_spec = tie.close (tie.spec (λ c κs. search rules) (λ c. omega (arith, inside c)) (λ c. inside c.before) (λ c. adds c.before))

@@ -4,10 +4,10 @@ use Rattle.common.proofs.Clearing.{Clearing, clearing_none, clearing_more, clear
 use Rattle.sweep.proofs.lengths.clear_lengths.Statement.{statement}
 use Rattle.sweep.proofs.lengths.clear_lengths.Tie as tie
 
-abbrev invariant_loop : tie.invariant-loop
+abbrev invariant_loop : tie.invariant-loop-p
 invariant_loop lengths₀ n p₀ lengths p = Clearing 0 n lengths₀ lengths p
 
-abbrev decreases_loop : tie.decreases-loop
+abbrev decreases_loop : tie.decreases-loop-p
 decreases_loop lengths₀ n p₀ lengths p = n - p
 
 pub clear_lengths_spec : {M : Type 1} → statement M
@@ -21,6 +21,6 @@ clear_lengths_spec =
     (λ c. omega arith)
     (λ c. omega arith)
     (λ c. omega arith)
-    (λ c. clearing_more 0 _ _ c.before.loop.invariant c.loop-test.true)
-    (λ c. c.before.loop.invariant.same)
-    (λ c. clearing_done 0 _ _ c.before.loop.invariant c.loop-test.false))
+    (λ c. clearing_more 0 _ _ c.loop-p.invariant c.loop-p-test.true)
+    (λ c. c.loop-p.invariant.same)
+    (λ c. clearing_done 0 _ _ c.loop-p.invariant c.loop-p-test.false))

@@ -8,28 +8,28 @@ use Rattle.sweep.specs.PassInvariants.{at}
 use Rattle.sweep.proofs.lengths.find_longest.Statement.{statement}
 use Rattle.sweep.proofs.lengths.find_longest.Tie as tie
 
-abbrev invariant_loop : tie.invariant-loop
+abbrev invariant_loop : tie.invariant-loop-i
 invariant_loop lengths n longest₀ i₀ longest i = (i ≤ n) × (longest ≡ most (at lengths) i)
 
-abbrev decreases_loop : tie.decreases-loop
+abbrev decreases_loop : tie.decreases-loop-i
 decreases_loop lengths n longest₀ i₀ longest i = n - i
 
-loop_holds : tie.Need-loop-init invariant_loop decreases_loop
+loop_holds : tie.Need-loop-i-init invariant_loop decreases_loop
 unfolding most
 loop_holds c = (omega arith, refl)
 
-loop_again : tie.Need-loop-preserved invariant_loop decreases_loop
+loop_again : tie.Need-loop-i-preserved invariant_loop decreases_loop
 loop_again c =
     let l = c.before.before.before in
-    let v = l.loop.invariant in
-    let m = laws.most_more (at l.before.args.lengths.now) l.loop.i in
-    (omega arith, ⊎_elim (λ w. omega (arith, w.0.taken, w.2, v.1, m)) (λ w. omega (arith, w.0.left, w.1, v.1, m)) c.if1.branch)
+    let v = l.loop-i.invariant in
+    let m = laws.most_more (at l.args.lengths.now) l.loop-i.i in
+    (omega arith, ⊎_elim (λ w. omega (arith, w.0.taken, w.2, v.1, m)) (λ w. omega (arith, w.0.left, w.1, v.1, m)) c.if-longest-lengths.branch)
 
 returns : tie.Need-returns invariant_loop decreases_loop
 returns c =
     let l = c.before in
-    let e : l.loop.i ≡ l.before.args.n = omega arith in
-    l.loop.invariant.1 ∙ ap (most (at l.before.args.lengths.now)) e
+    let e : l.loop-i.i ≡ l.args.n = omega arith in
+    l.loop-i.invariant.1 ∙ ap (most (at l.args.lengths.now)) e
 
 pub find_longest_spec : {M : Type 1} → statement M
 find_longest_spec =

@@ -19,5 +19,5 @@ weigh_spec =
     (tie.spec
     (λ c. omega (arith, small c))
     (λ c. omega (arith, small c.before))
-    (λ c. omega (arith, c.shared-slice-known.given (slot c.before)))
-    (λ c. (refl, omega (arith, c.shared-slice-known.given (slot c.before)))))
+    (λ c. omega (arith, c.shared_slice_known-1.given (slot c.before)))
+    (λ c. (refl, omega (arith, c.shared_slice_known-1.given (slot c.before)))))

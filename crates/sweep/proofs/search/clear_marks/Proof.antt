@@ -4,10 +4,10 @@ use Rattle.common.proofs.Clearing.{Clearing, clearing_none, clearing_more, clear
 use Rattle.sweep.proofs.search.clear_marks.Statement.{statement}
 use Rattle.sweep.proofs.search.clear_marks.Tie as tie
 
-abbrev invariant_loop : tie.invariant-loop
+abbrev invariant_loop : tie.invariant-loop-i
 invariant_loop marks₀ n i₀ marks i = Clearing 0 n marks₀ marks i
 
-abbrev decreases_loop : tie.decreases-loop
+abbrev decreases_loop : tie.decreases-loop-i
 decreases_loop marks₀ n i₀ marks i = n - i
 
 pub clear_marks_spec : {M : Type 1} → statement M
@@ -20,6 +20,6 @@ clear_marks_spec =
     (λ c. omega arith)
     (λ c. omega arith)
     (λ c. omega arith)
-    (λ c. clearing_more 0 _ _ c.before.loop.invariant c.loop-test.true)
-    (λ c. c.before.loop.invariant.same)
-    (λ c. clearing_done 0 _ _ c.before.loop.invariant c.loop-test.false))
+    (λ c. clearing_more 0 _ _ c.loop-i.invariant c.loop-i-test.true)
+    (λ c. c.loop-i.invariant.same)
+    (λ c. clearing_done 0 _ _ c.loop-i.invariant c.loop-i-test.false))

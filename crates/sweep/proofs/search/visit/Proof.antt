@@ -28,73 +28,73 @@ module _ (s : tie.Start) where
   entry = get_or l s.args.p 0 % «ENTRIES»
 
   law : Lawful graph
-  law = s.pre.held.law
+  law = s.requires.held.law
 
   few : graph.size ≤ most_words
-  few = s.pre.held.lent.few
+  few = s.requires.held.lent.few
 
   in_l : s.args.p < length l
-  in_l = omega (arith, s.pre.in_l, entries_length l)
+  in_l = omega (arith, s.requires.in_l, entries_length l)
 
   in_m : {a : ℕ} → a ∷ [] ≡ graph.successors s.args.p → a < length m
-  in_m e = omega (arith, first_in graph law m (queue_of l) s.args.p s.args.tail s.pre.room e, s.pre.room.m_long)
+  in_m e = omega (arith, first_in graph law m (queue_of l) s.args.p s.args.tail s.requires.room e, s.requires.room.m_long)
 
 -- the places of the tests
-abbrev enter : tie.After-slice-known3 → tie.Start
+abbrev enter : tie.After-slice_known-3-1 → tie.Start
 enter c = c.before.before.before
 
-next : (c : tie.Then1) → let s = enter c.before in (s.args.p + 1) ∷ [] ≡ (graph s).successors s.args.p
-next c = let s = enter c.before in in_graph (l s) s.args.p (entry_next (entry s) s.args.p c.if1.true)
+next : (c : tie.Then-kind-eq-KIND_NEXT) → let s = enter c.before in (s.args.p + 1) ∷ [] ≡ (graph s).successors s.args.p
+next c = let s = enter c.before in in_graph (l s) s.args.p (entry_next (entry s) s.args.p c.if-kind-eq-KIND_NEXT.true)
 
-jump : (c : tie.Then3) → let s = enter c.before.before.before in (entry s % «TARGETS») ∷ [] ≡ (graph s).successors s.args.p
-jump c = let s = enter c.before.before.before in in_graph (l s) s.args.p (entry_target (entry s) s.args.p c.if3.true)
+jump : (c : tie.Then-kind-eq-KIND_TARGET) → let s = enter c.before.before.before in (entry s % «TARGETS») ∷ [] ≡ (graph s).successors s.args.p
+jump c = let s = enter c.before.before.before in in_graph (l s) s.args.p (entry_target (entry s) s.args.p c.if-kind-eq-KIND_TARGET.true)
 
-fork : (c : tie.Else3) → let s = enter c.before.before.before in Both (graph s) s.args.p (entry s % «TARGETS») (s.args.p + 1)
+fork : (c : tie.Else-kind-eq-KIND_TARGET) → let s = enter c.before.before.before in Both (graph s) s.args.p (entry s % «TARGETS») (s.args.p + 1)
 fork c =
     let s = enter c.before.before.before in
-    other_way (both_in_graph (l s) s.args.p (entry_both (entry s) s.args.p c.before.if2.false c.before.before.if1.false c.if3.false))
+    other_way (both_in_graph (l s) s.args.p (entry_both (entry s) s.args.p c.if-kind-eq-KIND_NONE.false c.if-kind-eq-KIND_NEXT.false c.if-kind-eq-KIND_TARGET.false))
 
-returns : tie.Need-returns
+returns : tie.Need-returns-then-kind-eq-KIND_NEXT
 returns c =
     let d = c.before.before.before.before in
     let s = enter d.before in
-    record { turned = turned_one (graph s) (law s) _ _ _ _ s.pre.room (next d) c.before.before.reach.ensures; kept = refl }
+    record { turned = turned_one (graph s) (law s) _ _ _ _ s.requires.room (next d) c.reach.ensures; kept = refl }
 
-returns_2 : tie.Need-returns-2
+returns_2 : tie.Need-returns-then-kind-eq-KIND_NONE
 returns_2 c =
     let s = enter c.before.before in
-    record { turned = turned_none (graph s) (law s) _ _ _ _ s.pre.room (none_in_graph (l s) s.args.p c.if2.true); kept = refl }
+    record { turned = turned_none (graph s) (law s) _ _ _ _ s.requires.room (none_in_graph (l s) s.args.p c.if-kind-eq-KIND_NONE.true); kept = refl }
 
-returns_3 : tie.Need-returns-3
+returns_3 : tie.Need-returns-then-kind-eq-KIND_TARGET
 returns_3 c =
     let d = c.before.before.before.before in
     let s = enter d.before.before.before in
-    record { turned = turned_one (graph s) (law s) _ _ _ _ s.pre.room (jump d) c.before.before.reach2.ensures; kept = refl }
+    record { turned = turned_one (graph s) (law s) _ _ _ _ s.requires.room (jump d) c.reach-then-kind-eq-KIND_TARGET.ensures; kept = refl }
 
-push_requires : tie.Need-push-requires
+push_requires : tie.Need-push-t-requires
 push_requires c κs =
     let d = c.before.before in
     let s = enter d.before.before.before in
-    push_asks_in (second_asks (graph s) (law s) (m s) (queue_of (l s)) _ _ s.pre.room (fork d) (few s))
+    push_asks_in (second_asks (graph s) (law s) (m s) (queue_of (l s)) _ _ s.requires.room (fork d) (few s))
 
 -- after the next word is pushed
-module _ (c : tie.After-push) where
-  abbrev forked : tie.Else3
+module _ (c : tie.After-push-t) where
+  abbrev forked : tie.Else-kind-eq-KIND_TARGET
   forked = c.before.before.before
 
-  target_long : let s = enter forked.before.before.before in entry s % «TARGETS» < length c.push.new.0
+  target_long : let s = enter forked.before.before.before in entry s % «TARGETS» < length c.push-t.new.marks
   target_long =
       let s = enter forked.before.before.before in
-      let e = c.push.ensures in
-      first_long (graph s) (law s) (m s) (queue_of (l s)) s.args.p s.args.tail s.pre.room (fork forked) e.queued
+      let e = c.push-t.ensures in
+      first_long (graph s) (law s) (m s) (queue_of (l s)) s.args.p s.args.tail s.requires.room (fork forked) e.queued
 
-returns_4 : tie.Need-returns-4
+returns_4 : tie.Need-returns
 returns_4 c =
     let at-lengths = c.before.before.before.before.before in
     let u = at-lengths.before.before.before in
     let s = enter (forked u).before.before.before in
-    let e = u.push.ensures in
-    record { turned = turned_two (graph s) (law s) _ _ _ _ s.pre.room (fork (forked u)) e.queued c.before.before.reach3.ensures; kept = e.kept }
+    let e = u.push-t.ensures in
+    record { turned = turned_two (graph s) (law s) _ _ _ _ s.requires.room (fork (forked u)) e.queued c.reach-2.ensures; kept = e.kept }
 
 pub visit_spec : {M : Type 1} → statement M
 visit_spec =
@@ -102,7 +102,7 @@ visit_spec =
     (tie.spec
     (λ c. let s = c.before.before in omega (arith, in_l s))
     (λ c. in_l c.before.before.before)
-    (λ c. let s = enter c.before.before in omega (arith, in_l s, s.pre.held.lent.l_same, few s))
+    (λ c. let s = enter c.before.before in omega (arith, in_l s, s.requires.held.lent.l_same, few s))
     (λ c κs. in_m (enter c.before.before) (next c.before))
     (λ c. search rules)
     returns
@@ -111,7 +111,7 @@ visit_spec =
     (λ c κs. in_m (enter c.before.before.before.before) (jump c.before))
     (λ c. search rules)
     returns_3
-    (λ c. let s = enter c.before.before.before.before.before in omega (arith, in_l s, s.pre.held.lent.l_same, few s))
+    (λ c. let s = enter c.before.before.before.before.before in omega (arith, in_l s, s.requires.held.lent.l_same, few s))
     push_requires
     (λ c κs. target_long c.before.before.before.before.before)
     (λ c. search rules)

@@ -6,13 +6,13 @@ use Rattle.tables.specs.Refusals.{is_string}
 use Rattle.tables.proofs.refusals.is_string.Statement.{statement}
 use Rattle.tables.proofs.refusals.is_string.Tie as tie
 
-returns : tie.Need-returns
+returns : tie.Need-returns-then-tag-eq-TAG_SHORT_STRING
 unfolding is_string choose
-returns c = rw c.if1.true
+returns c = rw c.if-tag-eq-TAG_SHORT_STRING.true
 
-returns_2 : tie.Need-returns-2
+returns_2 : tie.Need-returns-else-tag-eq-TAG_SHORT_STRING
 unfolding is_string choose
-returns_2 c = rw (ne_eqb _ _ c.if1.false)
+returns_2 c = rw (ne_eqb _ _ c.if-tag-eq-TAG_SHORT_STRING.false)
 
 pub is_string_spec : {M : Type 1} → statement M
 is_string_spec = tie.close (tie.spec returns returns_2)

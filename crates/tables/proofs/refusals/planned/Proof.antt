@@ -7,13 +7,13 @@ use Rattle.tables.specs.Refusals.{plan_of}
 use Rattle.tables.proofs.refusals.planned.Statement.{statement}
 use Rattle.tables.proofs.refusals.planned.Tie as tie
 
-returns : tie.Need-returns
+returns : tie.Need-returns-then-number-eq-ACCEPTED
 unfolding plan_of choose
-returns c = rw (← c.before.check.ensures, eq-eqb _ _ c.if1.true)
+returns c = rw (← c.before.check-answer.ensures, eq-eqb _ _ c.if-number-eq-ACCEPTED.true)
 
-returns_2 : tie.Need-returns-2
+returns_2 : tie.Need-returns-else-number-eq-ACCEPTED
 unfolding plan_of choose
-returns_2 c = rw (← c.before.check.ensures, ne_eqb _ _ c.if1.false)
+returns_2 c = rw (← c.before.check-answer.ensures, ne_eqb _ _ c.if-number-eq-ACCEPTED.false)
 
 pub planned_spec : {M : Type 1} → statement M
 planned_spec = tie.close (tie.spec (λ c κs. search rules) returns returns_2)
