@@ -6,3 +6,5 @@ pub mod Alone
 pub mod Refusals
 pub mod Never
 pub mod Independent
+pub mod FeedWalk
+pub mod ChangeWalk

@@ -27,8 +27,7 @@ pub fn feed_own_53(
 
 // For C: `struct lawendeb_answer lawendeb_feed_four_53(const uint32_t *words, size_t n, const uint8_t
 // *weights, size_t weights_n, struct lawendeb_meters *ms, uint32_t script, uint32_t budget, size_t q)`.
-#[unsafe(no_mangle)]
-pub extern "C" fn lawendeb_feed_four_53(
+pub fn lawendeb_feed_four_53(
     words: &[u32],
     weights: &[u8],
     ms: &mut Meters,

@@ -1,10 +1,10 @@
-// The controller holds four meters and lends them to be updated. C calls the same three functions.
+// For C: the four meters are lent to be updated. Each export calls the function of that name in `budget`, and promises the same.
 ghost use Rattle.std.specs.Prelude.{◌≡◌};
 ghost use Rattle.runs.specs.Script.{lua54};
 ghost use Rattle.meter.specs.Feed.{scale_of};
 ghost use Rattle.budget.specs.Four.{begin_four_of, reset_four_of, feed_four_of};
 
-use budget::{Meters, begin_four, feed_own, reset_four};
+use budget::Meters;
 use common::c::FlatAnswer;
 
 // For C: `struct lawendeb_answer lawendeb_begin_four(struct lawendeb_meters *ms, uint32_t script)`.
@@ -13,9 +13,7 @@ pub extern "C" fn lawendeb_begin_four(ms: &mut Meters, script: u32) -> FlatAnswe
     ensures { (result ≡ (begin_four_of ms.old script).answer)
         × (ms.new ≡ (begin_four_of ms.old script).meters) }
 {
-    let f = begin_four(*ms, script);
-    *ms = f.meters;
-    f.answer
+    budget::c::lawendeb_begin_four(ms, script)
 }
 
 // For C: `struct lawendeb_answer lawendeb_reset_four(struct lawendeb_meters *ms, uint32_t script)`.
@@ -24,9 +22,7 @@ pub extern "C" fn lawendeb_reset_four(ms: &mut Meters, script: u32) -> FlatAnswe
     ensures { (result ≡ (reset_four_of ms.old script).answer)
         × (ms.new ≡ (reset_four_of ms.old script).meters) }
 {
-    let f = reset_four(*ms, script);
-    *ms = f.meters;
-    f.answer
+    budget::c::lawendeb_reset_four(ms, script)
 }
 
 // For C: `struct lawendeb_answer lawendeb_feed_four(const uint32_t *words, size_t n, const uint8_t *weights,
@@ -45,21 +41,5 @@ pub extern "C" fn lawendeb_feed_four(
         × (ms.new ≡ (feed_four_of (scale_of (lua54 words.now) weights.now)
         ms.old script budget q).meters) }
 {
-    let f = feed_own(words, weights, *ms, script, budget, q);
-    match script {
-        0 => {
-            ms.axis = f.meter;
-        }
-        1 => {
-            ms.focuser = f.meter;
-        }
-        2 => {
-            ms.dome = f.meter;
-        }
-        3 => {
-            ms.guider = f.meter;
-        }
-        _ => {}
-    }
-    f.answer
+    budget::c::lawendeb_feed_four(words, weights, ms, script, budget, q)
 }

@@ -1,6 +1,4 @@
 // For C: the four meters are lent to be updated.
-pub mod c;
+#![tactic(auto)]
 
-pub use c::{
-    lawendeb_begin_four as begin, lawendeb_feed_four as feed, lawendeb_reset_four as reset,
-};
+pub mod c;

@@ -16,15 +16,13 @@ use lifted::inner::{RECORD_LENGTH, put_records};
 use runs::c::{FlatRun, FlatSuccessors, flat_run, flat_successors};
 use tables::refusals::planned;
 
-#[unsafe(no_mangle)]
-pub extern "C" fn lawendeb_successors(words: &[u32], p: usize) -> FlatSuccessors
+pub fn lawendeb_successors(words: &[u32], p: usize) -> FlatSuccessors
     ensures { result ≡ flat_successors (successors_of words.now p) }
 {
     flat_successors(steps::lua54::successors::successors(words, p))
 }
 
-#[unsafe(no_mangle)]
-pub extern "C" fn lawendeb_longest_run_3(
+pub fn lawendeb_longest_run_3(
     words: &[u32],
     weights: &[u8],
     marks: &mut [u8],
@@ -76,8 +74,7 @@ fn flat_fields(mode: u8, f: RawInstruction54) -> FlatFields
     }
 }
 
-#[unsafe(no_mangle)]
-pub extern "C" fn lawendeb_decode(word: u32) -> FlatFields
+pub fn lawendeb_decode(word: u32) -> FlatFields
     ensures { result ≡ flat_fields (mode_number (mode_of (opcode_of word))) (fields_of word) }
 {
     flat_fields(mode(word), decode(word))
@@ -85,8 +82,7 @@ pub extern "C" fn lawendeb_decode(word: u32) -> FlatFields
 
 // Lifts a whole function. All decisions are the plan's: a refusal is a loop of no turns,
 // so that nothing is written.
-#[unsafe(no_mangle)]
-pub extern "C" fn lawendeb_lift<'a, 'b>(
+pub fn lawendeb_lift<'a, 'b>(
     words: &'a [u32],
     tags: &'a [u8],
     payloads: &'a [u64],

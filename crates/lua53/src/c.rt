@@ -8,7 +8,7 @@ ghost use Rattle.runs.specs.Script.{script_of};
 ghost use Rattle.runs.specs.Run.{run_of, marks_after, lengths_after};
 ghost use Rattle.runs.specs.Flat.{flat_successors, flat_run};
 ghost use Rattle.ranges.specs.Range.{runs_of, marks_after_both, lengths_after_both};
-ghost use Rattle.ranges_c.specs.Flat.{flat_range};
+ghost use Rattle.ranges.specs.Flat.{flat_range};
 ghost use Rattle.runs.specs.Counted.{ones};
 ghost use Rattle.service.specs.Questions.{
   nearest_of,
@@ -19,17 +19,17 @@ ghost use Rattle.service.specs.Questions.{
   list_within,
 };
 ghost use Rattle.common.specs.Flat.{flat_answer};
-ghost use Rattle.service_c.specs.Flat.{flat_nearest, flat_crossed};
+ghost use Rattle.service.specs.Flat.{flat_nearest, flat_crossed};
 ghost use Rattle.touches.specs.Touches.{touches_for};
 
 use common::c::{FlatAnswer, flat_answer};
 use fields::lua53::packed::mode;
 use fields::lua53::word::{RawInstruction53, decode};
 use fields::version::Version;
-use ranges_c::{FlatRange, flat_range};
+use ranges::c::{FlatRange, flat_range};
 use runs::c::{FlatRun, FlatSuccessors, flat_run, flat_successors};
+use service::c::{FlatCrossed, FlatNearest, flat_crossed, flat_nearest};
 use service::{crossing_edges, distance_to_service, list_within};
-use service_c::c::{FlatCrossed, FlatNearest, flat_crossed, flat_nearest};
 use touches::{Touches, touches_53};
 
 #[repr(C)]
@@ -60,22 +60,19 @@ fn flat_fields(mode: u8, f: RawInstruction53) -> FlatFields
     }
 }
 
-#[unsafe(no_mangle)]
-pub extern "C" fn lawendeb_decode_53(word: u32) -> FlatFields
+pub fn lawendeb_decode_53(word: u32) -> FlatFields
     ensures { result ≡ flat_fields (mode_number (mode_of (opcode_of word))) (fields_of word) }
 {
     flat_fields(mode(word), decode(word))
 }
 
-#[unsafe(no_mangle)]
-pub extern "C" fn lawendeb_successors_53(words: &[u32], p: usize) -> FlatSuccessors
+pub fn lawendeb_successors_53(words: &[u32], p: usize) -> FlatSuccessors
     ensures { result ≡ flat_successors ((script_of Lua53 words.now).steps p) }
 {
     flat_successors(runs::script::successors(Version::Lua53, words, p))
 }
 
-#[unsafe(no_mangle)]
-pub extern "C" fn lawendeb_longest_run_53(
+pub fn lawendeb_longest_run_53(
     words: &[u32],
     weights: &[u8],
     marks: &mut [u8],
@@ -91,8 +88,7 @@ pub extern "C" fn lawendeb_longest_run_53(
     flat_run(runs::longest_run(Version::Lua53, words, weights, marks, lengths))
 }
 
-#[unsafe(no_mangle)]
-pub extern "C" fn lawendeb_longest_runs_53(
+pub fn lawendeb_longest_runs_53(
     words: &[u32],
     low: &[u8],
     high: &[u8],
@@ -109,8 +105,7 @@ pub extern "C" fn lawendeb_longest_runs_53(
     flat_range(ranges::longest_runs(Version::Lua53, words, low, high, marks, lengths))
 }
 
-#[unsafe(no_mangle)]
-pub extern "C" fn lawendeb_distance_to_service_53(
+pub fn lawendeb_distance_to_service_53(
     words: &[u32],
     w: usize,
     marks: &mut [u8],
@@ -126,8 +121,7 @@ pub extern "C" fn lawendeb_distance_to_service_53(
     flat_nearest(distance_to_service(Version::Lua53, words, w, marks, lengths))
 }
 
-#[unsafe(no_mangle)]
-pub extern "C" fn lawendeb_list_within_53(
+pub fn lawendeb_list_within_53(
     words: &[u32],
     d: usize,
     marks: &mut [u8],
@@ -146,8 +140,7 @@ pub extern "C" fn lawendeb_list_within_53(
     flat_answer(list_within(Version::Lua53, words, d, marks, lengths, list))
 }
 
-#[unsafe(no_mangle)]
-pub extern "C" fn lawendeb_crossing_edges_53(
+pub fn lawendeb_crossing_edges_53(
     words: &[u32],
     w: usize,
     marks: &mut [u8],
@@ -163,8 +156,7 @@ pub extern "C" fn lawendeb_crossing_edges_53(
     flat_crossed(crossing_edges(Version::Lua53, words, w, marks, lengths))
 }
 
-#[unsafe(no_mangle)]
-pub extern "C" fn lawendeb_touches_53(words: &[u32], p: usize) -> Touches
+pub fn lawendeb_touches_53(words: &[u32], p: usize) -> Touches
     ensures { result ≡ touches_for Lua53 words.now p }
 {
     touches_53(words, p)

@@ -2,7 +2,7 @@
 use print_cases::numbers;
 pub use print_cases::{bytes, end, number, number_u32, text};
 use runs::c::{FlatRun, FlatSuccessors};
-use service_c::c::{FlatCrossed, FlatNearest};
+use service::c::{FlatCrossed, FlatNearest};
 
 pub fn steps(s: FlatSuccessors) {
     if s.kind == 0 {

@@ -8,3 +8,5 @@ pub mod Earlier
 pub mod Changing
 pub mod Order
 pub mod Laws
+pub mod FeedWalk
+pub mod ChangeWalk

@@ -17,13 +17,7 @@ pub fn feed_step_53(words: &[u32], weights: &[u8], m: Meter, q: usize) -> Fed
 
 // For C: `struct lawendeb_answer lawendeb_feed_53(const uint32_t *words, size_t n, const uint8_t *weights,
 // size_t weights_n, struct lawendeb_meter *m, size_t q)`.
-#[unsafe(no_mangle)]
-pub extern "C" fn lawendeb_feed_53(
-    words: &[u32],
-    weights: &[u8],
-    m: &mut Meter,
-    q: usize,
-) -> FlatAnswer
+pub fn lawendeb_feed_53(words: &[u32], weights: &[u8], m: &mut Meter, q: usize) -> FlatAnswer
     ensures { (result ≡ (feed_of (scale_of (script_of Lua53 words.now) weights.now)
         m.old q).answer)
         × (m.new ≡ (feed_of (scale_of (script_of Lua53 words.now) weights.now)

@@ -4,3 +4,4 @@ pub mod Between
 pub mod RangeOrder
 pub mod Outcome
 pub mod Laws
+pub mod Flat

@@ -1,4 +1,6 @@
 // Over runs: the longest run by two tables, low and high (request C-18).
+pub mod c;
 pub mod range;
 
+pub use c::{FlatRange, flat_range, lawendeb_longest_runs};
 pub use range::{RunRange, longest_runs};

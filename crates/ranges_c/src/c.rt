@@ -1,51 +1,10 @@
-// The C interface.
+// For C: runs by two tables of weights. Each export calls the function of that name in `ranges`, and promises the same.
 ghost use Rattle.std.specs.Prelude.{◌≡◌, length};
 ghost use Rattle.runs.specs.Script.{lua54};
 ghost use Rattle.ranges.specs.Range.{runs_of, marks_after_both, lengths_after_both};
-ghost use Rattle.ranges_c.specs.Flat.{flat_range};
+ghost use Rattle.ranges.specs.Flat.{flat_range};
 
-use fields::version::Version;
-use ranges::RunRange;
-
-// As C gets both reports; crate `lua53` answers it too.
-#[repr(C)]
-#[derive(Drop)]
-pub struct FlatRange {
-    pub number: u64,
-    pub place: u64,
-    pub low_longest: u64,
-    pub low_first: u64,
-    pub high_longest: u64,
-    pub high_first: u64,
-}
-
-pub fn flat_range(runs: RunRange) -> FlatRange
-    ensures { result ≡ flat_range runs }
-{
-    match runs {
-        RunRange::Accepted {
-            low_longest,
-            low_first,
-            high_longest,
-            high_first,
-        } => FlatRange {
-            number: 0,
-            place: 0,
-            low_longest: low_longest as u64,
-            low_first: low_first as u64,
-            high_longest: high_longest as u64,
-            high_first: high_first as u64,
-        },
-        RunRange::Refused { number, place } => FlatRange {
-            number: number as u64,
-            place: place as u64,
-            low_longest: 0,
-            low_first: 0,
-            high_longest: 0,
-            high_first: 0,
-        },
-    }
-}
+use ranges::c::FlatRange;
 
 #[unsafe(no_mangle)]
 pub extern "C" fn lawendeb_longest_runs(
@@ -62,5 +21,5 @@ pub extern "C" fn lawendeb_longest_runs(
     ensures lengths_after { lengths.new ≡ lengths_after_both (lua54 words.now) low.now
         high.now marks.old lengths.old }
 {
-    flat_range(ranges::longest_runs(Version::Lua54, words, low, high, marks, lengths))
+    ranges::c::lawendeb_longest_runs(words, low, high, marks, lengths)
 }

@@ -7,3 +7,4 @@ pub mod Nearest
 pub mod ListedWords
 pub mod Crossings
 pub mod Versions
+pub mod Flattened

@@ -6,3 +6,5 @@ pub mod Crossings
 pub mod Versions
 pub mod Pass
 pub mod Pairs
+pub mod Flat
+pub mod Flattened

@@ -1,5 +1,6 @@
 // Over runs, by entries that `runs::inner` settles: how far each word is from a service, and how many edges
 // pass over a word (request C-22).
+pub mod c;
 pub mod crossing;
 pub mod distance;
 mod pairs;

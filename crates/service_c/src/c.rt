@@ -1,82 +1,14 @@
-// The C interface of the three questions: answers as structs of numbers, since an exported
-// function may give no enum.
+// For C: the three questions of `service`. Each export calls the function of that name in `service`, and promises the same.
 ghost use Rattle.std.specs.Prelude.{◌≡◌, length};
 ghost use Rattle.runs.specs.Script.{lua54};
 ghost use Rattle.runs.specs.Run.{marks_after, lengths_after};
 ghost use Rattle.runs.specs.Counted.{ones};
-ghost use Rattle.service.specs.Questions.{
-  nearest_of,
-  crossed_of,
-  within_of,
-  marks_within,
-  lengths_within,
-  list_within,
-};
+ghost use Rattle.service.specs.Questions.{nearest_of, crossed_of, within_of, marks_within, lengths_within, list_within};
 ghost use Rattle.common.specs.Flat.{flat_answer};
-ghost use Rattle.service_c.specs.Flat.{flat_nearest, flat_crossed};
+ghost use Rattle.service.specs.Flat.{flat_nearest, flat_crossed};
 
-use common::c::{FlatAnswer, flat_answer};
-use fields::version::Version;
-use service::{Crossed, Nearest, crossing_edges, distance_to_service, list_within};
-
-#[repr(C)]
-#[derive(Drop)]
-pub struct FlatNearest {
-    pub number: u64,
-    pub place: u64,
-    pub found: u64,
-    pub fewest: u64,
-}
-
-#[repr(C)]
-#[derive(Drop)]
-pub struct FlatCrossed {
-    pub number: u64,
-    pub place: u64,
-    pub count: u64,
-}
-
-pub fn flat_nearest(nearest: Nearest) -> FlatNearest
-    ensures { result ≡ flat_nearest nearest }
-{
-    match nearest {
-        Nearest::Fewest(fewest) => FlatNearest {
-            number: 0,
-            place: 0,
-            found: 1,
-            fewest: fewest as u64,
-        },
-        Nearest::Nowhere => FlatNearest {
-            number: 0,
-            place: 0,
-            found: 0,
-            fewest: 0,
-        },
-        Nearest::Refused { number, place } => FlatNearest {
-            number: number as u64,
-            place: place as u64,
-            found: 0,
-            fewest: 0,
-        },
-    }
-}
-
-pub fn flat_crossed(crossed: Crossed) -> FlatCrossed
-    ensures { result ≡ flat_crossed crossed }
-{
-    match crossed {
-        Crossed::Count(count) => FlatCrossed {
-            number: 0,
-            place: 0,
-            count: count as u64,
-        },
-        Crossed::Refused { number, place } => FlatCrossed {
-            number: number as u64,
-            place: place as u64,
-            count: 0,
-        },
-    }
-}
+use common::c::FlatAnswer;
+use service::c::{FlatCrossed, FlatNearest};
 
 #[unsafe(no_mangle)]
 pub extern "C" fn lawendeb_distance_to_service(
@@ -92,7 +24,7 @@ pub extern "C" fn lawendeb_distance_to_service(
     ensures lengths_after { lengths.new
         ≡ lengths_after (lua54 words.now) ones marks.old lengths.old }
 {
-    flat_nearest(distance_to_service(Version::Lua54, words, w, marks, lengths))
+    service::c::lawendeb_distance_to_service(words, w, marks, lengths)
 }
 
 #[unsafe(no_mangle)]
@@ -112,7 +44,7 @@ pub extern "C" fn lawendeb_list_within(
     ensures list_after { list.new ≡ list_within (lua54 words.now) d marks.old
         lengths.old list.old }
 {
-    flat_answer(list_within(Version::Lua54, words, d, marks, lengths, list))
+    service::c::lawendeb_list_within(words, d, marks, lengths, list)
 }
 
 #[unsafe(no_mangle)]
@@ -129,5 +61,5 @@ pub extern "C" fn lawendeb_crossing_edges(
     ensures lengths_after { lengths.new
         ≡ lengths_after (lua54 words.now) ones marks.old lengths.old }
 {
-    flat_crossed(crossing_edges(Version::Lua54, words, w, marks, lengths))
+    service::c::lawendeb_crossing_edges(words, w, marks, lengths)
 }

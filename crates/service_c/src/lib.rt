@@ -1,2 +1,4 @@
 // For C: the three questions of `service`.
+#![tactic(auto)]
+
 pub mod c;

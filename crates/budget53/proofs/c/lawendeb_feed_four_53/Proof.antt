@@ -6,7 +6,7 @@ use denote.Triple.Spec.{triple_of}
 use denote.Triple.Table.{entered, cited}
 use Rattle.fields.specs.declared.version.Version.TheVariants.{Lua53}
 use Rattle.runs.specs.Script.{script_of}
-use Rattle.budget_c.proofs.FeedWalk.{Stepped, feed_meets}
+use Rattle.budget.proofs.FeedWalk.{Stepped, feed_meets}
 use Rattle.budget53.proofs.c.feed_own_53.Symbol as step-def
 use Rattle.budget53.proofs.c.feed_own_53.Symbol.{name as #budget53·feed-own}
 use Rattle.budget53.proofs.c.feed_own_53.Met as step_thm

@@ -6,7 +6,7 @@ use denote.Triple.Spec.{triple_of}
 use denote.Triple.Table.{entered, cited}
 use Rattle.fields.specs.declared.version.Version.TheVariants.{Lua53}
 use Rattle.runs.specs.Script.{script_of}
-use Rattle.meter_c.proofs.FeedWalk.{Stepped, feed_meets}
+use Rattle.meter.proofs.FeedWalk.{Stepped, feed_meets}
 use Rattle.meter53.proofs.c.feed_step_53.Symbol as step-def
 use Rattle.meter53.proofs.c.feed_step_53.Symbol.{name as #meter53·feed-step}
 use Rattle.meter53.proofs.c.feed_step_53.Met as step_thm

@@ -1,2 +1,0 @@
-pub mod FeedWalk
-pub mod ChangeWalk

@@ -1,0 +1,25 @@
+// For C: the feed of a script of Lua 5.3. Each export calls the function of that name in `meter53`, and promises the same.
+ghost use Rattle.std.specs.Prelude.{◌≡◌};
+ghost use Rattle.fields.specs.declared.version.Version.TheVariants.{Lua53};
+ghost use Rattle.runs.specs.Script.{script_of};
+ghost use Rattle.meter.specs.Feed.{scale_of, feed_of};
+
+use common::c::FlatAnswer;
+use meter::Meter;
+
+// For C: `struct lawendeb_answer lawendeb_feed_53(const uint32_t *words, size_t n, const uint8_t *weights,
+// size_t weights_n, struct lawendeb_meter *m, size_t q)`.
+#[unsafe(no_mangle)]
+pub extern "C" fn lawendeb_feed_53(
+    words: &[u32],
+    weights: &[u8],
+    m: &mut Meter,
+    q: usize,
+) -> FlatAnswer
+    ensures { (result ≡ (feed_of (scale_of (script_of Lua53 words.now) weights.now)
+        m.old q).answer)
+        × (m.new ≡ (feed_of (scale_of (script_of Lua53 words.now) weights.now)
+        m.old q).meter) }
+{
+    meter53::c::lawendeb_feed_53(words, weights, m, q)
+}

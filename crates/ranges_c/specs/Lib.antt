@@ -1,2 +1,0 @@
--- The flat form that the C interface answers.
-pub mod Flat

@@ -1,3 +1,0 @@
--- What C gets of an answer.
-pub mod Flat
-pub mod Flattened
