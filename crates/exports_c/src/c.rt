@@ -10,7 +10,7 @@ ghost use Rattle.exports.specs.Flat.{flat_fields, numbers_after, lift_answer};
 
 use common::c::FlatAnswer;
 use exports::c::FlatFields;
-use runs::c::{FlatRun, FlatSuccessors, flat_run, flat_successors};
+use runs::c::{FlatRun, FlatSuccessors};
 
 #[unsafe(no_mangle)]
 pub extern "C" fn lawendeb_successors(words: &[u32], p: usize) -> FlatSuccessors

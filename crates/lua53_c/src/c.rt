@@ -15,12 +15,11 @@ ghost use Rattle.common.specs.Flat.{flat_answer};
 ghost use Rattle.service.specs.Flat.{flat_nearest, flat_crossed};
 ghost use Rattle.touches.specs.Touches.{touches_for};
 
-use common::c::{FlatAnswer, flat_answer};
+use common::c::FlatAnswer;
 use lua53::c::FlatFields;
-use ranges::c::{FlatRange, flat_range};
-use runs::c::{FlatRun, FlatSuccessors, flat_run, flat_successors};
-use service::c::{FlatCrossed, FlatNearest, flat_crossed, flat_nearest};
-use service::list_within;
+use ranges::c::FlatRange;
+use runs::c::{FlatRun, FlatSuccessors};
+use service::c::{FlatCrossed, FlatNearest};
 use touches::Touches;
 
 #[unsafe(no_mangle)]
