@@ -69,6 +69,8 @@ def turn(text, d):
             if new.endswith("-1") and "-" not in w and parts[i - 1] != "before":
                 continue
             parts[i] = new
+            if i + 1 < len(parts) and (new.startswith("if-") or new.endswith("-test")):
+                parts[i + 1] = {"taken": "true", "left": "false"}.get(parts[i + 1], parts[i + 1])
         # What is known further out is a field here too, so that only a place that is handed on needs `before`.
         while len(parts) > 2 and parts[1] == "before" and any(q != "before" for q in parts[2:]):
             del parts[1]
@@ -96,7 +98,7 @@ def turn(text, d):
     lines = text.split("\n")
     for i, l in enumerate(lines):
         if not l.startswith("use "):
-            lines[i] = re.sub(r"(?<![\w.\-)])(?!tie\.)" + WORD + r"(?:\." + WORD + ")+", by_path, l)
+            lines[i] = re.sub(r"(?:(?<![\w.\-)])(?!tie\.)" + WORD + r"|\))(?:\." + WORD + ")+", by_path, l)
     return "\n".join(lines)
 
 

@@ -1,6 +1,6 @@
 -- Request C-24's own numbers: for each of the 64 opcodes the two columns of the table compute to them, whatever C, A and the next word are.
 -- Assumes nothing.
-use Prim.Native.Nat.{ℕ, ◌+◌, ◌/◌, ◌%◌, ◌<◌, ◌≤◌}
+use Prim.Native.Nat.{ℕ, ◌+◌, ◌<◌}
 use mathlib.Core.Path.{◌≡◌, refl, ap, sym, subst, ◌∙◌}
 use mathlib.Core.Bool.{Bool, true, false, cond, not, ◌&&◌, ◌||◌, beq, true≢false}
 use mathlib.Core.List.{List, [], ◌∷◌}
@@ -9,7 +9,6 @@ use lib.Dec.{T, ltb, eqb, eqb→eq}
 use lib.IntN.{ℤ, pos, ◌+ℤ◌}
 use lib.ListN.{length, get_or, get_or-eq_default}
 use borrow.Author.Tests.{lt-ltb, ltb-false, eqb-true}
-use Rattle.fields.specs.lua53.Opcodes.{OP_JMP, OP_TFORLOOP, OP_EXTRAARG}
 use Rattle.fields.specs.lua53.Word.{opcode_of, a_of, c_of, sbx_of}
 use Rattle.fields.specs.lua53.Table.{StepClass, following, returning, branching, comparing, skipping, skipping_if_c}
 use Rattle.fields.specs.lua53.Table.{skipping_unless_c, jumping, looping, invalid, class_number, class_of, Companion}
@@ -17,12 +16,11 @@ use Rattle.fields.specs.lua53.Table.{alone, jump_after, extra_after, extra_after
 use Rattle.fields.specs.Laws.{all}
 use Rattle.fields.proofs.Laws.{laws}
 use Rattle.sweep.specs.declared.edges.Successors.{Successors}
-use Rattle.sweep.specs.declared.edges.Successors.TheVariants.{Invalid}
 use Rattle.steps.specs.lua53.Columns.{class_from}
 use Rattle.sweep.specs.Steps.{unless, is_invalid, list_of}
 use Rattle.steps.specs.lua53.Successors.{opcode_at, next_of, stands_at, companion_present, successors_of}
 use Rattle.steps.specs.Ways.{integers}
-use Rattle.steps.specs.lua53.Bad.{opcode, above_one, zero_c, sbx, between, next_is, returns, skips, jumps}
+use Rattle.steps.specs.lua53.Bad.{opcode, above_one, zero_c, between, next_is, returns, skips, jumps}
 use Rattle.steps.specs.lua53.Bad.{loops, tests, next_words, any_outside, unknown, lacks_jump, lacks_extra}
 use Rattle.steps.specs.lua53.Bad.{lacks_loop, is_bad, ByNumber}
 use Rattle.steps.proofs.Columns53.{class_back}

@@ -16,13 +16,12 @@ use Rattle.fields.specs.lua54.Table.{call_at_target, loop_after, companion_numbe
 use Rattle.fields.specs.Laws.{all}
 use Rattle.fields.proofs.Laws.{laws}
 use Rattle.sweep.specs.declared.edges.Successors.{Successors}
-use Rattle.sweep.specs.declared.edges.Successors.TheVariants.{Invalid}
 use Rattle.steps.specs.lua54.Columns.{class_from, companion_from}
 use Rattle.sweep.specs.Steps.{unless, is_invalid, list_of}
 use Rattle.steps.specs.lua54.Successors.{opcode_at, is_between, next_of, stands_at, companion_present, successors_of}
 use Rattle.steps.specs.Ways.{integers}
 use Rattle.steps.specs.lua53.Bad.{between, any_outside}
-use Rattle.steps.specs.lua54.Bad.{opcode, k_is_one, bx, sj, next_words, is_at, is, lacks, is_bad, ByNumber}
+use Rattle.steps.specs.lua54.Bad.{opcode, k_is_one, bx, next_words, is_at, is, lacks, is_bad, ByNumber}
 use Rattle.steps.proofs.Columns.{class_back, companion_back}
 use Rattle.sweep.proofs.Steps.{let_through}
 use Rattle.steps.proofs.NextWords.{Same, itself, one_by, two_same}

@@ -81,7 +81,7 @@ fill_lengths_spec =
     (λ c κs. let d = c.before.before.before in (filling_asks (w d) heaviest_weight (light d) _ _ _ _ _ _ (filling d), c.weigh-weight.ensures.1))
     (λ c. omega (arith, in_measured c.before.before))
     (λ c. in_measured c.before.before)
-    (λ c. omega (arith, (turn c.before.before).loop-test.taken))
+    (λ c. omega (arith, (turn c.before.before).loop-i-test.true))
     (λ c.
     let k = c.before.before in
     let d = turn k in

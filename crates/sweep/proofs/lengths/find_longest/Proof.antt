@@ -1,5 +1,4 @@
 use mathlib.Core.Path.{◌≡◌, refl, ap, ◌∙◌}
-use mathlib.Core.Logic.{⊎_elim}
 use Prim.Native.Nat.{◌-◌, ◌≤◌}
 use native.Mathlib.Omega.{arith}
 use Rattle.graph.specs.Longest.{most}
@@ -7,6 +6,7 @@ use Rattle.graph.proofs.Laws.{laws}
 use Rattle.sweep.specs.PassInvariants.{at}
 use Rattle.sweep.proofs.lengths.find_longest.Statement.{statement}
 use Rattle.sweep.proofs.lengths.find_longest.Tie as tie
+use Rattle.sweep.proofs.lengths.find_longest.Lts.{then-longest-lengths, else-longest-lengths}
 
 abbrev invariant_loop : tie.invariant-loop-i
 invariant_loop lengths n longest₀ i₀ longest i = (i ≤ n) × (longest ≡ most (at lengths) i)
@@ -23,7 +23,7 @@ loop_again c =
     let l = c.before.before.before in
     let v = l.loop-i.invariant in
     let m = laws.most_more (at l.args.lengths.now) l.loop-i.i in
-    (omega arith, ⊎_elim (λ w. omega (arith, w.0.taken, w.2, v.1, m)) (λ w. omega (arith, w.0.left, w.1, v.1, m)) c.if-longest-lengths.branch)
+    (omega arith, elim c.if-longest-lengths.branch [ then-longest-lengths w ↦ omega (arith, v.1, m) | else-longest-lengths w ↦ omega (arith, v.1, m) ])
 
 returns : tie.Need-returns invariant_loop decreases_loop
 returns c =

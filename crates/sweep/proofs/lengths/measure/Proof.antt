@@ -39,7 +39,7 @@ entering c = c.before.before.before
 -- where the word's own place is cleared
 module _ (c : tie.After-beyond-x) where
   abbrev here : tie.Else-marks-p-eq0
-  here = entering c.before.before
+  here = entering c.before
 
   adds : let s = enter here in c.beyond-x.result ≡ beyond_of (l s) (p s) (entry s % «TARGETS»)
   adds = let s = enter here in c.beyond-x.ensures ∙ beyond_cleared (l s) (p s) (entry s % «TARGETS») 0
@@ -88,12 +88,12 @@ returns_5 c =
     let d = here c.before in
     let s = enter d in
     let e = entry_target (entry s) (p s) c.if-kind-eq-KIND_TARGET.true in
-    (measures_by (m s) (l s) (p s) d.if-marks-p-eq0.left e (λ _. s.args.weight) s.args.invalid (omega (arith, adds c.before)) refl, cleared (l s) (p s))
+    (measures_by (m s) (l s) (p s) d.if-marks-p-eq0.false e (λ _. s.args.weight) s.args.invalid (omega (arith, adds c.before)) refl, cleared (l s) (p s))
 
 -- two steps
 module _ (c : tie.Else-kind-eq-KIND_TARGET) where
   two : let s = enter (here c.before) in steps_in (l s) (p s) ≡ ordered (p s + 1) (entry s % «TARGETS»)
-  two = let s = enter (here c.before) in let d = c.before.before.before in entry_both (entry s) (p s) d.if-kind-eq-KIND_NONE.false d.if-kind-eq-KIND_NEXT.false c.if-kind-eq-KIND_TARGET.false
+  two = let s = enter (here c.before) in let d = c.before.before in entry_both (entry s) (p s) d.if-kind-eq-KIND_NONE.false d.if-kind-eq-KIND_NEXT.false c.if-kind-eq-KIND_TARGET.false
 
   two_best : let s = enter (here c.before) in
       max s.args.above c.beyond-x.result
@@ -108,7 +108,7 @@ returns_6 c =
     let d = here c.before.before in
     let s = enter d in
     let e = two c.before in (
-      measures_by (m s) (l s) (p s) d.if-marks-p-eq0.left e (λ _. s.args.weight) s.args.invalid
+      measures_by (m s) (l s) (p s) d.if-marks-p-eq0.false e (λ _. s.args.weight) s.args.invalid
           (omega (arith, two_best c.before, c.larger.ensures))
           (both_valid _ _ (p s) s.args.invalid),
       cleared (l s) (p s),
@@ -139,7 +139,7 @@ measure_spec =
     (λ c. let s = enter (entering c) in omega (arith, s.requires.0.in_l))
     (λ c. (enter (entering c)).requires.0.in_l)
     (λ c. search rules)
-    (λ c κs. asks c.before)
+    (λ c κs. asks c)
     (λ c. let s = enter (here c.before) in omega (arith, s.requires.1, low c.before))
     (λ c. let s = enter (here c.before) in length-set (l s) (p s) 0)
     returns_5

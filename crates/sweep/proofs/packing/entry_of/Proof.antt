@@ -15,10 +15,10 @@ tell : (s : Successors) {v p : ℕ} {t : Successors} → s ≡ t → Says v p t 
 tell s {v} {p} e y = subst (λ (x : Successors). Says v p x) (sym e) y
 
 -- the steps in the arms of One and Two
-one : (c : tie.In-One-2) → Packs c.args.p (One c.in-One.a)
+one : (c : tie.In-One) → Packs c.args.p (One c.in-One.a)
 one c = subst (λ (x : Successors). Packs c.args.p x) c.in-One.is c.requires.1
 
-two : (c : tie.In-Two-2) → Packs c.args.p (Two c.in-Two.a c.in-Two.b)
+two : (c : tie.In-Two) → Packs c.args.p (Two c.in-Two.a c.in-Two.b)
 two c = subst (λ (x : Successors). Packs c.args.p x) c.in-Two.is c.requires.1
 
 pub entry_of_spec : {M : Type 1} → statement M
@@ -34,19 +34,19 @@ entry_of_spec =
     (λ c. search rules)
     (λ c. tell _ c.in-One.is (says_next _ _ c.if-a-p.true))
     (λ c. search rules)
-    (λ c. omega (arith, one c.before.before))
-    (λ c. omega (arith, one c.before.before))
-    (λ c. tell _ c.in-One.is (says_target _ _ (one c.before.before)))
+    (λ c. omega (arith, one c.before))
+    (λ c. omega (arith, one c.before))
+    (λ c. tell _ c.in-One.is (says_target _ _ (one c.before)))
     (λ c. search rules)
     (λ c. omega (arith, c.requires.0))
     (λ c. search rules)
-    (λ c. omega (arith, (two c.before.before).1))
-    (λ c. omega (arith, (two c.before.before).1))
-    (λ c. let t = two c.before.before in tell _ c.in-Two.is (says_up _ _ t.1 c.if-a-p-2.true t.0))
+    (λ c. omega (arith, (two c.before).1))
+    (λ c. omega (arith, (two c.before).1))
+    (λ c. let t = two c.before in tell _ c.in-Two.is (says_up _ _ t.1 c.if-a-p-2.true t.0))
     (λ c. search rules)
-    (λ c. let t = two c.before.before in omega (arith, t.0, t.1))
-    (λ c. let t = two c.before.before in omega (arith, t.0, t.1))
+    (λ c. let t = two c.before in omega (arith, t.0, t.1))
+    (λ c. let t = two c.before in omega (arith, t.0, t.1))
     (λ c.
-    let t = two c.before.before in
+    let t = two c.before in
     tell _ c.in-Two.is (says_down _ _ (omega (arith, t.0, t.1))
     (⊎_elim (λ e. absurd (c.if-a-p-2.false e)) (λ e. e) t.2) t.0)))

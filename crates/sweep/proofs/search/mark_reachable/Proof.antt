@@ -129,11 +129,11 @@ mark_reachable_spec =
     let at-follow = c.before.before.before.before in
     let d = at-follow.before.before.before in
     let v = at-follow.follow-tail in
-    searching_in _ _ (held (rooted d)) d.loop-head.invariant v.ensures v.auto.0)
+    searching_in _ _ (held (rooted d)) d.loop-head.invariant v.ensures v.auto.marks)
     (λ c.
     let turn = c.before in
     let p = turn.before.before.before.before.before in
-    turn.loop-head.invariant.searching.m_same ∙ p.push-tail.auto.marks ∙ (clearing p).clear-marks.auto.marks)
+    turn.loop-head.invariant.searching.m_same ∙ p.push-tail.auto.marks ∙ (clearing p).clear_marks.auto.marks)
     (λ c.
     let turn = c.before in
     let p = turn.before.before.before.before.before in

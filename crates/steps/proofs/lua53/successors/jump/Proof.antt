@@ -6,11 +6,11 @@ use borrow.Author.Rules.{rules}
 use Rattle.steps.proofs.lua53.successors.jump.Statement.{statement}
 use Rattle.steps.proofs.lua53.successors.jump.Tie as tie
 
-returns : tie.Need-returns
-returns c = rw (← c.before.bx.ensures) (away_below _ _ _ _ c.if1.true)
+returns : tie.Need-returns-then-to-lt-OFFSET_SBX
+returns c = rw (← c.bx.ensures) (away_below _ _ _ _ c.if-to-lt-OFFSET_SBX.true)
 
-returns_2 : tie.Need-returns-2
-returns_2 c = c.one_of.ensures ∙ rw (← c.before.before.bx.ensures) (away_in _ _ _ _ c.before.if1.false)
+returns_2 : tie.Need-returns
+returns_2 c = c.one_of.ensures ∙ rw (← c.bx.ensures) (away_in _ _ _ _ c.if-to-lt-OFFSET_SBX.false)
 
 pub jump_spec : {M : Type 1} → statement M
 jump_spec =

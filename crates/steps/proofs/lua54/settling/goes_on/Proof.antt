@@ -6,5 +6,5 @@ pub goes_on_spec : {M : Type 1} → statement M
 goes_on_spec =
     tie.close
     (tie.spec
-    (λ c. simp (eq-eqb c.before.args.companion 0 c.if1.true))
-    (λ c. simp (ne_eqb c.before.args.companion 0 c.if1.false)))
+    (λ c. simp (eq-eqb c.args.companion 0 c.if-companion-eq-ALONE.true))
+    (λ c. simp (ne_eqb c.args.companion 0 c.if-companion-eq-ALONE.false)))

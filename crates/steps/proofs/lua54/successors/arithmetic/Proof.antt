@@ -7,21 +7,21 @@ use borrow.Author.Rules.{rules}
 use Rattle.steps.proofs.lua54.successors.arithmetic.Statement.{statement}
 use Rattle.steps.proofs.lua54.successors.arithmetic.Tie as tie
 
-returns : tie.Need-returns
-returns c = none_out _ _ c.if1.true
+returns : tie.Need-returns-then-words-p
+returns c = none_out _ _ c.if-words-p.true
 
-shared_slice_read_opcode : tie.Need-shared-slice-read-opcode
+shared_slice_read_opcode : tie.Need-bounds-words-p
 shared_slice_read_opcode c = omega arith
 
-returns_2 : tie.Need-returns-2
+returns_2 : tie.Need-returns-then-is_between
 unfolding unless opcode_at
 returns_2 c =
     let a = c.before in
-    rw (← a.before.opcode.ensures, ← a.is-between.ensures, c.if2.true) (two_in (omega arith) a.before.before.before.if1.false)
+    rw (← a.opcode.ensures, ← a.is_between.ensures, c.if-is_between.true) (two_in (omega arith) a.if-words-p.false)
 
-returns_3 : tie.Need-returns-3
+returns_3 : tie.Need-returns
 unfolding unless opcode_at
-returns_3 c = let a = c.before in rw (← a.before.opcode.ensures, ← a.is-between.ensures, c.if2.false)
+returns_3 c = let a = c.before in rw (← a.opcode.ensures, ← a.is_between.ensures, c.if-is_between.false)
 
 pub arithmetic_spec : {M : Type 1} → statement M
 arithmetic_spec =

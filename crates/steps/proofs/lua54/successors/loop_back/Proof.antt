@@ -7,16 +7,16 @@ use borrow.Author.Rules.{rules}
 use Rattle.steps.proofs.lua54.successors.loop_back.Statement.{statement}
 use Rattle.steps.proofs.lua54.successors.loop_back.Tie as tie
 
-returns : tie.Need-returns
-returns c = rw (← c.before.bx.ensures) (back_below _ _ _ c.if1.true)
+returns : tie.Need-returns-then-next-back
+returns c = rw (← c.bx-back.ensures) (back_below _ _ _ c.if-next-back.true)
 
-returns_2 : tie.Need-returns-2
+returns_2 : tie.Need-returns-then-back-eq0
 returns_2 c =
-    let none : c.before.before.before.bx.result ≡ 0 = omega arith in
-    c.one_of.ensures ∙ rw (← c.before.before.before.bx.ensures) (back_none _ _ _ none)
+    let none : c.bx-back.result ≡ 0 = omega arith in
+    c.one_of.ensures ∙ rw (← c.bx-back.ensures) (back_none _ _ _ none)
 
-returns_3 : tie.Need-returns-3
-returns_3 c = c.two-of.ensures ∙ rw (← c.before.before.before.bx.ensures) (back_in _ _ _ c.before.before.if1.false)
+returns_3 : tie.Need-returns
+returns_3 c = c.two_of.ensures ∙ rw (← c.bx-back.ensures) (back_in _ _ _ c.if-next-back.false)
 
 pub loop_back_spec : {M : Type 1} → statement M
 loop_back_spec =

@@ -15,38 +15,38 @@ use Rattle.steps.proofs.lua54.successors.successors.Statement.{statement}
 use Rattle.steps.proofs.lua54.successors.successors.Tie as tie
 
 -- where both columns are read
-module _ (c : tie.After-companion-and-class) where
+module _ (c : tie.After-companion_and_class-byte) where
   abbrev start : tie.Start
   start = c.before.before.before.before
 
   abbrev words : List ℕ
   words = start.args.words.now
 
-  by_numbers : (companion class : ℕ) → c.companion-and-class.result / 16 ≡ companion
-      → c.companion-and-class.result % 16 ≡ class
+  by_numbers : (companion class : ℕ) → c.companion_and_class-byte.result / 16 ≡ companion
+      → c.companion_and_class-byte.result % 16 ≡ class
       → unless (stands_at (companion_from companion) words start.args.p)
       (next_of (class_from class) (length words) (get_or words start.args.p 0) start.args.p)
       ≡ successors_of words start.args.p
   by_numbers companion class d e =
-      by_columns words start.args.p companion class c.before.before.if1.false
-      (ap companion_from (sym d) ∙ companion_of_byte _ _ _ c.companion-and-class.ensures)
-      (ap class_from (sym e) ∙ class_of_byte _ _ _ c.companion-and-class.ensures)
+      by_columns words start.args.p companion class c.if-words-p.false
+      (ap companion_from (sym d) ∙ companion_of_byte _ _ _ c.companion_and_class-byte.ensures)
+      (ap class_from (sym e) ∙ class_of_byte _ _ _ c.companion_and_class-byte.ensures)
 
-returns_2 : tie.Need-returns-2
+returns_2 : tie.Need-returns-then-byte-eq0
 unfolding unless companion_from class_from
 returns_2 c =
-    let none = c.before.if2.true in
+    let none = c.if-byte-eq0.true in
     c.one_of.ensures ∙ by_numbers c.before.before 0 0 (omega (arith, none)) (omega (arith, none))
 
-returns_3 : tie.Need-returns-3
+returns_3 : tie.Need-returns-then-class-eq-BRANCHING
 unfolding companion_from class_from
-returns_3 c = c.test.ensures ∙ by_numbers c.before.before.before.before 3 2 c.before.before.if3.true c.before.if4.true
+returns_3 c = c.test.ensures ∙ by_numbers c.before.before.before.before 3 2 c.if-companion-eq-JUMP_AFTER.true c.if-class-eq-BRANCHING.true
 
 pub successors_spec : {M : Type 1} → statement M
 successors_spec =
     tie.close
     (tie.spec
-    (λ c. sym (outside _ _ c.if1.true))
+    (λ c. sym (outside _ _ c.if-words-p.true))
     (λ c. search rules)
     (λ c. search rules)
     (λ c κs. search rules)
@@ -56,4 +56,4 @@ successors_spec =
     (λ c κs. search rules)
     returns_3
     (λ c κs. search rules)
-    (λ c. c.successors-by.ensures ∙ by_numbers c.before.before.before _ _ refl refl))
+    (λ c. c.successors_by.ensures ∙ by_numbers c.before.before.before _ _ refl refl))

@@ -5,13 +5,13 @@ use borrow.Author.Rules.{rules}
 use Rattle.steps.proofs.lua54.successors.successors_by.Statement.{statement}
 use Rattle.steps.proofs.lua54.successors.successors_by.Tie as tie
 
-returns : tie.Need-returns
+returns : tie.Need-returns-then-stands_at
 unfolding unless
-returns c = rw (← c.before.before.before.stands_at.ensures, c.before.before.if1.true) c.next_of.ensures
+returns c = rw (← c.stands_at.ensures, c.if-stands_at.true) c.next_of.ensures
 
-returns_2 : tie.Need-returns-2
+returns_2 : tie.Need-returns-else-stands_at
 unfolding unless
-returns_2 c = rw (← c.before.stands_at.ensures, c.if1.false)
+returns_2 c = rw (← c.stands_at.ensures, c.if-stands_at.false)
 
 pub successors_by_spec : {M : Type 1} → statement M
 successors_by_spec =

@@ -10,19 +10,19 @@ use borrow.Author.Tests.{eq-eqb, ne_eqb}
 use Rattle.steps.proofs.lua54.successors.test.Statement.{statement}
 use Rattle.steps.proofs.lua54.successors.test.Tie as tie
 
-returns : tie.Need-returns
-returns c = none_out _ _ c.if1.true
+returns : tie.Need-returns-then-words-p
+returns c = none_out _ _ c.if-words-p.true
 
-shared_slice_read_opcode : tie.Need-shared-slice-read-opcode
+shared_slice_read_opcode : tie.Need-bounds-words-p
 shared_slice_read_opcode c = omega arith
 
-returns_2 : tie.Need-returns-2
+returns_2 : tie.Need-returns-then-opcode-eq-OP_JMP
 unfolding unless opcode_at
-returns_2 c = simp (eq-eqb _ OP_JMP (sym c.before.opcode.ensures ∙ c.if2.true)) (two_in (omega arith) c.before.before.before.if1.false)
+returns_2 c = simp (eq-eqb _ OP_JMP (sym c.opcode.ensures ∙ c.if-opcode-eq-OP_JMP.true)) (two_in (omega arith) c.if-words-p.false)
 
-returns_3 : tie.Need-returns-3
+returns_3 : tie.Need-returns
 unfolding unless opcode_at
-returns_3 c = simp (ne_eqb _ OP_JMP (λ z. c.if2.false (c.before.opcode.ensures ∙ z)))
+returns_3 c = simp (ne_eqb _ OP_JMP (λ z. c.if-opcode-eq-OP_JMP.false (c.opcode.ensures ∙ z)))
 
 pub test_spec : {M : Type 1} → statement M
 test_spec =
