@@ -6,7 +6,7 @@ use crate::bits::signed;
 
 // The Rust's `opcode`, an Option, is left out: an opcode is known exactly if its
 // number is at most OP_EXTRAARG.
-#[derive(Drop)]
+#[derive(Clone, Copy)]
 pub struct RawInstruction54 {
     pub opcode_num: u8,
     pub a: u8,

@@ -7,24 +7,24 @@ use Rattle.common.specs.Chain.{choose}
 use Rattle.builders.proofs.parts.result_writes.Statement.{statement}
 use Rattle.builders.proofs.parts.result_writes.Tie as tie
 
-returns : tie.Need-returns
+returns : tie.Need-returns-then-c-eq0
 unfolding results choose
-returns c = rw (c.before.if1.true, c.writes1.ensures)
+returns c = rw (c.if-c-eq0.true, c.writes1.ensures)
 
-returns_2 : tie.Need-returns-2
+returns_2 : tie.Need-returns-then-c-le1
 unfolding results choose
-returns_2 c = rw (ne_eqb _ _ c.before.before.if1.false, le-leb _ _ c.before.if2.true, c.writes0.ensures)
+returns_2 c = rw (ne_eqb _ _ c.if-c-eq0.false, le-leb _ _ c.if-c-le1.true, c.writes0.ensures)
 
-returns_3 : tie.Need-returns-3
+returns_3 : tie.Need-returns-else-c-le1
 unfolding results choose
 returns_3 c =
     let at-if1 = c.before.before.before.before in
     rw (
-      ne_eqb _ _ at-if1.if1.false,
-      lt-leb _ _ c.before.before.before.if2.false,
-      c.writes12.ensures,
-      c.before.register-less.ensures,
-      c.before.before.register-plus.ensures,
+      ne_eqb _ _ at-if1.if-c-eq0.false,
+      lt-leb _ _ c.if-c-le1.false,
+      c.writes1-else-c-le1.ensures,
+      c.register_less-end.ensures,
+      c.register_plus.ensures,
     )
 
 pub result_writes_spec : {M : Type 1} → statement M

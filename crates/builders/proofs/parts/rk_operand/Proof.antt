@@ -7,13 +7,13 @@ use Rattle.common.specs.Chain.{choose}
 use Rattle.builders.proofs.parts.rk_operand.Statement.{statement}
 use Rattle.builders.proofs.parts.rk_operand.Tie as tie
 
-returns : tie.Need-returns
+returns : tie.Need-returns-then-k-eq0
 unfolding rk choose
-returns c = rw c.if1.true
+returns c = rw c.if-k-eq0.true
 
-returns_2 : tie.Need-returns-2
+returns_2 : tie.Need-returns-else-k-eq0
 unfolding rk choose
-returns_2 c = rw (ne_eqb _ _ c.before.if1.false) c.constant-operand.ensures
+returns_2 c = rw (ne_eqb _ _ c.if-k-eq0.false) c.constant_operand.ensures
 
 pub rk_operand_spec : {M : Type 1} → statement M
 rk_operand_spec = tie.close (tie.spec (λ c κs. search rules) returns returns_2)
