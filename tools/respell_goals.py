@@ -100,6 +100,24 @@ def turn(text, d):
     return "\n".join(lines)
 
 
+def flat(text):
+    """`let at_x = c.before.before in`, of which only fields are cited: what is known further out is a field of `c`."""
+    blocks = text.split("\n\n")
+    for i, b in enumerate(blocks):
+        while True:
+            for m in re.finditer(r"(?m)^ *let ([\w·'\-]+) = ([\w·'\-]+)(?:\.before)+ in\n", b):
+                n = re.escape(m[1])
+                rest = b[: m.start()] + b[m.end() :]
+                if re.search(rf"(?<![\w.\-']){n}(?![\w\-'.])", rest) or re.search(rf"(?<![\w.\-']){n}\.before(?:\.before)*(?! in\n)(?![\w.\-])", rest):
+                    continue
+                b = re.sub(rf"(?<![\w.\-']){n}\.(?=[\w])", m[2] + ".", rest)
+                break
+            else:
+                break
+        blocks[i] = b
+    return "\n\n".join(blocks)
+
+
 def main(names):
     for c in names:
         top = os.path.join("crates", c)
@@ -123,7 +141,7 @@ def main(names):
                 continue
             with open(file) as f:
                 old = f.read()
-            new = turn(old, it)
+            new = flat(turn(old, it))
             if new != old:
                 with open(file, "w") as f:
                     f.write(new)
