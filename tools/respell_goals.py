@@ -105,10 +105,11 @@ def flat(text):
     blocks = text.split("\n\n")
     for i, b in enumerate(blocks):
         while True:
-            for m in re.finditer(r"(?m)^ *let ([\w·'\-]+) = ([\w·'\-]+)(?:\.before)+ in\n", b):
+            for m in re.finditer(r"(?m)^ *let ([\w·'\-]+) = ([\w·'\-]+)(?:\.before)+ in( \()?\n", b):
                 n = re.escape(m[1])
-                rest = b[: m.start()] + b[m.end() :]
-                if re.search(rf"(?<![\w.\-']){n}(?![\w\-'.])", rest) or re.search(rf"(?<![\w.\-']){n}\.before(?:\.before)*(?! in\n)(?![\w.\-])", rest):
+                head = b[: m.start()]
+                rest = (head[:-1] + " (\n" if m[3] else head) + b[m.end() :]
+                if re.search(rf"(?<![\w.\-']){n}(?![\w\-'.])", rest) or re.search(rf"(?<![\w.\-']){n}\.before(?:\.before)*(?! in(?: \()?\n)(?![\w.\-])", rest):
                     continue
                 b = re.sub(rf"(?<![\w.\-']){n}\.(?=[\w])", m[2] + ".", rest)
                 break
