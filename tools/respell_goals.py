@@ -102,6 +102,25 @@ def turn(text, d):
     return "\n".join(lines)
 
 
+def flat(text):
+    """`let at_x = c.before.before in`, of which only fields are cited: what is known further out is a field of `c`."""
+    blocks = text.split("\n\n")
+    for i, b in enumerate(blocks):
+        while True:
+            for m in re.finditer(r"(?m)^ *let ([\w·'\-]+) = ([\w·'\-]+)(?:\.before)+ in( \()?\n", b):
+                n = re.escape(m[1])
+                head = b[: m.start()]
+                rest = (head[:-1] + " (\n" if m[3] else head) + b[m.end() :]
+                if re.search(rf"(?<![\w.\-']){n}(?![\w\-'.])", rest) or re.search(rf"(?<![\w.\-']){n}\.before(?:\.before)*(?! in(?: \()?\n)(?![\w.\-])", rest):
+                    continue
+                b = re.sub(rf"(?<![\w.\-']){n}\.(?=[\w])", m[2] + ".", rest)
+                break
+            else:
+                break
+        blocks[i] = b
+    return "\n\n".join(blocks)
+
+
 def main(names):
     for c in names:
         top = os.path.join("crates", c)
@@ -125,7 +144,7 @@ def main(names):
                 continue
             with open(file) as f:
                 old = f.read()
-            new = turn(old, it)
+            new = flat(turn(old, it))
             if new != old:
                 with open(file, "w") as f:
                     f.write(new)

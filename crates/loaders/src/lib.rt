@@ -1,4 +1,6 @@
 // The loaders that lundump.c of Lua 5.4.8 is made of: bytes, numbers, strings and constants.
+#![tactic(auto)]
+
 mod bytes;
 mod constants;
 pub mod inner;

@@ -17,7 +17,7 @@ ghost use Rattle.loaders.specs.Cursors.{
 use common::limits::INT_MAX;
 use common::widths::wide_byte;
 
-#[derive(Drop)]
+#[derive(Clone, Copy)]
 pub enum Refusal {
     // 14
     Header,
@@ -31,7 +31,7 @@ pub enum Refusal {
     Short,
 }
 
-#[derive(Drop)]
+#[derive(Clone, Copy)]
 pub enum Cursor {
     // The position, and the number that was read last.
     At(usize, usize),

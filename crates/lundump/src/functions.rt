@@ -9,7 +9,7 @@ use loaders::{Cursor, Refusal};
 
 // Where a function's head stands, and the counts of its words, constants, line information and names,
 // and how many it has of each.
-#[derive(Drop)]
+#[derive(Clone, Copy)]
 pub struct Layout {
     pub first_at: usize,
     pub code_at: usize,
@@ -22,14 +22,14 @@ pub struct Layout {
 }
 
 // So many functions come before the one that is looked for; or it is found.
-#[derive(Drop)]
+#[derive(Clone, Copy)]
 pub enum Search {
     Left(usize),
     Found(Layout),
 }
 
 // The position past what was read, and how the search stands; or a refusal.
-#[derive(Drop)]
+#[derive(Clone, Copy)]
 pub enum Walk {
     Past(usize, Search),
     Stopped(Refusal),

@@ -8,7 +8,7 @@ ghost use Rattle.lundump.specs.Items.{item_of};
 use loaders::inner::{constant, int, string, with_value};
 use loaders::{Cursor, Refusal};
 
-#[derive(Drop)]
+#[derive(Clone, Copy)]
 pub enum Kind {
     Constants,
     AbsLines,

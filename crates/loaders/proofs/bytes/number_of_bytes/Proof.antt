@@ -4,7 +4,7 @@ use Rattle.loaders.proofs.bytes.number_of_bytes.Statement.{statement}
 use Rattle.loaders.proofs.bytes.number_of_bytes.Tie as tie
 
 returns : tie.Need-returns
-returns c = rw (c.before.word-of-bytes.ensures, c.word-of-bytes2.ensures) (two_words _ _)
+returns c = rw (c.word_of_bytes-low_word.ensures, c.word_of_bytes-high_word.ensures) (two_words _ _)
 
 pub number_of_bytes_spec : {M : Type 1} → statement M
 number_of_bytes_spec =

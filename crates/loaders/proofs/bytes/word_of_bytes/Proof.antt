@@ -7,9 +7,7 @@ use Rattle.loaders.proofs.bytes.word_of_bytes.Tie as tie
 returns : tie.Need-returns
 unfolding little_end
 returns c =
-    let at-low2 = c.before.before.before.before in
-    let at_low = at-low2.before.before in
-    rw (c.low4.ensures.0, c.before.before.low3.ensures.0, at-low2.low2.ensures.0, at_low.low.ensures.0, add-zero)
+    rw (c.low-b3.ensures.0, c.low-b2.ensures.0, c.low-b1.ensures.0, c.low-b0.ensures.0, add-zero)
 
 pub word_of_bytes_spec : {M : Type 1} → statement M
 word_of_bytes_spec =

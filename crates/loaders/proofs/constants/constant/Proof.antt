@@ -7,62 +7,54 @@ use Rattle.loaders.proofs.Takes.{eight_passed, no_tag, is_nil, is_false, is_true
 use Rattle.loaders.proofs.constants.constant.Statement.{statement}
 use Rattle.loaders.proofs.constants.constant.Tie as tie
 
-returns : tie.Need-returns
-returns c = stays none (load_constant _) _ _ _ c.enum_told.given.1
+returns : tie.Need-returns-in_default
+returns c = stays none (load_constant _) _ _ _ c.in_default.is
 
-returns_2 : tie.Need-returns-2
-returns_2 c = moves none (load_constant _) _ _ _ _ _ c.before.before.c.given.1 (sym (ap (cursor_of none) (no_tag _ _ _ c.if1.true)))
+returns_2 : tie.Need-returns-then-chunk-at
+returns_2 c = moves none (load_constant _) _ _ _ _ _ c.in-At.is (sym (ap (cursor_of none) (no_tag _ _ _ c.if-chunk-at.true)))
 
-returns_3 : tie.Need-returns-3
+returns_3 : tie.Need-returns-in-0
 returns_3 c =
-    let at_c = c.before.before.before.before in
-    moves none (load_constant _) _ _ _ _ _ at_c.c.given.1 (sym (ap (cursor_of none) (is_nil _ _ _ c.before.before.if1.false c.match2.keys1)))
+    moves none (load_constant _) _ _ _ _ _ c.in-At.is (sym (ap (cursor_of none) (is_nil _ _ _ c.if-chunk-at.false c.in-0.is)))
 
-returns_4 : tie.Need-returns-4
+returns_4 : tie.Need-returns-in-1
 returns_4 c =
-    let at_c = c.before.before.before.before in
-    moves none (load_constant _) _ _ _ _ _ at_c.c.given.1 (sym (ap (cursor_of none) (is_false _ _ _ c.before.before.if1.false c.match2.keys2)))
+    moves none (load_constant _) _ _ _ _ _ c.in-At.is (sym (ap (cursor_of none) (is_false _ _ _ c.if-chunk-at.false c.in-1.is)))
 
-returns_5 : tie.Need-returns-5
+returns_5 : tie.Need-returns-in-17
 returns_5 c =
-    let at_c = c.before.before.before.before in
-    moves none (load_constant _) _ _ _ _ _ at_c.c.given.1 (sym (ap (cursor_of none) (is_true _ _ _ c.before.before.if1.false c.match2.keys3)))
+    moves none (load_constant _) _ _ _ _ _ c.in-At.is (sym (ap (cursor_of none) (is_true _ _ _ c.if-chunk-at.false c.in-17.is)))
 
-returns_6 : tie.Need-returns-6
+returns_6 : tie.Need-returns-in-19
 returns_6 c =
-    let at_c = c.before.before.before.before.before in
-    moves none (load_constant _) _ _ _ _ _ at_c.c.given.1
+    moves none (load_constant _) _ _ _ _ _ c.in-At.is
     (eight_passed _ _ _ _ c.block.ensures _ ∙ sym (ap (cursor_of none)
-    (is_float _ _ _ c.before.before.before.if1.false c.before.match2.keys4)))
+    (is_float _ _ _ c.if-chunk-at.false c.in-19.is)))
 
-returns_7 : tie.Need-returns-7
+returns_7 : tie.Need-returns-in-3
 returns_7 c =
-    let at_c = c.before.before.before.before.before in
-    moves none (load_constant _) _ _ _ _ _ at_c.c.given.1
-    (eight_passed _ _ _ _ c.block2.ensures _ ∙ sym (ap (cursor_of none)
-    (is_integer _ _ _ c.before.before.before.if1.false c.before.match2.keys5)))
+    moves none (load_constant _) _ _ _ _ _ c.in-At.is
+    (eight_passed _ _ _ _ c.block-in-3.ensures _ ∙ sym (ap (cursor_of none)
+    (is_integer _ _ _ c.if-chunk-at.false c.in-3.is)))
 
-returns_8 : tie.Need-returns-8
+returns_8 : tie.Need-returns-in-4
 returns_8 c =
-    let at_c = c.before.before.before.before.before in
-    moves none (load_constant _) _ _ _ _ _ at_c.c.given.1
-    (c.passed-string.ensures ∙ sym (ap (cursor_of none)
-    (is_short _ _ _ c.before.before.before.if1.false c.before.match2.keys6)))
+    moves none (load_constant _) _ _ _ _ _ c.in-At.is
+    (c.passed_string.ensures ∙ sym (ap (cursor_of none)
+    (is_short _ _ _ c.if-chunk-at.false c.in-4.is)))
 
-returns_9 : tie.Need-returns-9
+returns_9 : tie.Need-returns-in-20
 returns_9 c =
-    let at_c = c.before.before.before.before.before in
-    moves none (load_constant _) _ _ _ _ _ at_c.c.given.1
-    (c.passed-string2.ensures ∙ sym (ap (cursor_of none)
-    (is_long _ _ _ c.before.before.before.if1.false c.before.match2.keys7)))
+    moves none (load_constant _) _ _ _ _ _ c.in-At.is
+    (c.passed_string-in-20.ensures ∙ sym (ap (cursor_of none)
+    (is_long _ _ _ c.if-chunk-at.false c.in-20.is)))
 
-returns_10 : tie.Need-returns-10
+returns_10 : tie.Need-returns-in_default-tag
 returns_10 c =
-    let at_c = c.before.before.before.before in
-    moves none (load_constant _) _ _ _ _ _ at_c.c.given.1 (sym (ap (cursor_of none)
-    (is_unknown _ _ _ c.before.before.if1.false _ refl c.match2.rest.0.0.0.0.0.0.1
-    c.match2.rest.0.0.0.0.0.1 c.match2.rest.0.0.0.0.1 c.match2.rest.0.0.0.1
-    c.match2.rest.0.0.1 c.match2.rest.0.1 c.match2.rest.1)))
+    moves none (load_constant _) _ _ _ _ _ c.in-At.is (sym (ap (cursor_of none)
+    (is_unknown _ _ _ c.if-chunk-at.false _ refl c.in_default-tag.in_default-tag-own.rest.0.0.0.0.0.0.1
+    c.in_default-tag.in_default-tag-own.rest.0.0.0.0.0.1 c.in_default-tag.in_default-tag-own.rest.0.0.0.0.1 c.in_default-tag.in_default-tag-own.rest.0.0.0.1
+    c.in_default-tag.in_default-tag-own.rest.0.0.1 c.in_default-tag.in_default-tag-own.rest.0.1 c.in_default-tag.in_default-tag-own.rest.1)))
 
 pub constant_spec : {M : Type 1} → statement M
 constant_spec =

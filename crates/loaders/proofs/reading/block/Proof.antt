@@ -9,35 +9,32 @@ use Rattle.loaders.proofs.Steps.{stays, moves}
 use Rattle.loaders.proofs.reading.block.Statement.{statement}
 use Rattle.loaders.proofs.reading.block.Tie as tie
 
-returns : tie.Need-returns
-returns c = stays none (load_block _) _ _ _ c.enum_told.given.1
+returns : tie.Need-returns-in_default
+returns c = stays none (load_block _) _ _ _ c.in_default.is
 
-returns_2 : tie.Need-returns-2
+returns_2 : tie.Need-returns-then-size-chunk
 unfolding load_block
 returns_2 c =
-    let entry = c.before.before.before.before.before in
-    let at = c.before.before.before.c.given.0.0 in
-    let n = entry.args.size in
-    let l = length entry.args.chunk.now in
-    moves none (load_block _) _ _ at _ _ c.before.before.before.c.given.1 (rw (le-leb (at + n) l (omega arith)))
+    let at = c.in-At.at in
+    let n = c.args.size in
+    let l = length c.args.chunk.now in
+    moves none (load_block _) _ _ at _ _ c.in-At.is (rw (le-leb (at + n) l (omega arith)))
 
-returns_3 : tie.Need-returns-3
+returns_3 : tie.Need-returns-else-size-chunk
 unfolding load_block
 returns_3 c =
-    let entry = c.before.before.before.before.before in
-    let at = c.before.before.before.c.given.0.0 in
-    let n = entry.args.size in
-    let l = length entry.args.chunk.now in
-    moves none (load_block _) _ _ at _ _ c.before.before.before.c.given.1 (rw (lt-leb (at + n) l (omega arith)))
+    let at = c.in-At.at in
+    let n = c.args.size in
+    let l = length c.args.chunk.now in
+    moves none (load_block _) _ _ at _ _ c.in-At.is (rw (lt-leb (at + n) l (omega arith)))
 
-returns_4 : tie.Need-returns-4
+returns_4 : tie.Need-returns-else-at-chunk
 unfolding load_block
 returns_4 c =
-    let entry = c.before.before.before.before in
-    let at = c.before.before.c.given.0.0 in
-    let n = entry.args.size in
-    let l = length entry.args.chunk.now in
-    moves none (load_block _) _ _ at _ _ c.before.before.c.given.1 (rw (lt-leb (at + n) l (omega arith)))
+    let at = c.in-At.at in
+    let n = c.args.size in
+    let l = length c.args.chunk.now in
+    moves none (load_block _) _ _ at _ _ c.in-At.is (rw (lt-leb (at + n) l (omega arith)))
 
 pub block_spec : {M : Type 1} → statement M
 block_spec =

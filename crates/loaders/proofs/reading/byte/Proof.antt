@@ -6,18 +6,17 @@ use Rattle.loaders.proofs.Steps.{stays, moves}
 use Rattle.loaders.proofs.reading.byte.Statement.{statement}
 use Rattle.loaders.proofs.reading.byte.Tie as tie
 
-returns : tie.Need-returns
-returns c = stays same load_byte _ _ _ c.enum_told.given.1
+returns : tie.Need-returns-in_default
+returns c = stays same load_byte _ _ _ c.in_default.is
 
-returns_2 : tie.Need-returns-2
+returns_2 : tie.Need-returns-then-at-chunk
 unfolding load_byte
 returns_2 c =
-    let at_c = c.before.before.before.before in
-    moves same load_byte _ _ _ _ _ at_c.c.given.1 (rw (lt-ltb _ _ c.before.before.if1.true, c.wide-byte.ensures))
+    moves same load_byte _ _ _ _ _ c.in-At.is (rw (lt-ltb _ _ c.if-at-chunk.true, c.wide_byte.ensures))
 
-returns_3 : tie.Need-returns-3
+returns_3 : tie.Need-returns
 unfolding load_byte
-returns_3 c = moves same load_byte _ _ _ _ _ c.before.before.c.given.1 (rw (le-ltb _ _ c.if1.false))
+returns_3 c = moves same load_byte _ _ _ _ _ c.in-At.is (rw (le-ltb _ _ c.if-at-chunk.false))
 
 pub byte_spec : {M : Type 1} → statement M
 byte_spec =

@@ -5,11 +5,11 @@ use Rattle.loaders.proofs.Steps.{stays, moves}
 use Rattle.loaders.proofs.reading.int.Statement.{statement}
 use Rattle.loaders.proofs.reading.int.Tie as tie
 
-returns : tie.Need-returns
-returns c = stays same load_int _ _ _ c.enum_told.given.1
+returns : tie.Need-returns-in_default
+returns c = stays same load_int _ _ _ c.in_default.is
 
-returns_2 : tie.Need-returns-2
-returns_2 c = moves same load_int _ _ _ _ _ c.before.before.c.given.1 c.unsigned-at.ensures
+returns_2 : tie.Need-returns
+returns_2 c = moves same load_int _ _ _ _ _ c.in-At.is c.unsigned_at.ensures
 
 pub int_spec : {M : Type 1} → statement M
 int_spec = tie.close (tie.spec (λ c. search rules) (λ c. search rules) returns (λ c κs. search rules) returns_2)

@@ -6,32 +6,25 @@ use Rattle.loaders.proofs.Texts.{absent_here, text_here, refused_here, text_insi
 use Rattle.loaders.proofs.strings.name_at.Statement.{statement}
 use Rattle.loaders.proofs.strings.name_at.Tie as tie
 
-mul_t10 : tie.Need-overflow-mul-t10
+mul_t10 : tie.Need-overflow_mul-result
 mul_t10 c =
-    let read = c.before.before.before in
-    let entry = read.before.before in
-    omega (arith, entry.requires, text_inside _ _ _ _ _ (text_here _ _ _ read.string-at.ensures _ _ _ c.before.s2.given.1))
+    omega (arith, c.requires, text_inside _ _ _ _ _ (text_here _ _ _ c.string_at-s.ensures _ _ _ c.in-Bytes.is))
 
-add_t11 : tie.Need-overflow-add-t11
+add_t11 : tie.Need-overflow_add-result
 add_t11 c =
-    let read = c.before.before.before in
-    let entry = read.before.before in
-    omega (arith, entry.requires, text_inside _ _ _ _ _ (text_here _ _ _ read.string-at.ensures _ _ _ c.before.s2.given.1))
+    omega (arith, c.requires, text_inside _ _ _ _ _ (text_here _ _ _ c.string_at-s.ensures _ _ _ c.in-Bytes.is))
 
-returns : tie.Need-returns
+returns : tie.Need-returns-in-Absent
 returns c =
-    let read = c.before.before.before in
-    sym (ap placed_of (absent_here _ _ _ read.string-at.ensures _ c.before.s.given.1))
+    sym (ap placed_of (absent_here _ _ _ c.string_at-s.ensures _ c.in-Absent.is))
 
-returns_2 : tie.Need-returns-2
+returns_2 : tie.Need-returns-in-Bytes
 returns_2 c =
-    let read = c.before.before.before in
-    sym (ap placed_of (text_here _ _ _ read.string-at.ensures _ _ _ c.before.s2.given.1))
+    sym (ap placed_of (text_here _ _ _ c.string_at-s.ensures _ _ _ c.in-Bytes.is))
 
-returns_3 : tie.Need-returns-3
+returns_3 : tie.Need-returns-in-Refused
 returns_3 c =
-    let read = c.before.before.before in
-    sym (ap placed_of (refused_here _ _ _ read.string-at.ensures _ c.before.s3.given.1))
+    sym (ap placed_of (refused_here _ _ _ c.string_at-s.ensures _ c.in-Refused.is))
 
 pub name_at_spec : {M : Type 1} → statement M
 name_at_spec =

@@ -7,26 +7,23 @@ use Rattle.loaders.proofs.Texts.{absent_here, text_here, refused_here}
 use Rattle.loaders.proofs.strings.string.Statement.{statement}
 use Rattle.loaders.proofs.strings.string.Tie as tie
 
-returns : tie.Need-returns
-returns c = stays none load_string_n _ _ _ c.enum_told.given.1
+returns : tie.Need-returns-in_default
+returns c = stays none load_string_n _ _ _ c.in_default.is
 
-returns_2 : tie.Need-returns-2
+returns_2 : tie.Need-returns-in-Absent
 returns_2 c =
-    let at_c = c.before.before.before.before.before in
-    moves none load_string_n _ _ _ _ _ at_c.c.given.1 (sym (ap (cursor_of none)
-    (absent_here _ _ _ c.before.before.before.string-at.ensures _ c.before.s.given.1)))
+    moves none load_string_n _ _ _ _ _ c.in-At.is (sym (ap (cursor_of none)
+    (absent_here _ _ _ c.string_at-s.ensures _ c.in-Absent.is)))
 
-returns_3 : tie.Need-returns-3
+returns_3 : tie.Need-returns-in-Bytes
 returns_3 c =
-    let at_c = c.before.before.before.before.before in
-    moves none load_string_n _ _ _ _ _ at_c.c.given.1 (sym (ap (cursor_of none) (text_here _ _ _
-    c.before.before.before.string-at.ensures _ _ _ c.before.s2.given.1)))
+    moves none load_string_n _ _ _ _ _ c.in-At.is (sym (ap (cursor_of none) (text_here _ _ _
+    c.string_at-s.ensures _ _ _ c.in-Bytes.is)))
 
-returns_4 : tie.Need-returns-4
+returns_4 : tie.Need-returns-in-Refused
 returns_4 c =
-    let at_c = c.before.before.before.before.before in
-    moves none load_string_n _ _ _ _ _ at_c.c.given.1 (sym (ap (cursor_of none)
-    (refused_here _ _ _ c.before.before.before.string-at.ensures _ c.before.s3.given.1)))
+    moves none load_string_n _ _ _ _ _ c.in-At.is (sym (ap (cursor_of none)
+    (refused_here _ _ _ c.string_at-s.ensures _ c.in-Refused.is)))
 
 pub string_spec : {M : Type 1} → statement M
 string_spec =

@@ -2,11 +2,11 @@ use borrow.Author.Rules.{rules}
 use Rattle.lundump.proofs.counts.report.Statement.{statement}
 use Rattle.lundump.proofs.counts.report.Tie as tie
 
-returns : tie.Need-returns
-returns c = rw c.before.l.given.1
+returns : tie.Need-returns-in-Here
+returns c = rw c.in-Here.is
 
-returns_2 : tie.Need-returns-2
-returns_2 c = rw (c.before.before.before.l2.given.1, c.before.refusal-number.ensures, c.refusal-place.ensures)
+returns_2 : tie.Need-returns-in-Not
+returns_2 c = rw (c.in-Not.is, c.refusal_number.ensures, c.refusal_place.ensures)
 
 pub report_spec : {M : Type 1} → statement M
 report_spec =

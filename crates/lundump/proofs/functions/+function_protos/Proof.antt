@@ -102,94 +102,65 @@ protos_μ_loop chunk level at n w₀ i₀ w i = n - i
 -- the steps of `function`
 function_returns : (t : ℕ) → function-lts.Need-returns (function_claims t) (function-at t) function.Post
 function_returns t c =
-    let at-value3 = c.before.before.before.before in
-    let at-position3 = at-value3.before in
-    let at-value2 = at-position3.before in
-    let at-position2 = at-value2.before in
-    let at_position = at-position2.before in
-    let at_Names = at_position.before in
-    let at_value = at_Names.before in
-    let at-lines = at_value.before in
-    let at-cursor = at-lines.before in
-    let at-protos = at-cursor.before in
-    let at-pass = at-protos.before in
-    let at-upvalues = at-pass.before in
-    let at-constants = at-upvalues.before in
-    let at_code = at-constants.before in
-    let at_head = at_code.before in
     joined _ _ _ _ _ _ _ _ _ _ _ _ _ _ _ _ _ _ _ _ _ _ _
-    at_head.head.ensures at_code.code.ensures
-    at-constants.constants.ensures at-upvalues.upvalues.ensures
-    at-pass.pass.ensures at-protos.protos.ensures at-cursor.cursor.ensures at-lines.lines.ensures
-    at_value.value.ensures
-    at_Names.names.ensures
-    at_position.position.ensures
-    at-position2.position2.ensures
-    at-value2.value2.ensures
-    at-position3.position3.ensures
-    at-value3.value3.ensures c.before.before.before.position4.ensures
-    c.before.before.position5.ensures c.before.value4.ensures c.finish.ensures
+    c.head-start.ensures c.code-words.ensures
+    c.constants-tags.ensures c.upvalues-ups.ensures
+    c.pass.ensures c.protos-inner.ensures c.cursor-after.ensures c.lines-debug.ensures
+    c.value.ensures
+    c.names-last.ensures
+    c.position.ensures
+    c.position-2.ensures
+    c.value-2.ensures
+    c.position-3.ensures
+    c.value-3.ensures c.position-4.ensures
+    c.position-5.ensures c.value-4.ensures c.finish.ensures
 
 function_protos_requires : (t : ℕ) → function-lts.Need-protos-requires (function_claims t) (function-at t) function.Post
 function_protos_requires t c κs =
-    let at-constants = c.before.before in
-    let entry = at-constants.before.before.before.before in
-    (omega (arith, entry.requires.0), tt)
+    (omega (arith, c.requires.0), tt)
 
 protos_returns : (t : ℕ) → protos-lts.Need-returns (protos_claims t) (protos_at t) protos.Post protos_inv_loop protos_μ_loop
-protos_returns t c = no_count _ _ _ _ _ _ _ c.before.before.before.int.ensures c.before.enum_told.given.1 c.reason.ensures
+protos_returns t c = no_count _ _ _ _ _ _ _ c.int-count.ensures c.in_default.is c.reason.ensures
 
 protos_returns_2 : (t : ℕ) → protos-lts.Need-returns-2 (protos_claims t) (protos_at t) protos.Post protos_inv_loop protos_μ_loop
 protos_returns_2 t c =
-    let at-int = c.before.before.before.before.before in
-    flat _ _ _ _ _ _ at-int.int.ensures c.before.before.before.count.given.1 _ c.before.if1.true c.if2.true
+    flat _ _ _ _ _ _ c.int-count.ensures c.in-At.is _ c.if-level-eq0.true c.if-n-eq0.true
 
 protos_returns_3 : (t : ℕ) → protos-lts.Need-returns-3 (protos_claims t) (protos_at t) protos.Post protos_inv_loop protos_μ_loop
 protos_returns_3 t c =
-    let at-int = c.before.before.before.before.before in
-    too_deep _ _ _ _ _ _ at-int.int.ensures c.before.before.before.count.given.1 _ c.before.if1.true c.if2.false
+    too_deep _ _ _ _ _ _ c.int-count.ensures c.in-At.is _ c.if-level-eq0.true c.if-n-eq0.false
 
 protos_loop_holds : (t : ℕ) → protos-lts.Need-loop-init (protos_claims t) (protos_at t) protos.Post protos_inv_loop protos_μ_loop
-protos_loop_holds t c = (omega arith, rw (sub-zero c.before.before.count.given.0.1.0))
+protos_loop_holds t c = (omega arith, rw (sub-zero c.in-At.n))
 
 protos_returns_4 : (t : ℕ) → protos-lts.Need-returns-4 (protos_claims t) (protos_at t) protos.Post protos_inv_loop protos_μ_loop
 protos_returns_4 t c =
-    let at-if1 = c.before.before.before.before in
-    let at_count = at-if1.before.before in
-    let at-int = at_count.before.before in
-    stopped_stays _ _ _ _ _ c.enum-told3.given.1 ∙ sym c.before.before.before.loop.invariant.1
-    ∙ (deeper _ _ _ _ _ _ at-int.int.ensures at_count.count.given.1 _ _
-    (level_less _ at-if1.if1.false))
+    stopped_stays _ _ _ _ _ c.in_default-w.is ∙ sym c.loop-i.invariant.1
+    ∙ (deeper _ _ _ _ _ _ c.int-count.ensures c.in-At.is _ _
+    (level_less _ c.if-level-eq0.false))
 
 protos_sub_function : (t : ℕ) → protos-lts.Need-overflow-sub-function (protos_claims t) (protos_at t) protos.Post protos_inv_loop protos_μ_loop
 protos_sub_function t c = omega arith
 
 protos_function_requires : (t : ℕ) → protos-lts.Need-function-requires (protos_claims t) (protos_at t) protos.Post protos_inv_loop protos_μ_loop
 protos_function_requires t c κs =
-    let turn = c.before.before.before.before.before in
-    let at-if1 = turn.before in
-    let at_count = at-if1.before.before in
-    let entry = at_count.before.before.before.before in
-    (omega (arith, entry.requires.0, at-if1.if1.false), tt)
+    (omega (arith, c.requires.0, c.if-level-eq0.false), tt)
 
 protos_loop_again : (t : ℕ) → protos-lts.Need-loop-preserved (protos_claims t) (protos_at t) protos.Post protos_inv_loop protos_μ_loop
 protos_loop_again t c =
-    let at-loop-test = c.before.before.before.before.before in
-    let turn = at-loop-test.before in
+    let turn = c.before in
     let at_count = turn.before.before.before in (
       omega arith,
-      turn.loop.invariant.1 ∙ (rw (one_left at_count.count.given.0.1.0 turn.loop.i at-loop-test.loop-test.true)
-          (one_function _ _ _ _ _ _ _ c.before.before.cursor.ensures c.before.standing.ensures
-          c.function.ensures)),
+      turn.loop-i.invariant.1 ∙ (rw (one_left at_count.in-At.n turn.loop-i.i c.loop-i-test.true)
+          (one_function _ _ _ _ _ _ _ c.cursor-after.ensures c.standing.ensures
+          c.function-w.ensures)),
     )
 
 protos_returns_5 : (t : ℕ) → protos-lts.Need-returns-5 (protos_claims t) (protos_at t) protos.Post protos_inv_loop protos_μ_loop
 protos_returns_5 t c =
-    let at_count = c.before.before.before.before in
-    let at-int = at_count.before.before in
-    let e : at_count.count.given.0.1.0 - c.before.loop.i ≡ 0 = omega arith in
-    sym ((rw e at c.before.loop.invariant.1) ∙ no-function _ _ _) ∙ (deeper _ _ _ _ _ _ at-int.int.ensures
-    at_count.count.given.1 _ _ (level_less _ c.before.before.if1.false))
+    let e : c.in-At.n - c.loop-i.i ≡ 0 = omega arith in
+    sym ((rw e at c.loop-i.invariant.1) ∙ no-function _ _ _) ∙ (deeper _ _ _ _ _ _ c.int-count.ensures
+    c.in-At.is _ _ (level_less _ c.if-level-eq0.false))
 
 pub +function-protos-spec : {M : Type 1} → statement M
 +function-protos-spec = close μ_function μ_protos (λ t. function-lts.spec (function_claims t)

@@ -3,24 +3,20 @@ use borrow.Author.Rules.{rules}
 use Rattle.lundump.proofs.functions.finish.Statement.{statement}
 use Rattle.lundump.proofs.functions.finish.Tie as tie
 
-returns : tie.Need-returns
-returns c = finish_refused _ _ _ _ _ _ c.before.enum_told.given.1 c.reason.ensures
+returns : tie.Need-returns-in_default
+returns c = finish_refused _ _ _ _ _ _ c.in_default.is c.reason.ensures
 
-returns_2 : tie.Need-returns-2
+returns_2 : tie.Need-returns-in_default-s
 returns_2 c =
-    let at_last = c.before.before.before.before in
-    finish_found _ _ _ _ _ _ at_last.last.given.1 _ _ c.before.enum-told2.given.1 c.standing.ensures
+    finish_found _ _ _ _ _ _ c.in-At.is _ _ c.in_default-s.is c.standing.ensures
 
-returns_3 : tie.Need-returns-3
+returns_3 : tie.Need-returns-then-n-eq0
 returns_3 c =
-    let at_last = c.before.before.before.before.before in
-    finish_own _ _ _ _ _ _ at_last.last.given.1 _ c.before.before.s.given.1 c.if1.true
+    finish_own _ _ _ _ _ _ c.in-At.is _ c.in-Left.is c.if-n-eq0.true
 
-returns_4 : tie.Need-returns-4
+returns_4 : tie.Need-returns
 returns_4 c =
-    let at-s = c.before.before.before in
-    let at_last = at-s.before.before.before in
-    finish_later _ _ _ _ _ _ at_last.last.given.1 _ _ at-s.s.given.1 c.before.if1.false c.standing2.ensures
+    finish_later _ _ _ _ _ _ c.in-At.is _ _ c.in-Left.is c.if-n-eq0.false c.standing-2.ensures
 
 pub finish_spec : {M : Type 1} → statement M
 finish_spec =

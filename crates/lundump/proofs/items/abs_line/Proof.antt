@@ -7,7 +7,7 @@ use Rattle.lundump.proofs.items.abs_line.Tie as tie
 
 returns : tie.Need-returns
 unfolding load_abs_line
-returns c = follows same same _ _ _ _ _ _ c.before.int.ensures c.int2.ensures
+returns c = follows same same _ _ _ _ _ _ c.int.ensures c.int-2.ensures
 
 pub abs_line_spec : {M : Type 1} → statement M
 abs_line_spec = tie.close (tie.spec (λ c κs. search rules) (λ c κs. search rules) returns)

@@ -12,50 +12,46 @@ use Rattle.lundump.proofs.Repeats.{next_one, no_more}
 use Rattle.lundump.proofs.items.items.Statement.{statement}
 use Rattle.lundump.proofs.items.items.Tie as tie
 
-abbrev invariant_loop : tie.invariant-loop
+abbrev invariant_loop : tie.invariant-loop-i
 invariant_loop chunk kind n from at₀ i₀ at i =
     (i ≤ n) × (step none (repeat (item_of kind) 0 n) chunk (At from 0)
     ≡ step none (repeat (item_of kind) i (n - i)) chunk (At at 0))
 
-abbrev decreases_loop : tie.decreases-loop
+abbrev decreases_loop : tie.decreases-loop-i
 decreases_loop chunk kind n from at₀ i₀ at i = n - i
 
-returns : tie.Need-returns invariant_loop decreases_loop
-returns c = stays none _ _ _ _ c.enum_told.given.1
+returns : tie.Need-returns-in_default invariant_loop decreases_loop
+returns c = stays none _ _ _ _ c.in_default.is
 
-loop_holds : tie.Need-loop-init invariant_loop decreases_loop
+loop_holds : tie.Need-loop-i-init invariant_loop decreases_loop
 loop_holds c =
-    let entry = c.before.before.before.before in
-    (omega arith, rw (sub-zero entry.args.n))
+    (omega arith, rw (sub-zero c.args.n))
 
-returns_2 : tie.Need-returns-2 invariant_loop decreases_loop
+returns_2 : tie.Need-returns-in_default-here invariant_loop decreases_loop
 returns_2 c =
-    let turn = c.before.before.before.before in
-    let at_c = turn.before.before in
-    sym (restarted none _ _ _ _ _ 0 at_c.c.given.1 ∙ (turn.loop.invariant.1
-    ∙ (next_one _ _ _ _ _ _ c.before.before.before.loop-test.true c.before.before.item.ensures
-    ∙ sym (stays none _ _ _ _ c.enum-told2.given.1))))
+    sym (restarted none _ _ _ _ _ 0 c.in-At.is ∙ (c.loop-i.invariant.1
+    ∙ (next_one _ _ _ _ _ _ c.loop-i-test.true c.item-here.ensures
+    ∙ sym (stays none _ _ _ _ c.in_default-here.is))))
 
-loop_less : tie.Need-loop-smaller invariant_loop decreases_loop
+loop_less : tie.Need-loop-i-smaller invariant_loop decreases_loop
 loop_less c = omega arith
 
-loop_again : tie.Need-loop-preserved invariant_loop decreases_loop
+loop_again : tie.Need-loop-i-preserved invariant_loop decreases_loop
 loop_again c =
     let at-loop-test = c.before.before.before.before in
     let turn = at-loop-test.before in (
       omega arith,
-      turn.loop.invariant.1
-          ∙ (next_one _ _ _ _ _ _ at-loop-test.loop-test.true c.before.before.before.item.ensures
-          ∙ restarted none _ _ _ _ _ 0 c.before.here.given.1),
+      turn.loop-i.invariant.1
+          ∙ (next_one _ _ _ _ _ _ at-loop-test.loop-i-test.true c.item-here.ensures
+          ∙ restarted none _ _ _ _ _ 0 c.in-At-here.is),
     )
 
-returns_3 : tie.Need-returns-3 invariant_loop decreases_loop
+returns_3 : tie.Need-returns invariant_loop decreases_loop
 returns_3 c =
-    let turn = c.before in
-    let i = turn.loop.i in
-    let n = turn.before.before.before.before.before.args.n in
+    let i = c.loop-i.i in
+    let n = c.args.n in
     let e : n - i ≡ 0 = omega arith in
-    sym (restarted none _ _ _ _ _ 0 c.before.before.before.c.given.1 ∙ (turn.loop.invariant.1 ∙ (rw e (no_more _ _ _ _))))
+    sym (restarted none _ _ _ _ _ 0 c.in-At.is ∙ (c.loop-i.invariant.1 ∙ (rw e (no_more _ _ _ _))))
 
 pub items_spec : {M : Type 1} → statement M
 items_spec =

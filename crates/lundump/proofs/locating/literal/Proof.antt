@@ -8,35 +8,31 @@ use Rattle.lundump.proofs.Whole.{all_same, ended, differs, agrees}
 use Rattle.lundump.proofs.locating.literal.Statement.{statement}
 use Rattle.lundump.proofs.locating.literal.Tie as tie
 
-abbrev invariant_loop : tie.invariant-loop
+abbrev invariant_loop : tie.invariant-loop-i
 invariant_loop chunk expected i₀ i = (i ≤ length expected) × (check_bytes expected chunk 0 ≡ check_bytes (drop i expected) chunk i)
 
-abbrev decreases_loop : tie.decreases-loop
+abbrev decreases_loop : tie.decreases-loop-i
 decreases_loop chunk expected i₀ i = length expected - i
 
-loop_holds : tie.Need-loop-init invariant_loop decreases_loop
+loop_holds : tie.Need-loop-i-init invariant_loop decreases_loop
 loop_holds c = (omega arith, refl)
 
-returns : tie.Need-returns invariant_loop decreases_loop
-returns c = rw (c.before.before.loop.invariant.1, ended _ _ _ c.before.loop-test.true c.if1.true)
+returns : tie.Need-returns-then-chunk-i invariant_loop decreases_loop
+returns c = rw (c.loop-i.invariant.1, ended _ _ _ c.loop-i-test.true c.if-chunk-i.true)
 
-returns_2 : tie.Need-returns-2 invariant_loop decreases_loop
+returns_2 : tie.Need-returns-then-chunk-i-2 invariant_loop decreases_loop
 returns_2 c =
-    let at-loop-test = c.before.before.before.before in
-    let turn = at-loop-test.before in
-    rw (turn.loop.invariant.1, differs _ _ _ at-loop-test.loop-test.true c.before.before.before.if1.false c.if2.true)
+    rw (c.loop-i.invariant.1, differs _ _ _ c.loop-i-test.true c.if-chunk-i.false c.if-chunk-i-2.true)
 
-loop_less : tie.Need-loop-smaller invariant_loop decreases_loop
+loop_less : tie.Need-loop-i-smaller invariant_loop decreases_loop
 loop_less c = omega arith
 
-loop_again : tie.Need-loop-preserved invariant_loop decreases_loop
+loop_again : tie.Need-loop-i-preserved invariant_loop decreases_loop
 loop_again c =
-    let at-loop-test = c.before.before.before.before in
-    let turn = at-loop-test.before in
-    (omega arith, turn.loop.invariant.1 ∙ agrees _ _ _ at-loop-test.loop-test.true c.before.before.before.if1.false c.if2.false)
+    (omega arith, c.loop-i.invariant.1 ∙ agrees _ _ _ c.loop-i-test.true c.if-chunk-i.false c.if-chunk-i-2.false)
 
-returns_3 : tie.Need-returns-3 invariant_loop decreases_loop
-returns_3 c = rw (c.before.loop.invariant.1, all_same _ _ _ c.loop-test.false)
+returns_3 : tie.Need-returns invariant_loop decreases_loop
+returns_3 c = rw (c.loop-i.invariant.1, all_same _ _ _ c.loop-i-test.false)
 
 pub literal_spec : {M : Type 1} → statement M
 literal_spec =

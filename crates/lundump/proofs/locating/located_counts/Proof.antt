@@ -2,16 +2,15 @@ use borrow.Author.Rules.{rules}
 use Rattle.lundump.proofs.locating.located_counts.Statement.{statement}
 use Rattle.lundump.proofs.locating.located_counts.Tie as tie
 
-returns : tie.Need-returns
+returns : tie.Need-returns-in-Found
 returns c =
-    let at-w = c.before.before.before.before in
-    rw (at-w.w.given.1, c.before.s.given.1)
+    rw (c.in-Past.is, c.in-Found.is)
 
-returns_2 : tie.Need-returns-2
-returns_2 c = rw (c.before.before.before.w.given.1, c.enum_told.given.1)
+returns_2 : tie.Need-returns-in-Left
+returns_2 c = rw (c.in-Past.is, c.in-Left.is)
 
-returns_3 : tie.Need-returns-3
-returns_3 c = rw c.before.w2.given.1
+returns_3 : tie.Need-returns-in-Stopped
+returns_3 c = rw c.in-Stopped.is
 
 pub located_counts_spec : {M : Type 1} → statement M
 located_counts_spec =

@@ -8,13 +8,11 @@ use Rattle.lundump.proofs.parts.head.Tie as tie
 returns : tie.Need-returns
 unfolding load_head
 returns c =
-    let at-int = c.before.before.before.before in
-    let at-string = at-int.before in
-    follows none same _ _ _ _ _ _ at-string.string.ensures
-    (follows same same _ _ _ _ _ _ at-int.int.ensures
-    (follows same same _ _ _ _ _ _ c.before.before.before.int2.ensures
-    (follows same same _ _ _ _ _ _ c.before.before.byte.ensures
-    (follows same same _ _ _ _ _ _ c.before.byte2.ensures c.byte3.ensures))))
+    follows none same _ _ _ _ _ _ c.string.ensures
+    (follows same same _ _ _ _ _ _ c.int.ensures
+    (follows same same _ _ _ _ _ _ c.int-lines.ensures
+    (follows same same _ _ _ _ _ _ c.byte.ensures
+    (follows same same _ _ _ _ _ _ c.byte-2.ensures c.byte-3.ensures))))
 
 pub head_spec : {M : Type 1} → statement M
 head_spec =

@@ -6,19 +6,17 @@ use borrow.Author.Rules.{rules}
 use Rattle.lundump.proofs.parts.names.Statement.{statement}
 use Rattle.lundump.proofs.parts.names.Tie as tie
 
-returns : tie.Need-returns
+returns : tie.Need-returns-in_default
 unfolding load_names
-returns c = stopped same none _ _ _ _ _ _ c.before.before.int.ensures c.enum_told.given.1
+returns c = stopped same none _ _ _ _ _ _ c.int-count.ensures c.in_default.is
 
-returns_2 : tie.Need-returns-2
+returns_2 : tie.Need-returns-then-n-eq0
 returns_2 c =
-    let at-int = c.before.before.before.before.before in
-    no_names _ _ _ _ _ at-int.int.ensures c.before.before.before.count.given.1 _ _ c.before.if1.true c.with_value.ensures
+    no_names _ _ _ _ _ c.int-count.ensures c.in-At.is _ _ c.if-n-eq0.true c.with_value.ensures
 
-returns_3 : tie.Need-returns-3
+returns_3 : tie.Need-returns
 returns_3 c =
-    let at-int = c.before.before.before.before.before in
-    some_names _ _ _ _ _ at-int.int.ensures c.before.before.before.count.given.1 _ _ c.before.if1.false c.items.ensures
+    some_names _ _ _ _ _ c.int-count.ensures c.in-At.is _ _ c.if-n-eq0.false c.items.ensures
 
 pub names_spec : {M : Type 1} → statement M
 names_spec =
