@@ -1,5 +1,7 @@
 // The bench program's text: a sheet of words in, the lines of the listing out. Nothing
 // here knows what a word means.
+#![tactic(auto)]
+
 mod digits;
 mod lines;
 mod reading;

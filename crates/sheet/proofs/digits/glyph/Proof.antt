@@ -4,13 +4,13 @@ use Rattle.sheet.specs.Columns.{glyph_of}
 use Rattle.sheet.proofs.digits.glyph.Statement.{statement}
 use Rattle.sheet.proofs.digits.glyph.Tie as tie
 
-returns : tie.Need-returns
+returns : tie.Need-returns-then-v-eq0
 unfolding glyph_of
-returns c = rw (eq-eqb c.before.args.v 0 c.if1.true)
+returns c = rw (eq-eqb c.args.v 0 c.if-v-eq0.true)
 
-returns_2 : tie.Need-returns-2
+returns_2 : tie.Need-returns-else-v-eq0
 unfolding glyph_of
-returns_2 c = rw (ne_eqb c.before.before.args.v 0 c.before.if1.false) c.digit.ensures
+returns_2 c = rw (ne_eqb c.args.v 0 c.if-v-eq0.false) c.digit.ensures
 
 pub glyph_spec : {M : Type 1} → statement M
 glyph_spec = tie.close (tie.spec (λ c κs. search rules) returns returns_2)

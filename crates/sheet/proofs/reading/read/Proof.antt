@@ -10,40 +10,38 @@ use Rattle.sheet.proofs.reading.read.Statement.{statement}
 use Rattle.sheet.proofs.reading.read.Tie as tie
 
 -- what was scanned is the sheet
-sheet_is : (c : tie.After-scan)
-    → c.scan.result ≡ sheet_of (room_of c.before.before.before.before.args.words.now)
-    c.before.before.before.before.args.text.now
-sheet_is c = rw c.before.room.ensures at c.scan.ensures
+sheet_is : (c : tie.After-scan-s)
+    → c.scan-s.result ≡ sheet_of (room_of c.args.words.now)
+    c.args.text.now
+sheet_is c = rw c.room.ensures at c.scan-s.ensures
 
 fill_requires : tie.Need-fill-requires
 fill_requires c κs =
-    let a = c.before.before.before.before in
-    let s = a.before.before.before.before.args in
-    let n : ℕ = c.before.before.s.given.0.0 in
+    let a = c.before.before in
+    let s = a.args in
+    let n : ℕ = c.in-Words.n in
     let f : Filling (room_of s.words.now) s.text.now n = filling (room_of s.words.now)
-    s.text.now n (sym (sheet_is a) ∙ c.before.before.s.given.1) in
+    s.text.now n (sym (sheet_is a) ∙ c.in-Words.is) in
     (omega (arith, f.fits), f.long, f.small)
 
-returns : tie.Need-returns
+returns : tie.Need-returns-in-Words
 returns c =
-    let at-s = c.before.before.before.before.before in
-    let a = at-s.before.before in
-    let s = a.before.before.before.before.args in
-    let given = at-s.s.given in
-    let e : sheet_of (room_of s.words.now) s.text.now ≡ Words given.0.0 = sym (sheet_is a) ∙ given.1 in
-    (sym e, c.before.before.fill.ensures ∙ sym (table_is s.text.now s.words.now (Words given.0.0) e))
+    let a = c.before.before.before.before.before in
+    let s = a.args in
+    let e : sheet_of (room_of s.words.now) s.text.now ≡ Words c.in-Words.n = sym (sheet_is a) ∙ c.in-Words.is in
+    (sym e, c.fill.ensures ∙ sym (table_is s.text.now s.words.now (Words c.in-Words.n) e))
 
-returns_2 : tie.Need-returns-2
+returns_2 : tie.Need-returns-in-Malformed
 returns_2 c =
-    let a = c.before.before in
-    let s = a.before.before.before.before.args in
-    (sheet_is a, sym (table_is s.text.now s.words.now _ (sym (sheet_is a) ∙ c.enum_told.given.1)))
+    let a = c.before in
+    let s = a.args in
+    (sheet_is a, sym (table_is s.text.now s.words.now _ (sym (sheet_is a) ∙ c.in-Malformed.is)))
 
-returns_3 : tie.Need-returns-3
+returns_3 : tie.Need-returns-in-TooLong
 returns_3 c =
-    let a = c.before.before in
-    let s = a.before.before.before.before.args in
-    (sheet_is a, sym (table_is s.text.now s.words.now TooLong (sym (sheet_is a) ∙ c.enum-told2.given.1)))
+    let a = c.before in
+    let s = a.args in
+    (sheet_is a, sym (table_is s.text.now s.words.now TooLong (sym (sheet_is a) ∙ c.in-TooLong.is)))
 
 pub read_spec : {M : Type 1} → statement M
 read_spec =

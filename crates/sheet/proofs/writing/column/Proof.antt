@@ -8,8 +8,8 @@ use Rattle.sheet.proofs.writing.column.Tie as tie
 
 returns : tie.Need-returns
 returns c =
-    let s = c.before.before.before.args in
-    one_filled _ _ (cell_of s.c) refl refl (length_cell s.c) c.before.put-cell.ensures
+    let s = c.args in
+    one_filled _ _ (cell_of s.c) refl refl (length_cell s.c) c.put_cell.ensures
 
 pub column_spec : {M : Type 1} → statement M
 column_spec = tie.close (tie.spec (λ c. search rules) (λ c κs. search rules) returns)

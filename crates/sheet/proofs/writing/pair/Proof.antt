@@ -11,10 +11,10 @@ returns : tie.Need-returns
 unfolding pair_of
 returns c =
     let at-put-number = c.before.before.before.before in
-    let s = at-put-number.before.before.args in
+    let s = at-put-number.args in
     two_filled _ _ _ (columns 6 s.left) (columns 6 s.right) refl refl (length_columns 6 s.left)
-    (length_columns 6 s.right) at-put-number.put-number.ensures
-    c.before.put-number2.ensures
+    (length_columns 6 s.right) at-put-number.put_number.ensures
+    c.put_number-2.ensures
 
 pub pair_spec : {M : Type 1} → statement M
 pair_spec = tie.close (tie.spec (λ c. search rules) (λ c κs. search rules) (λ c. search rules) (λ c κs. search rules) returns)

@@ -3,15 +3,13 @@ use Rattle.sheet.proofs.Columns.{dash_ending, number_cell}
 use Rattle.sheet.proofs.writing.put_cell.Statement.{statement}
 use Rattle.sheet.proofs.writing.put_cell.Tie as tie
 
-returns : tie.Need-returns
+returns : tie.Need-returns-in-Number
 returns c =
-    let s = c.before.before.before.before.before.c in
-    rw (s.given.1, ← number_cell s.given.0.0) c.before.before.put-number.ensures
+    rw (c.in-Number.is, ← number_cell c.in-Number.v) c.put_number.ensures
 
-returns_2 : tie.Need-returns-2
+returns_2 : tie.Need-returns-in-Dash
 returns_2 c =
-    let at-enum-told = c.before.before.before.before in
-    rw (at-enum-told.enum_told.given.1, ← dash_ending) c.before.before.put_ending.ensures
+    rw (c.in-Dash.is, ← dash_ending) c.put_ending.ensures
 
 pub put_cell_spec : {M : Type 1} → statement M
 put_cell_spec =

@@ -8,19 +8,19 @@ use Rattle.sheet.proofs.Columns.{put_leading, put_turn, put_done, put_ending}
 use Rattle.sheet.proofs.writing.put_ending.Statement.{statement}
 use Rattle.sheet.proofs.writing.put_ending.Tie as tie
 
-abbrev invariant_loop : tie.invariant-loop
+abbrev invariant_loop : tie.invariant-loop-i
 invariant_loop out₀ at width tens last i₀ rest₀ out i rest = (i < width) × (length out ≡ length out₀) × (put_leading out at i rest ≡ put_leading out₀ at i₀ rest₀)
 
-abbrev decreases_loop : tie.decreases-loop
+abbrev decreases_loop : tie.decreases-loop-i
 decreases_loop out₀ at width tens last i₀ rest₀ out i rest = i
 
-slice_write_out_2 : tie.Need-slice-write-out-2 invariant_loop decreases_loop
-slice_write_out_2 c = omega (arith, simp length-set at c.before.before.loop.invariant.1)
+slice_write_out_2 : tie.Need-bounds-out-at-in-loop-i invariant_loop decreases_loop
+slice_write_out_2 c = omega (arith, simp length-set at c.loop-i.invariant.1)
 
-loop_again : tie.Need-loop-preserved invariant_loop decreases_loop
+loop_again : tie.Need-loop-i-preserved invariant_loop decreases_loop
 loop_again c =
     let entry = c.before.before.before.before in
-    let l = c.before.before.loop in (
+    let l = c.loop-i in (
       omega arith,
       simp length-set (simp length-set at l.invariant.1),
       rw c.glyph.ensures (put_turn l.out entry.args.at l.i l.rest (omega arith))
@@ -30,7 +30,7 @@ loop_again c =
 returns : tie.Need-returns invariant_loop decreases_loop
 returns c =
     let s = c.before.before.before in
-    let l = c.before.loop in
+    let l = c.loop-i in
     let z : l.i ≡ 0 = omega arith in
     sym (put_done l.out s.args.at l.rest) ∙ (rw z at l.invariant.2) ∙ put_ending s.args.out.now
     s.args.at s.args.width s.args.tens s.args.last s.requires.0 s.requires.1
@@ -51,5 +51,5 @@ put_ending_spec =
     slice_write_out_2
     (λ c. search rules)
     loop_again
-    (λ c. simp length-set at c.before.loop.invariant.1)
+    (λ c. simp length-set at c.loop-i.invariant.1)
     returns)

@@ -14,10 +14,10 @@ returns c =
     let c₃ = c₄.before.before.before in
     let c₂ = c₃.before.before.before in
     let c₁ = c₂.before.before.before in
-    let s = c₁.before.before.args in
+    let s = c₁.args in
     five_filled _ _ _ _ _ _ (columns 6 s.p) (columns 6 s.opcode) (cell_of s.first) (cell_of s.second) (columns 6 s.segment) refl refl
     (length_columns 6 s.p, length_columns 6 s.opcode, length_cell s.first, length_cell s.second, length_columns 6 s.segment)
-    c₁.put-number.ensures c₂.put-number2.ensures c₃.put-cell.ensures c₄.put-cell2.ensures c.before.put-number3.ensures
+    c₁.put_number.ensures c₂.put_number-2.ensures c₃.put_cell.ensures c₄.put_cell-2.ensures c.put_number-3.ensures
 
 pub row_spec : {M : Type 1} → statement M
 row_spec =
