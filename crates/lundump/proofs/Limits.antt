@@ -7,9 +7,9 @@ use lib.Dec.{leb}
 use lib.ListN.{length}
 use borrow.Author.Tests.{le-leb, lt-leb}
 use Rattle.loaders.specs.declared.reading.Refusal.TheVariants.{Malformed}
-use Rattle.loaders.specs.Reading.{done, refused, bind, only}
+use Rattle.loaders.specs.Reading.{done, refused, only}
 use Rattle.loaders.specs.Loaders.{load_int, load_block}
-use Rattle.lundump.specs.Lundump.{Vector, load_vector, load_items, load_code, load_constants, load_upvalues}
+use Rattle.lundump.specs.Lundump.{Vector, load_vector, load_items, load_code, load_upvalues}
 use Rattle.lundump.specs.Limits.{CountRead, LimitsKept}
 
 module _ (bytes : List ℕ) (at n past : ℕ) (h : load_int bytes at ≡ done n past) where

@@ -10,7 +10,7 @@
 use Rattle.std.specs.Prelude.{cond, List, [], ◌∷◌, ◌++◌, ℕ, zero, suc, ◌+◌, ◌*◌, leb, eqb, replicate}
 use Rattle.loaders.specs.declared.reading.Refusal.TheVariants.{Header, TooDeep}
 use Rattle.common.specs.Limits.{most_words, most_constants, most_names, levels_below, int_max}
-use Rattle.loaders.specs.Reading.{Result, done, refused, Reader, bind, and_then, only, repeat, little_end}
+use Rattle.loaders.specs.Reading.{done, refused, Reader, bind, and_then, only, repeat, little_end}
 use Rattle.loaders.specs.Loaders.{
   load_block,
   load_byte,

@@ -1,5 +1,7 @@
 // Compiled files: a Lua 5.4 binary chunk, read as lundump.c of 5.4.8 does, and where the parts of any chosen
 // function stand.
+#![tactic(auto)]
+
 mod counts;
 mod functions;
 pub mod inner;

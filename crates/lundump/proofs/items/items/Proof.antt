@@ -37,14 +37,12 @@ loop_less : tie.Need-loop-i-smaller invariant_loop decreases_loop
 loop_less c = omega arith
 
 loop_again : tie.Need-loop-i-preserved invariant_loop decreases_loop
-loop_again c =
-    let at-loop-test = c.before.before.before.before in
-    let turn = at-loop-test.before in (
-      omega arith,
-      turn.loop-i.invariant.1
-          ∙ (next_one _ _ _ _ _ _ at-loop-test.loop-i-test.true c.item-here.ensures
-          ∙ restarted none _ _ _ _ _ 0 c.in-At-here.is),
-    )
+loop_again c = (
+  omega arith,
+  c.loop-i.invariant.1
+      ∙ (next_one _ _ _ _ _ _ c.loop-i-test.true c.item-here.ensures
+      ∙ restarted none _ _ _ _ _ 0 c.in-At-here.is),
+)
 
 returns_3 : tie.Need-returns invariant_loop decreases_loop
 returns_3 c =
