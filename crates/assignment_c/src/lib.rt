@@ -1,2 +1,4 @@
 // For C: the question of `assignment`.
+#![tactic(auto)]
+
 pub mod c;

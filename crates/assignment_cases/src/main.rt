@@ -1,5 +1,7 @@
 // Request C-15: registers set before use. The questions stand in the file stdin, a line each (crate vectors),
 // and what is printed is held to the stored output.
+#![tactic(auto)]
+
 use assignment::definite_assignment;
 use common::Answer;
 use print_cases::{bytes, end, number, text};

@@ -1,6 +1,8 @@
 // The bench program: a sheet on standard input, the listing or the refusal on standard output, and
 // nothing else. What it writes for what it reads is `listing::answer`, which is proved;
 // here are the reads and the write.
+#![tactic(auto)]
+
 use libc::{STDIN_FILENO, STDOUT_FILENO};
 
 fn main() {

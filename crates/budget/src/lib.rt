@@ -1,4 +1,6 @@
 // Request C-20, four scripts on one controller: a meter for each, and one budget on the sum of their counts.
+#![tactic(auto)]
+
 pub mod c;
 pub mod step;
 

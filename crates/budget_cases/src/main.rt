@@ -2,6 +2,8 @@
 // then of the axis, the focuser, the dome and the guider each begun, last, count, services, highest.
 // The calls stand in the file stdin, a line each with the meters that are lent (crate vectors), and what is
 // printed is held to the stored output.
+#![tactic(auto)]
+
 mod calls;
 
 use print_cases::{end, text};

@@ -1,5 +1,7 @@
 // Request C-11 at its edges: both passes over a chunk, and its upvalues' names. The questions stand in the
 // file stdin, a line each (crate vectors), and what is printed is held to the stored output.
+#![tactic(auto)]
+
 mod print;
 mod questions;
 

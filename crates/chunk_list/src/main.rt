@@ -1,5 +1,7 @@
 // Lists the functions of a compiled script: a chunk on standard input, a line for each function on standard
 // output, and nothing else. The line is `survey::line`, which is proved; here are the read and the writes.
+#![tactic(auto)]
+
 use libc::{STDIN_FILENO, STDOUT_FILENO};
 
 // Writes the line of function k, and answers its length.

@@ -1,4 +1,6 @@
 // What the owner's command is given: its arguments, its files to their end, and the memory for them.
+#![tactic(auto)]
+
 pub mod asking;
 pub mod loading;
 pub mod reading;

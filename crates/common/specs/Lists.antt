@@ -1,7 +1,8 @@
 -- What lent slices hold afterwards: their first elements by a function of the index, or a
 -- part of them written over.
 -- Assumes nothing.
-use Rattle.std.specs.Prelude.{◌≡◌, List, [], ◌∷◌, ◌++◌, ℕ, zero, suc, ◌+◌, ◌≤◌, ◌<◌, length, get_or, take, drop, set, replicate}
+use Rattle.std.specs.Prelude.{◌≡◌, List, [], ◌∷◌, ◌++◌, ℕ, zero, suc, ◌+◌, ◌≤◌, ◌<◌, length, get_or, take}
+use Rattle.std.specs.Prelude.{drop, set, replicate}
 
 -- f i, f (i + 1), .. : k of them
 abbrev pub tabulate : (ℕ → ℕ) → ℕ → ℕ → List ℕ

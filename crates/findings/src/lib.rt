@@ -1,5 +1,7 @@
 // What there is to tell of a compiled script, without a word of text: of each function its longest run, and
 // which functions come first.
+#![tactic(auto)]
+
 mod order;
 mod rooms;
 mod script;

@@ -1,4 +1,6 @@
 // What is found of a function, the rows of its longest run, and how it goes on from each.
+#![tactic(auto)]
+
 mod function;
 mod noting;
 mod rows;

@@ -2,7 +2,8 @@
 -- definite assignment. For one register, the words that some path reaches without its being set are those
 -- that are reachable when the edges are cut on which it is set.
 -- Assumes nothing.
-use Rattle.std.specs.Prelude.{◌≡◌, ◌⊎◌, ◌↔◌, Bool, true, false, cond, ◌&&◌, ◌||◌, List, [], ◌∷◌, ◌++◌, ℕ, zero, suc, ◌+◌, ◌≤◌, ◌<◌, leb, eqb}
+use Rattle.std.specs.Prelude.{◌≡◌, ◌⊎◌, ◌↔◌, Bool, true, false, cond, ◌&&◌, ◌||◌, List, [], ◌∷◌, ◌++◌, ℕ}
+use Rattle.std.specs.Prelude.{zero, suc, ◌+◌, ◌≤◌, ◌<◌, leb, eqb}
 use Rattle.common.specs.Lowest.{lowest}
 use Rattle.graph.specs.Graph.{Graph, Lawful, Path}
 use Rattle.graph.specs.Marks.{mark_of}

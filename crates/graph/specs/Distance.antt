@@ -1,7 +1,8 @@
 -- Request C-22, "the fewest words to the next serving step or return, counting the word itself", over any
 -- graph: the distance to service.
 -- Assumes nothing.
-use Rattle.std.specs.Prelude.{◌≡◌, ◌⊎◌, Bool, true, false, cond, ◌||◌, List, [], ◌∷◌, ℕ, zero, suc, ◌+◌, ◌-◌, ◌≤◌, ◌<◌, min, length}
+use Rattle.std.specs.Prelude.{◌≡◌, ◌⊎◌, Bool, true, false, cond, ◌||◌, List, [], ◌∷◌, ℕ, zero, suc, ◌+◌}
+use Rattle.std.specs.Prelude.{◌-◌, ◌≤◌, ◌<◌, min, length}
 use Rattle.graph.specs.Graph.{Graph, In, Lawful, Reachable, Segment}
 
 -- "a return or a word with a serving step". "A return .. is a word that is not bad and has no step":

@@ -1,7 +1,8 @@
 -- What a search and a pass over a graph go by, and whoever argues over paths:
 -- the laws that other crates cite.
 -- Assumes nothing.
-use Rattle.std.specs.Prelude.{◌≡◌, ◌↔◌, true, List, ℕ, zero, suc, ◌+◌, ◌≤◌, ◌<◌, max, eqb, length, get_or, set}
+use Rattle.std.specs.Prelude.{◌≡◌, ◌↔◌, true, List, ℕ, zero, suc, ◌+◌, ◌≤◌, ◌<◌, max, eqb, length, get_or}
+use Rattle.std.specs.Prelude.{set}
 use Rattle.common.specs.Lowest.{lowest}
 use Rattle.graph.specs.Graph.{Graph, In, member, Lawful, Along, Reachable, Segment}
 use Rattle.graph.specs.Marks.{mark_of}

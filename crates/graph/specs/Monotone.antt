@@ -7,5 +7,6 @@ use Rattle.graph.specs.Graph.{Graph}
 use Rattle.graph.specs.Longest.{length_of, longest}
 
 pub record Monotone : Type 0 where
-  pub lengths : (g : Graph) (w v : ℕ → ℕ) → ((p : ℕ) → w p ≤ v p) → (p : ℕ) → length_of g w p ≤ length_of g v p
+  pub lengths : (g : Graph) (w v : ℕ → ℕ) → ((p : ℕ) → w p ≤ v p) → (p : ℕ)
+      → length_of g w p ≤ length_of g v p
   pub longest-run : (g : Graph) (w v : ℕ → ℕ) → ((p : ℕ) → w p ≤ v p) → longest g w ≤ longest g v

@@ -1,4 +1,6 @@
 // Over lundump: why a file is refused, by its header.
+#![tactic(auto)]
+
 mod refusing;
 
 pub use refusing::{Why, why_refused};

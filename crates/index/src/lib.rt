@@ -1,4 +1,6 @@
 // Over chunk: where each function of a chunk stands and which one it stands in; whether its bytes end early.
+#![tactic(auto)]
+
 mod early;
 mod listing;
 

@@ -1,2 +1,4 @@
 // For C: the functions of a chunk, by `index` and `lines`.
+#![tactic(auto)]
+
 pub mod c;

@@ -1,6 +1,8 @@
 // All functions of a chunk, a function's words, lines and head by number and by place, and why a chunk
 // is refused. The questions stand in the file stdin, a line each (crate vectors), and what is printed is
 // held to the stored output.
+#![tactic(auto)]
+
 mod print;
 mod questions;
 

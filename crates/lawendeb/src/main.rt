@@ -1,6 +1,8 @@
 // The owner's command: a compiled script, and of each of its functions the most words that can pass without
 // a service. What is told is `owner::tell`; the arguments, their files and the memory are `command`'s; here
 // they meet.
+#![tactic(auto)]
+
 use command::asking::{Asked, Wish, named, read_all};
 use command::loading::{Weighed, load_script, load_weights};
 use command::reading::Reading;

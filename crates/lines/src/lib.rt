@@ -1,4 +1,6 @@
 // Over chunk: one function of a chunk, by its number or by its place: its words, lines and head.
+#![tactic(auto)]
+
 mod choosing;
 mod heads;
 mod lines;

@@ -1,4 +1,6 @@
 // The bench program without its input and output: from a sheet's bytes to the bytes that it writes.
+#![tactic(auto)]
+
 mod paper;
 mod rows;
 mod tables;

@@ -1,5 +1,7 @@
 // Scripts of Lua 5.3 (request C-24), by the functions that C calls. The questions stand in the file stdin,
 // a line each (crate vectors), and what is printed is held to the stored output.
+#![tactic(auto)]
+
 mod feeds;
 mod print;
 mod questions;

@@ -1,6 +1,8 @@
 // Calls on a meter, and what each answers and leaves: feed, number; begun, last, count, services, highest.
 // The calls stand in the file stdin, a line each with the meter that is lent (crate vectors), and what is
 // printed is held to the stored output.
+#![tactic(auto)]
+
 mod calls;
 
 use print_cases::{end, text};

@@ -1,5 +1,7 @@
 // Text for standard output: a lent page that is written out when it is full, so that a line costs no call of
 // its own. What can't be written is known to the end.
+#![tactic(auto)]
+
 mod parts;
 mod text;
 

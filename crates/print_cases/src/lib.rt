@@ -1,5 +1,7 @@
 // What the test programs print with, on standard output. No contract can say what is written,
 // so none promises anything.
+#![tactic(auto)]
+
 use libc::STDOUT_FILENO;
 
 pub fn text(bytes: &[u8]) {

@@ -1,4 +1,6 @@
 // Over runs: the longest run by two tables, low and high (request C-18).
+#![tactic(auto)]
+
 pub mod c;
 pub mod range;
 

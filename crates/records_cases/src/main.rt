@@ -1,6 +1,8 @@
 // The limits of what lifting takes, the records of words by their sums, and lists of records that
 // are lent. The questions stand in the file stdin, a line each (crate vectors), and what is printed is
 // held to the stored output.
+#![tactic(auto)]
+
 mod lent;
 mod list;
 mod questions;

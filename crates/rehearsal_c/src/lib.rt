@@ -1,2 +1,4 @@
 // For C: the question of `rehearsal`.
+#![tactic(auto)]
+
 pub mod c;

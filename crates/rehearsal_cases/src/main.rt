@@ -1,5 +1,7 @@
 // Request C-21: turns, waits, choices, the three ends, and what is turned away. The questions stand in the
 // file stdin, a line each (crate vectors), and what is printed is held to the stored output.
+#![tactic(auto)]
+
 mod print;
 mod question;
 

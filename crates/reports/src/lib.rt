@@ -1,4 +1,6 @@
 // What is told of a function and of a script in lines of text: titles, sums and refusals.
+#![tactic(auto)]
+
 mod refusing;
 mod sums;
 mod titles;

@@ -1,5 +1,7 @@
 // The table of steps and the longest run: the questions stand in the file stdin, a line each (crate vectors),
 // and what is printed is held to the stored output.
+#![tactic(auto)]
+
 mod print;
 mod questions;
 

@@ -1,5 +1,7 @@
 // Over runs, by entries that `runs::inner` settles: how far each word is from a service, and how many edges
 // pass over a word (request C-22).
+#![tactic(auto)]
+
 pub mod c;
 pub mod crossing;
 pub mod distance;

@@ -1,5 +1,7 @@
 // Request C-22: the distance to service, the list within d words, and crossing edges. The questions stand in
 // the file stdin, a line each (crate vectors), and what is printed is held to the stored output.
+#![tactic(auto)]
+
 mod print;
 mod questions;
 

@@ -1,5 +1,7 @@
 // Sheets at the edges of the format, with what the program writes for each. They stand in the file stdin, a
 // line each (crate vectors), and what is printed is held to the stored output.
+#![tactic(auto)]
+
 mod buffers;
 
 use buffers::repeated;

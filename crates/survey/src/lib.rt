@@ -1,5 +1,7 @@
 // The program that lists the functions of a compiled script, without its input and output:
 // from a chunk's bytes to the line of a function.
+#![tactic(auto)]
+
 mod lines;
 mod paper;
 mod run;

@@ -5,7 +5,8 @@
 -- an element of the queue above the entry; measured, it is the word's length. No word is read here, and
 -- nothing of crate `fields` is named.
 -- Assumes nothing.
-use Rattle.std.specs.Prelude.{◌≡◌, ◌⊎◌, Bool, cond, ◌&&◌, List, map, ℕ, ◌+◌, ◌/◌, ◌%◌, ◌<◌, eqb, length, get_or}
+use Rattle.std.specs.Prelude.{◌≡◌, ◌⊎◌, Bool, cond, ◌&&◌, List, map, ℕ, ◌+◌, ◌/◌, ◌%◌, ◌<◌, eqb, length}
+use Rattle.std.specs.Prelude.{get_or}
 use Rattle.common.specs.Lowest.{lowest}
 use Rattle.graph.specs.Graph.{Graph}
 use Rattle.graph.specs.Marks.{mark_of}

@@ -1,7 +1,8 @@
 -- What callers go by, beside the contracts of module `inner`: of the proofs here crates above cite `laws` of
 -- Laws.antt, and `steps`, which settles the entries, two files of plain lemmas, Steps.antt and Settling.antt.
 -- Assumes nothing.
-use Rattle.std.specs.Prelude.{◌≡◌, ◌↔◌, true, false, List, ℕ, ◌+◌, ◌*◌, ◌/◌, ◌%◌, ◌≤◌, ◌<◌, length, get_or, set}
+use Rattle.std.specs.Prelude.{◌≡◌, ◌↔◌, true, false, List, ℕ, ◌+◌, ◌*◌, ◌/◌, ◌%◌, ◌≤◌, ◌<◌, length, get_or}
+use Rattle.std.specs.Prelude.{set}
 use Rattle.graph.specs.Graph.{In, Lawful}
 use Rattle.sweep.specs.declared.edges.Successors.{Successors}
 use Rattle.sweep.specs.declared.edges.Successors.TheVariants.{Invalid, Stop, One}

@@ -2,7 +2,8 @@
 -- settled before it and searched after. No exported contract cites it. No word is read here, and nothing of
 -- crate `fields` is named.
 -- Assumes nothing.
-use Rattle.std.specs.Prelude.{◌≡◌, ◌⊎◌, Bool, true, false, cond, List, [], ◌∷◌, ℕ, ◌+◌, ◌≤◌, ◌<◌, length, get_or, set}
+use Rattle.std.specs.Prelude.{◌≡◌, ◌⊎◌, Bool, true, false, cond, List, [], ◌∷◌, ℕ, ◌+◌, ◌≤◌, ◌<◌, length}
+use Rattle.std.specs.Prelude.{get_or, set}
 use Rattle.common.specs.Limits.{most_words}
 use Rattle.graph.specs.Graph.{Graph, In, Lawful, Reachable}
 use Rattle.graph.specs.Marks.{mark_of}

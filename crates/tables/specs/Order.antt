@@ -28,11 +28,13 @@ module _ (n : ℕ) (tags payloads names : List ℕ) (bytes room : ℕ) where
   -- "string ends past the string bytes"
   abbrev pub StringPastAt : ℕ → Type 0
   StringPastAt i =
-      (i < length tags) × (((get_or tags i 0 ≡ 4) ⊎ (get_or tags i 0 ≡ 20)) × EndsPast bytes (get_or payloads i 0))
+      (i < length tags)
+      × (((get_or tags i 0 ≡ 4) ⊎ (get_or tags i 0 ≡ 20)) × EndsPast bytes (get_or payloads i 0))
 
   -- "a name past the string bytes", "2^64 - 1 meaning unnamed"
   abbrev pub NamePastAt : ℕ → Type 0
-  NamePastAt i = (i < length names) × ((get_or names i 0 ≡ 2 ^ 64 - 1 → ⊥) × EndsPast bytes (get_or names i 0))
+  NamePastAt i = (i < length names)
+      × ((get_or names i 0 ≡ 2 ^ 64 - 1 → ⊥) × EndsPast bytes (get_or names i 0))
 
   abbrev pub Nowhere : (ℕ → Type 0) → Type 0
   Nowhere P = (i : ℕ) → P i → ⊥

@@ -69,7 +69,8 @@ answer_of n tags payloads names bytes room =
     (refuse_if (ltb (first_string_past tags payloads bytes) (length tags))
     (answer STRING_PAST_BYTES (first_string_past tags payloads bytes))
     (refuse_if (ltb most_names (length names)) (answer «NAMES» 0)
-    (refuse_if (ltb (first_name_past names bytes) (length names)) (answer «NAMES» (first_name_past names bytes))
+    (refuse_if (ltb (first_name_past names bytes) (length names))
+    (answer «NAMES» (first_name_past names bytes))
     (refuse_if (ltb room n) (answer SHORT_SLICE 0) accepted)))))))
 
 -- the answer, and how many records are written: all or none

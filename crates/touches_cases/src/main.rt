@@ -1,5 +1,7 @@
 // What words touch, of Lua 5.4 and of 5.3. The questions stand in the file stdin, a line each (crate
 // vectors), and what is printed is held to the stored output.
+#![tactic(auto)]
+
 mod print;
 
 use touches::{touches, touches_53};

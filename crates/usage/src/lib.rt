@@ -1,4 +1,6 @@
 // How the owner's command is used, in words, and what it can't take.
+#![tactic(auto)]
+
 mod text;
 
 pub use text::{put_bad_line, put_unclear, put_usage, put_version};

@@ -2,7 +2,8 @@
 -- A refinement of the original: get_const_val and get_upval_name of lifter.rs, over tags and
 -- payloads in place of a Prototype.
 -- Assumes nothing.
-use Rattle.std.specs.Prelude.{ℕ, ◌+◌, ◌-◌, ◌*◌, ◌/◌, ◌%◌, ◌^◌, true, false, List, ltb, eqb, ℤ, pos, negsuc, length, get_or}
+use Rattle.std.specs.Prelude.{ℕ, ◌+◌, ◌-◌, ◌*◌, ◌/◌, ◌%◌, ◌^◌, true, false, List, ltb, eqb, ℤ, pos, negsuc}
+use Rattle.std.specs.Prelude.{length, get_or}
 use Rattle.std.specs.Float.{binary64}
 use Rattle.std.specs.Float.Ieee.{of_bits, nan_bits}
 unfoldable pub use Rattle.common.specs.Chain.{choose}

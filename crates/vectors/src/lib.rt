@@ -2,6 +2,8 @@
 // bars: the question's name, the label that is printed, then lists of numbers. In a list `70` is a number and
 // `3*9` the same number three times. A line whose name is no question (a blank one, a remark) is passed over;
 // one that ends in a backslash leaves the line that it prints open for the next.
+#![tactic(auto)]
+
 mod lists;
 mod parts;
 mod tables;

@@ -1,2 +1,4 @@
 // For C: the question of `witness`.
+#![tactic(auto)]
+
 pub mod c;

@@ -1,5 +1,7 @@
 // The words of a longest run. The questions stand in the file stdin, a line each (crate vectors), and what
 // is printed is held to the stored output.
+#![tactic(auto)]
+
 use print_cases::{end, number, numbers, text};
 use vectors::{bytes_of, words_of};
 use witness::{PathRun, longest_path, longest_path_53};

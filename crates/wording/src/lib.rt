@@ -1,4 +1,6 @@
 // Refusals and names in words.
+#![tactic(auto)]
+
 mod refusing;
 mod showing;
 
