@@ -1,4 +1,6 @@
 // Layer 2, over steps: scripts of either version, and the longest run without a service.
+#![tactic(auto)]
+
 pub mod c;
 pub mod inner;
 pub mod longest;
