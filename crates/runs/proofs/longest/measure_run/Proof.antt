@@ -20,7 +20,7 @@ module _ (s : tie.Start) where
   words = s.args.words.now
 
 -- after the pass over the lengths
-module _ (c : tie.After-fill-lengths) where
+module _ (c : tie.After-fill_lengths-invalid) where
   abbrev start : tie.Start
   start =
       let at-slot-mask = c.before.before in
@@ -30,38 +30,38 @@ module _ (c : tie.After-fill-lengths) where
   weights = start.args.weights.now
 
   abbrev filled : List ℕ
-  filled = c.fill-lengths.new.1.1.1.1.0
+  filled = c.fill_lengths-invalid.new.lengths
 
-  fills : Fills (weight_of (script_of (version start) (words start)) weights) start.args.lengths.now filled c.fill-lengths.result
-  fills = filled-by (version start) (words start) weights c.before.before.slot-mask.ensures c.fill-lengths.ensures
+  fills : Fills (weight_of (script_of (version start) (words start)) weights) start.args.lengths.now filled c.fill_lengths-invalid.result
+  fills = filled-by (version start) (words start) weights c.slot_mask.ensures c.fill_lengths-invalid.ensures
 
   long : length filled ≡ length (words start)
-  long = filled_length (version start) (words start) start.pre.0 weights fills c.fill-lengths.auto.1.1.1.1.0
+  long = filled_length (version start) (words start) start.requires.0 weights fills c.fill_lengths-invalid.auto.lengths
 
-returns : tie.Need-returns
+returns : tie.Need-returns-then-invalid-n
 returns c =
     let k = c.before.before in
     let f = k.before.before.before.before.before in
     let s = start f in
-    measured_invalid (version s) (words s) s.pre.0 (weights f) (fills f)
-    f.fill-lengths.auto.1.1.1.1.0 k.before.before.if1.true k.clear-lengths.ensures
+    measured_invalid (version s) (words s) s.requires.0 (weights f) (fills f)
+    f.fill_lengths-invalid.auto.lengths k.if-invalid-n.true k.clear_lengths.ensures
 
-returns_2 : tie.Need-returns-2
+returns_2 : tie.Need-returns
 returns_2 c =
     let h = c.before.before in
-    let f = h.before.before.before.before.before in
+    let f = h.before.before.before in
     let s = start f in
-    measured_accepted (version s) (words s) s.pre.0 (weights f) (fills f)
-    f.fill-lengths.auto.1.1.1.1.0 h.before.before.if1.false h.find-longest.ensures
-    c.find_first.ensures
+    measured_accepted (version s) (words s) s.requires.0 (weights f) (fills f)
+    f.fill_lengths-invalid.auto.lengths h.if-invalid-n.false c.find_longest-longest.ensures
+    c.find_first-first.ensures
 
-fill_lengths_requires : tie.Need-fill-lengths-requires
+fill_lengths_requires : tie.Need-fill_lengths-invalid-requires
 fill_lengths_requires c κs =
     let at-slot-mask = c.before in
     let s = at-slot-mask.before.before.before.before.before in (
       fill_asks (version s) (words s) s.requires.0,
       sym s.requires.0.lent.l_same,
-      omega (arith, at-slot-mask.slot-mask.ensures, mask_small (version s), s.requires.1),
+      omega (arith, at-slot-mask.slot_mask.ensures, mask_small (version s), s.requires.1),
     )
 
 pub measure_run_spec : {M : Type 1} → statement M
@@ -73,10 +73,10 @@ measure_run_spec =
     (λ c κs. let f = c.before.before.before.before in omega (arith, long f))
     (λ c. search rules)
     returns
-    (λ c κs. let f = c.before.before.before.before in omega (arith, long f))
+    (λ c κs. let f = c.before.before.before in omega (arith, long f))
     (λ c κs.
     let at-find-longest = c.before in
-    let f = at-find-longest.before.before.before.before.before in
+    let f = at-find-longest.before.before.before in
     omega (arith, long f))
     (λ c. search rules)
     returns_2)

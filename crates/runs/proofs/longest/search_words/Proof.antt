@@ -7,7 +7,7 @@ use Rattle.runs.proofs.longest.search_words.Statement.{statement}
 use Rattle.runs.proofs.longest.search_words.Tie as tie
 
 -- after the pass that settles the entries
-module _ (c : tie.After-settle-script) where
+module _ (c : tie.After-settle_script) where
   abbrev start : tie.Start
   start = c.before.before.before.before.before
 
@@ -17,17 +17,17 @@ module _ (c : tie.After-settle-script) where
   abbrev words : List ℕ
   words = start.args.words.now
 
-mark_reachable_requires : tie.Need-mark-reachable-requires
+mark_reachable_requires : tie.Need-mark_reachable-requires
 mark_reachable_requires c κs =
     let s = c.before.before.before.before in
-    held_settled (version s) (words s) s.settle-script.new.1.1.0 s.settle-script.ensures (start s).requires s.settle-script.auto.1.1.0
+    held_settled (version s) (words s) s.settle_script.new.lengths s.settle_script.ensures (start s).requires s.settle_script.auto.lengths
 
 returns : tie.Need-returns
 returns c =
     let k = c.before.before.before.before in
     let s = k.before.before.before.before.before in
-    searched (version s) (words s) s.settle-script.new.1.1.0 s.settle-script.ensures (start s).requires s.settle-script.auto.1.1.0
-    k.mark-reachable.ensures k.mark-reachable.auto.0 k.mark-reachable.auto.1.0
+    searched (version s) (words s) s.settle_script.new.lengths s.settle_script.ensures (start s).requires s.settle_script.auto.lengths
+    k.mark_reachable.ensures k.mark_reachable.auto.marks k.mark_reachable.auto.lengths
 
 pub search_words_spec : {M : Type 1} → statement M
 search_words_spec =

@@ -7,6 +7,6 @@ pub refuses_weights_spec : {M : Type 1} → statement M
 refuses_weights_spec =
     tie.close
     (tie.spec
-    (λ c. refuses_count _ c.if1.true)
+    (λ c. refuses_count _ c.if-weights-ne-WEIGHTS.true)
     (λ c κs. search rules)
-    (λ c. refuses_zero _ c.before.if1.false c.has-zero.ensures))
+    (λ c. refuses_zero _ c.if-weights-ne-WEIGHTS.false c.has_zero.ensures))
