@@ -269,21 +269,3 @@ pass_some (suc n) z = simp unary_clauses
 
 pub pass_one : (s : Search) (n : ℕ) → s ≡ Left n → (n ≡ 0 → ⊥) → Left (n - 1) ≡ passed s
 pass_one s n h z = rw h (pass_some n z)
-
-module _ (s : Search) (own : Layout) (inner : Walk) (last : Cursor) where
-  pub finish_refused : (x e : Refusal) → last ≡ Refused e → x ≡ refusal_of last → Stopped x ≡ finished s own inner last
-  finish_refused x e h k = rw (k, h)
-
-  module _ (at v : ℕ) (h : last ≡ At at v) where
-    pub finish_found : (t : Search) (l : Layout) → s ≡ Found l → t ≡ search_of inner → Past at t ≡ finished s own inner last
-    finish_found t l k p = rw (h, k, p)
-
-    pub finish_own : (n : ℕ) → s ≡ Left n → n ≡ 0 → Past at (Found own) ≡ finished s own inner last
-    finish_own n k z = rw (h, k, z)
-
-    later : (n : ℕ) → (n ≡ 0 → ⊥) → search_of inner ≡ settled (Left n) own (search_of inner)
-    later zero z = absurd (z refl)
-    later (suc n) z = refl
-
-    pub finish_later : (t : Search) (n : ℕ) → s ≡ Left n → (n ≡ 0 → ⊥) → t ≡ search_of inner → Past at t ≡ finished s own inner last
-    finish_later t n k z p = rw (h, k, p) (ap (Past at) (later n z))
