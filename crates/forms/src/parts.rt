@@ -22,7 +22,7 @@ pub fn put_head(
     o: Options,
 ) -> PageState {
     if o.is_json {
-        return json::put_head(page, s, file, source, o.limit, o.is_weighted);
+        return json_text::put_head(page, s, file, source, o.limit, o.is_weighted);
     }
     s
 }
@@ -41,7 +41,7 @@ pub fn put_function(
     path: &[u32],
 ) -> PageState {
     if o.is_json {
-        return json::put_function(page, s, f, words, lines, lengths, path);
+        return json_text::put_function(page, s, f, words, lines, lengths, path);
     }
     let a = put_title(page, s, file, source, f, o.limit, o.is_weighted);
     if o.limit == NO_LIMIT {
@@ -61,7 +61,7 @@ pub fn put_sum(
     most: u64,
 ) -> PageState {
     if o.is_json {
-        return json::put_sum(page, s, n, over, refused, most);
+        return json_text::put_sum(page, s, n, over, refused, most);
     }
     reports::put_sum(page, s, o.limit, o.is_weighted, n, over, refused, most)
 }
@@ -78,7 +78,7 @@ pub fn put_refused(
     is_cut: bool,
 ) -> PageState {
     if o.is_json {
-        return json::put_refused_file(page, s, file, bytes, refusal, place, is_cut);
+        return json_text::put_refused_file(page, s, file, bytes, refusal, place, is_cut);
     }
     reports::put_refused(page, s, file, bytes, refusal, place, is_cut)
 }
@@ -86,7 +86,7 @@ pub fn put_refused(
 // A file that is longer than the room for it.
 pub fn put_too_long(page: &mut [u8], s: PageState, file: &[u8], o: Options) -> PageState {
     if o.is_json {
-        return json::put_too_long(page, s, file);
+        return json_text::put_too_long(page, s, file);
     }
     reports::put_too_long(page, s, file)
 }

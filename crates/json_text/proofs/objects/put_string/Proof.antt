@@ -3,17 +3,17 @@ use mathlib.Core.Path.{◌≡◌}
 use lib.ListN.{length}
 use native.Mathlib.Omega.{arith}
 use borrow.Author.Rules.{rules}
-use Rattle.json.proofs.objects.put_all_steps.Statement.{statement}
-use Rattle.json.proofs.objects.put_all_steps.Tie as tie
+use Rattle.json_text.proofs.objects.put_string.Statement.{statement}
+use Rattle.json_text.proofs.objects.put_string.Tie as tie
 
 abbrev invariant_loop : tie.invariant-loop
-invariant_loop page₀ words t₀ p₀ t7 p-end page t p = length page ≡ length page₀
+invariant_loop page₀ text t₀ i₀ t7 i-end page t i = length page ≡ length page₀
 
 abbrev decreases_loop : tie.decreases-loop
-decreases_loop page₀ words t₀ p₀ t7 p-end page t p = p-end - p
+decreases_loop page₀ text t₀ i₀ t7 i-end page t i = i-end - i
 
-pub put_all_steps_spec : {M : Type 1} → statement M
-put_all_steps_spec =
+pub put_string_spec : {M : Type 1} → statement M
+put_string_spec =
     tie.close
     (tie.spec
     invariant_loop
@@ -21,6 +21,7 @@ put_all_steps_spec =
     (λ c. search rules)
     (λ c κs. search rules)
     (λ c. search rules)
+    (λ c κs. search rules)
     (λ c κs. search rules)
     (λ c. search rules)
     (λ c. search rules)

@@ -3,8 +3,8 @@ use mathlib.Core.Path.{◌≡◌}
 use lib.ListN.{length}
 use native.Mathlib.Omega.{arith}
 use borrow.Author.Rules.{rules}
-use Rattle.json.proofs.objects.put_numbers.Statement.{statement}
-use Rattle.json.proofs.objects.put_numbers.Tie as tie
+use Rattle.json_text.proofs.objects.put_numbers.Statement.{statement}
+use Rattle.json_text.proofs.objects.put_numbers.Tie as tie
 
 abbrev invariant_loop : tie.invariant-loop
 invariant_loop page₀ before list n t₀ i₀ t8 page t i = length page ≡ length page₀
