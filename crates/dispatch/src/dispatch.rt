@@ -27,6 +27,7 @@ use values::ir::{CompanionRole, ImplicitEffect, TypedOperand};
 
 const OFFSET_SJ: usize = fields::lua54::word::OFFSET_SJ as usize;
 
+#[tactic(auto, unfolding(crate::specs::Dispatch::extended_index, common::specs::Chain::choose))]
 fn extended_index(words: &[u32], pc: usize) -> usize
     requires { pc < most_words }
     ensures { result ≡ extended_index words.now pc }
@@ -75,6 +76,7 @@ fn lift_back(pc: usize, word: u32, raw: RawInstruction54) -> Body
     lift_loop_jump(raw, 0 - (by as i32), dest)
 }
 
+#[tactic(auto, unfolding(crate::specs::Dispatch::loads, common::specs::Chain::choose))]
 fn lift_loads(
     words: &[u32],
     tags: &[u8],
@@ -126,6 +128,7 @@ fn lift_loads(
     }
 }
 
+#[tactic(auto, unfolding(crate::specs::Dispatch::tables, common::specs::Chain::choose))]
 fn lift_tables(
     tags: &[u8],
     payloads: &[u64],
@@ -151,6 +154,7 @@ fn lift_tables(
     }
 }
 
+#[tactic(auto, unfolding(crate::specs::Dispatch::arithmetic, common::specs::Chain::choose))]
 fn lift_arithmetic(
     tags: &[u8],
     payloads: &[u64],
@@ -179,6 +183,7 @@ fn lift_arithmetic(
     }
 }
 
+#[tactic(auto, unfolding(crate::specs::Dispatch::control, common::specs::Chain::choose))]
 fn lift_control(pc: usize, word: u32, raw: RawInstruction54, opcode: u8) -> Body
     requires { pc < most_words }
     ensures { result ≡ control pc word raw opcode }
@@ -202,6 +207,7 @@ fn lift_control(pc: usize, word: u32, raw: RawInstruction54, opcode: u8) -> Body
     }
 }
 
+#[tactic(auto, unfolding(crate::specs::Dispatch::calls, common::specs::Chain::choose))]
 fn lift_calls(pc: usize, word: u32, raw: RawInstruction54, opcode: u8) -> Body
     requires { pc < most_words }
     ensures { result ≡ calls pc word raw opcode }
@@ -226,6 +232,7 @@ fn lift_calls(pc: usize, word: u32, raw: RawInstruction54, opcode: u8) -> Body
     }
 }
 
+#[tactic(auto, unfolding(crate::specs::Dispatch::record_body, common::specs::Chain::choose))]
 pub fn lift_body(
     words: &[u32],
     tags: &[u8],
