@@ -27,7 +27,7 @@ use Rattle.steps.proofs.Laws as stepping
 use Rattle.fields.specs.declared.version.Version.{Version}
 use Rattle.fields.specs.declared.version.Version.TheVariants.{Lua54, Lua53}
 use Rattle.touches.specs.Words.{opcode_by, GET_OPCODE-of, taken}
-use Rattle.touches.specs.Versions.{is_step, Go, Way, ways_of, next}
+use Rattle.touches.specs.Versions.{is_step, Go, ways_of, next}
 use Rattle.touches.specs.Touched.{ways_at, Any, LeadsTo}
 use Rattle.touches.specs.Accesses.{OwnEdge, no_edge, «p+1», «p+2», «p+1-Bx», «p+1+sBx», edge_of}
 use Rattle.touches.specs.Table.{edge_from, edge_number, opcodes_of}

@@ -7,66 +7,66 @@ use borrow.Author.Rules.{rules}
 use Rattle.touches.proofs.locating.stretch_of.Statement.{statement}
 use Rattle.touches.proofs.locating.stretch_of.Tie as tie
 
-returns : tie.Need-returns
+returns : tie.Need-returns-in-16
 unfolding operand_from
-returns c = λ before after. rw c.match.keys1
+returns c = λ before after. rw c.in-16.is
 
-returns_2 : tie.Need-returns-2
+returns_2 : tie.Need-returns-in-17
 unfolding operand_from
-returns_2 c = λ before after. rw c.match.keys2
+returns_2 c = λ before after. rw c.in-17.is
 
-returns_3 : tie.Need-returns-3
+returns_3 : tie.Need-returns-then-b-eq0
 unfolding operand_from
-returns_3 c = λ before after. rw (c.before.match.keys3, c.if1.true)
+returns_3 c = λ before after. rw (c.in-18.is, c.if-b-eq0.true)
 
-returns_4 : tie.Need-returns-4
+returns_4 : tie.Need-returns-else-b-eq0
 unfolding operand_from
-returns_4 c = λ before after. rw (c.before.match.keys3, ne_eqb _ _ c.if1.false)
+returns_4 c = λ before after. rw (c.in-18.is, ne_eqb _ _ c.if-b-eq0.false)
 
-returns_5 : tie.Need-returns-5
+returns_5 : tie.Need-returns-then-b-eq0-2
 unfolding operand_from
-returns_5 c = λ before after. rw (c.before.match.keys4, c.if2.true)
+returns_5 c = λ before after. rw (c.in-19.is, c.if-b-eq0-2.true)
 
-returns_6 : tie.Need-returns-6
+returns_6 : tie.Need-returns-else-b-eq0-2
 unfolding operand_from
-returns_6 c = λ before after. rw (c.before.match.keys4, ne_eqb _ _ c.if2.false)
+returns_6 c = λ before after. rw (c.in-19.is, ne_eqb _ _ c.if-b-eq0-2.false)
 
-returns_7 : tie.Need-returns-7
+returns_7 : tie.Need-returns-then-b-eq0-3
 unfolding operand_from
-returns_7 c = λ before after. rw (c.before.match.keys5, c.if3.true)
+returns_7 c = λ before after. rw (c.in-20.is, c.if-b-eq0-3.true)
 
-returns_8 : tie.Need-returns-8
+returns_8 : tie.Need-returns-else-b-eq0-3
 unfolding operand_from
-returns_8 c = λ before after. rw (c.before.match.keys5, ne_eqb _ _ c.if3.false)
+returns_8 c = λ before after. rw (c.in-20.is, ne_eqb _ _ c.if-b-eq0-3.false)
 
-returns_9 : tie.Need-returns-9
+returns_9 : tie.Need-returns-then-c-eq0
 unfolding operand_from
-returns_9 c = λ before after. rw (c.before.match.keys6, c.if4.true)
+returns_9 c = λ before after. rw (c.in-21.is, c.if-c-eq0.true)
 
-returns_10 : tie.Need-returns-10
+returns_10 : tie.Need-returns-else-c-eq0
 unfolding operand_from
-returns_10 c = λ before after. rw (c.before.match.keys6, ne_eqb _ _ c.if4.false)
+returns_10 c = λ before after. rw (c.in-21.is, ne_eqb _ _ c.if-c-eq0.false)
 
-returns_11 : tie.Need-returns-11
+returns_11 : tie.Need-returns-in-22
 unfolding operand_from
-returns_11 c = λ before after. rw c.match.keys7
+returns_11 c = λ before after. rw c.in-22.is
 
-returns_12 : tie.Need-returns-12
+returns_12 : tie.Need-returns-in-23
 unfolding operand_from
-returns_12 c = λ before after. rw c.before.match.keys8 c.register-or-constant.ensures
+returns_12 c = λ before after. rw c.in-23.is c.register_or_constant.ensures
 
-returns_13 : tie.Need-returns-13
+returns_13 : tie.Need-returns-in-24
 unfolding operand_from
-returns_13 c = λ before after. rw c.before.match.keys9 c.register-or-constant2.ensures
+returns_13 c = λ before after. rw c.in-24.is c.register_or_constant-in-24.ensures
 
-returns_14 : tie.Need-returns-14
+returns_14 : tie.Need-returns-in-25
 unfolding operand_from
-returns_14 c = λ before after. rw c.match.keys10
+returns_14 c = λ before after. rw c.in-25.is
 
-returns_15 : tie.Need-returns-15
+returns_15 : tie.Need-returns-in_default
 returns_15 c =
     let start = c.before.before in
-    λ before after. rw (operand_past start.args.operand (past_from 16 10 _ start.requires.1 c.match.rest))
+    λ before after. rw (operand_past start.args.operand (past_from 16 10 _ start.requires.1 c.in_default.in_default-own.rest))
 
 pub stretch_of_spec : {M : Type 1} → statement M
 stretch_of_spec = tie.close (tie.spec (λ c. search rules) (λ c. search rules) (λ c. search rules)

@@ -8,33 +8,33 @@ use borrow.Author.Rules.{rules}
 use Rattle.touches.proofs.word.edge_of.Statement.{statement}
 use Rattle.touches.proofs.word.edge_of.Tie as tie
 
-returns : tie.Need-returns
+returns : tie.Need-returns-in-0
 unfolding edge_from
-returns c = rw c.match.keys1
+returns c = rw c.in-0.is
 
-returns_2 : tie.Need-returns-2
+returns_2 : tie.Need-returns-in-1
 unfolding edge_from
-returns_2 c = rw c.match.keys2
+returns_2 c = rw c.in-1.is
 
-returns_3 : tie.Need-returns-3
+returns_3 : tie.Need-returns-in-2
 unfolding edge_from
-returns_3 c = rw c.match.keys3
+returns_3 c = rw c.in-2.is
 
-returns_4 : tie.Need-returns-4
+returns_4 : tie.Need-returns-then-p-back
 unfolding edge_from
-returns_4 c = rw c.before.match.keys4 (omega arith)
+returns_4 c = rw c.in-3.is (omega arith)
 
-returns_5 : tie.Need-returns-5
+returns_5 : tie.Need-returns-else-p-back
 unfolding edge_from
-returns_5 c = rw c.before.match.keys4
+returns_5 c = rw c.in-3.is
 
-returns_6 : tie.Need-returns-6
+returns_6 : tie.Need-returns-then-to-offset
 unfolding edge_from
-returns_6 c = rw (edge_past c.before.before.args.edge (past_all 4 _ c.before.match.rest)) (omega arith)
+returns_6 c = rw (edge_past c.args.edge (past_all 4 _ c.in_default.in_default-own.rest)) (omega arith)
 
-returns_7 : tie.Need-returns-7
+returns_7 : tie.Need-returns-else-to-offset
 unfolding edge_from
-returns_7 c = rw (edge_past c.before.before.args.edge (past_all 4 _ c.before.match.rest))
+returns_7 c = rw (edge_past c.args.edge (past_all 4 _ c.in_default.in_default-own.rest))
 
 pub edge_of_spec : {M : Type 1} → statement M
 edge_of_spec =

@@ -13,11 +13,11 @@ returns c =
     let at-top-in = at-constants-in.before in
     let at-ranges-in = at-top-in.before in
     rw (
-      c.ranges-in3.ensures,
-      c.before.upvalues-in2.ensures,
-      c.before.before.top-in2.ensures,
-      c.before.before.before.ranges-in2.ensures,
-      at-upvalues-in.upvalues-in.ensures,
+      c.ranges_in-3.ensures,
+      c.upvalues_in-2.ensures,
+      c.top_in-2.ensures,
+      c.ranges_in-2.ensures,
+      at-upvalues-in.upvalues_in.ensures,
       at-constants-in.constants_in.ensures,
       at-top-in.top_in.ensures,
       at-ranges-in.ranges_in.ensures,

@@ -12,13 +12,13 @@ use borrow.Author.Rules.{rules}
 use Rattle.touches.proofs.word.touches_at_53.Statement.{statement}
 use Rattle.touches.proofs.word.touches_at_53.Tie as tie
 
-touched_by_requires : tie.Need-touched-by-requires
+touched_by_requires : tie.Need-touched_by-requires
 touched_by_requires c κs =
     let at-arguments-of-53 = c.before.before.before.before in
     let start = at-arguments-of-53.before.before.before.before.before in (
-      subst (λ (x : Arguments). x.b + x.c < 1024) (sym c.arguments-of-533.ensures)
+      subst (λ (x : Arguments). x.b + x.c < 1024) (sym c.arguments_of_53.ensures)
           (small_arguments Lua53 (get_or start.args.words.now start.args.p 0)),
-      omega (arith, start.requires, start.well-formed.1.1.0.1),
+      omega (arith, start.requires, start.well_formed.1.1.0.1),
     )
 
 returns : tie.Need-returns
@@ -28,11 +28,11 @@ returns c =
     let at-word-at = at-arguments-of-53.before in
     let at-previous = at-word-at.before in
     rw (
-      c.touched-by.ensures,
-      c.before.arguments-of-533.ensures,
-      c.before.before.before.arguments-of-532.ensures,
-      at-word-at2.word-at2.ensures,
-      at-arguments-of-53.arguments-of-53.ensures,
+      c.touched_by.ensures,
+      c.arguments_of_53.ensures,
+      c.arguments_of_53-after.ensures,
+      at-word-at2.word_at-2.ensures,
+      at-arguments-of-53.arguments_of_53-before.ensures,
       at-word-at.word_at.ensures,
       at-previous.previous.ensures,
       div-one,
