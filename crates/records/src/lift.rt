@@ -40,6 +40,7 @@ fn fallback_of(word: u32, c: u8) -> Fallback
     }
 }
 
+#[tactic(auto, unfolding(crate::specs::Lift::before, common::specs::Chain::choose))]
 fn word_before(pc: usize) -> OptionalPc
     ensures { result ≡ before pc }
 {
@@ -50,6 +51,7 @@ fn word_before(pc: usize) -> OptionalPc
     }
 }
 
+#[tactic(auto, unfolding(crate::specs::Lift::companion_pc, common::specs::Chain::choose))]
 fn companion_of(opcode: u8, pc: usize) -> OptionalPc
     requires { pc < most_words }
     ensures { result ≡ companion_pc opcode pc }
@@ -64,6 +66,7 @@ fn companion_of(opcode: u8, pc: usize) -> OptionalPc
     }
 }
 
+#[tactic(auto, unfolding(crate::specs::Lift::confidence_of, common::specs::Chain::choose))]
 fn confidence_of(opcode: u8) -> Confidence
     ensures { result ≡ confidence_of opcode }
 {
@@ -74,6 +77,7 @@ fn confidence_of(opcode: u8) -> Confidence
     }
 }
 
+#[tactic(auto, unfolding(crate::specs::Lift::lift_of))]
 pub(crate) fn lift_at<'a>(
     words: &'a [u32],
     tags: &'a [u8],
@@ -109,6 +113,7 @@ pub(crate) fn lift_at<'a>(
     }
 }
 
+#[tactic(auto, unfolding(crate::specs::Walk::blank_record))]
 fn blank_record() -> SemanticInstruction
     ensures { result ≡ blank_record }
 {
@@ -128,6 +133,7 @@ fn blank_record() -> SemanticInstruction
 }
 
 // One record by value, for those who have no list to lend.
+#[tactic(auto, unfolding(crate::specs::Walk::lifted_by, common::specs::Chain::choose))]
 pub fn lift_word<'a>(
     words: &'a [u32],
     tags: &'a [u8],
@@ -159,6 +165,7 @@ pub fn lift_word<'a>(
 
 // One record by value, for a caller that has made the plan once for all words: the tables
 // need no check to be read.
+#[tactic(auto, unfolding(crate::specs::Walk::record_or_blank, common::specs::Chain::choose))]
 pub fn record_or_blank<'a>(
     words: &'a [u32],
     tags: &'a [u8],

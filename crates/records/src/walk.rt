@@ -1,4 +1,4 @@
-// The records of all words, in the caller's list: a thin function over the covered lifter, proved by hand.
+// The records of all words, in the caller's list: a thin function over the lifter.
 ghost use Rattle.std.specs.Prelude.{◌≡◌, length};
 ghost use Rattle.tables.specs.Refusals.{plan_of};
 ghost use Rattle.records.specs.Walk.{records_after};
