@@ -50,7 +50,7 @@ def turn(text, d):
     def of_tie(m):
         w = m[1]
         if w.startswith("Need-"):
-            return "tie.Need-" + need.get(norm(w[5:]), w[5:])
+            return "tie.Need-" + need.get(norm(w[5:]), w[5:].replace("slice-bounds", "slice_bounds"))
         if norm(w) in loop:
             return "tie." + loop[norm(w)]
         return "tie." + (w if w in known else place.get(norm(w), w))
@@ -107,17 +107,69 @@ def flat(text):
     blocks = text.split("\n\n")
     for i, b in enumerate(blocks):
         while True:
-            for m in re.finditer(r"(?m)^ *let ([\w·'\-]+) = ([\w·'\-]+)(?:\.before)+ in( \()?\n", b):
+            for m in re.finditer(r"(?m)^ *let ([\w·'\-]+) = ([\w·'\-]+)((?:\.before)+) in( \()?\n", b):
                 n = re.escape(m[1])
                 head = b[: m.start()]
-                rest = (head[:-1] + " (\n" if m[3] else head) + b[m.end() :]
-                if re.search(rf"(?<![\w.\-']){n}(?![\w\-'.])", rest) or re.search(rf"(?<![\w.\-']){n}\.before(?:\.before)*(?! in(?: \()?\n)(?![\w.\-])", rest):
+                rest = (head[:-1] + " (\n" if m[4] else head) + b[m.end() :]
+                if re.search(rf"(?<![\w.\-']){n}(?![\w\-'.])", rest):
                     continue
+                rest = re.sub(rf"(?<![\w.\-']){n}\.before(?![\w\-])", m[2] + m[3] + ".before", rest)
                 b = re.sub(rf"(?<![\w.\-']){n}\.(?=[\w])", m[2] + ".", rest)
                 break
             else:
                 break
         blocks[i] = b
+    return "\n\n".join(blocks)
+
+
+def handed_on(text, d):
+    """Places that are handed on: an arm is one place now, so that fewer `.before` lead out of it."""
+    key = lambda x: re.sub(r"-?(\d+)$", r"\1", x.replace("_", "-"))
+    at = {}
+    for i, p in enumerate(d["places"]):
+        at.setdefault(key(p[0]), i)
+    parent = [at.get(key(p[1])) if p[1] else None for p in d["places"]]
+    out = list(parent)
+    for i, a in enumerate(d["arms"]):
+        if a:
+            for _ in range(a[1] - 1):
+                out[i] = parent[out[i]] if out[i] is not None else None
+    asked = {norm(n[0]): at.get(key(p[0])) for n, p in zip(d["needs"], d.get("asked_at", []))}
+
+    def steps(i, n):
+        """How many `.before` lead from place i to where n old ones led; None where no name is left for it."""
+        j, k, new = i, i, 0
+        for _ in range(n):
+            j = parent[j] if j is not None else None
+        while k is not None and k != j:
+            k, new = out[k], new + 1
+        return new if j is not None and k == j else None
+
+    blocks = text.split("\n\n")
+    for b, block in enumerate(blocks):
+        m = re.search(r"(?<![\w.\-])tie\.Need-(" + WORD + ")", block) or re.search(r"-lts\.Need-(" + WORD + ")", block)
+        if m:
+            where = asked.get(norm(m[1]))
+        else:
+            m = re.search(r"(?<![\w.\-])tie\.((?:After|At|In)-" + WORD + r")\s*(?:→|\))", block)
+            where = at.get(key(m[1])) if m else None
+        if where is None:
+            continue
+        far = {"c": 0}
+
+        def new_path(m):
+            if m[1] not in far:
+                return m[0]
+            count = steps(where, far[m[1]] + m[2].count(".before"))
+            return m[0] if count is None else "c" + ".before" * count
+
+        lines = block.split("\n")
+        for i, l in enumerate(lines):
+            lines[i] = re.sub(r"(?<![\w.\-'])([\w·'\-]+)((?:\.before)+)(?![\w.\-])", new_path, l)
+            m = re.match(r"^ *let ([\w·'\-]+) = ([\w·'\-]+)((?:\.before)+) in", l)
+            if m and m[2] in far:
+                far[m[1]] = far[m[2]] + m[3].count(".before")
+        blocks[b] = "\n".join(lines)
     return "\n\n".join(blocks)
 
 
@@ -144,7 +196,7 @@ def main(names):
                 continue
             with open(file) as f:
                 old = f.read()
-            new = flat(turn(old, it))
+            new = flat(turn(handed_on(old, it), it))
             if new != old:
                 with open(file, "w") as f:
                     f.write(new)

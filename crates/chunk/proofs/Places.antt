@@ -2,20 +2,18 @@
 use mathlib.Core.Path.{◌≡◌, refl, sym, ◌∙◌, ap}
 use mathlib.Core.Bool.{Bool, true, false, true≢false}
 use mathlib.Core.List.{List, [], ◌∷◌}
-use Prim.Native.Nat.{ℕ, zero, suc, ◌+◌, ◌*◌, ◌/◌, ◌%◌, ◌^◌, ◌≤◌, ◌<◌}
+use Prim.Native.Nat.{ℕ, zero, suc, ◌+◌, ◌/◌, ◌%◌, ◌^◌, ◌≤◌, ◌<◌}
 use native.Mathlib.Omega.{arith}
-use lib.Arith.{digits_div, digits_mod}
 use lib.Dec.{ltb, leb, eqb}
 use lib.ListN.{length, get_or}
 use borrow.Author.Tests.{leb-true, lt-ltb, le-ltb, ne_eqb}
 use Rattle.common.specs.Chain.{choose}
 use Rattle.common.proofs.Lowest.{lowest_laws}
 use Rattle.common.specs.Limits.{most_bytes}
-use Rattle.values.specs.declared.model.Span.{Span}
 use Rattle.values.specs.declared.model.Name.TheVariants.{Unnamed, Named}
 use Rattle.values.specs.Values.{unnamed, span_of, name_of, span_number}
 use Rattle.values.specs.Spans.{past, name_past_at, first_name_past}
-use Rattle.loaders.specs.Reading.{Result, done, refused, bind, only}
+use Rattle.loaders.specs.Reading.{Result, done, bind, only}
 use Rattle.loaders.specs.Loaders.{Text, absent, text, Constant, plain, string}
 use Rattle.lundump.specs.Lundump.{Function, undump}
 use Rattle.loaders.specs.Lent.{payload_of, name_number}

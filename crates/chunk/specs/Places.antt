@@ -6,7 +6,7 @@ use Rattle.std.specs.Prelude.{◌≡◌, ◌⊎◌, false, List, ℕ, ◌+◌, �
 use Rattle.values.specs.declared.model.Name.TheVariants.{Unnamed, Named}
 use Rattle.values.specs.Values.{span_of, name_of}
 use Rattle.values.specs.Spans.{past, first_name_past}
-use Rattle.loaders.specs.Loaders.{Text, absent, text, Constant, plain, string}
+use Rattle.loaders.specs.Loaders.{absent, text, Constant, plain, string}
 use Rattle.lundump.specs.Lundump.{Function}
 use Rattle.lundump.specs.Chunk.{payloads_of, names_of}
 

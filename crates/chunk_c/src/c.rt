@@ -13,18 +13,15 @@ ghost use Rattle.lundump.specs.Chunk.{
 };
 ghost use Rattle.chunk.specs.Names.{shown_of};
 
-use crate::filling::{fill_code, fill_constants, fill_names, with_room};
-use crate::names::{Shown, check, lent_name, no_name, or_else};
-use lundump::inner::{locate, report};
-use lundump::{Counts, Located};
-use values::lookup;
+use chunk::{Shown, count_function, fill_function, shown_name};
+use lundump::Counts;
 
 // Of function k, counted from 0 by first byte. Nothing is filled.
 #[unsafe(no_mangle)]
 pub extern "C" fn lawendeb_chunk_count(chunk: &[u8], k: usize) -> Counts
     ensures { result ≡ counts_of (chosen k chunk.now) }
 {
-    report(locate(chunk, k))
+    count_function(chunk, k)
 }
 
 // Of function k, counted from 0 by first byte. What lies past the counts stays as it was,
@@ -53,24 +50,7 @@ pub extern "C" fn lawendeb_chunk_fill(
         (rooms_of words.old tags.old payloads.old names.old))
         names.old }
 {
-    let found = with_room(
-        locate(chunk, k),
-        words.len(),
-        tags.len(),
-        payloads.len(),
-        names.len(),
-    );
-    let Located::Here(f) = found else {
-        return report(found);
-    };
-    let code_at = f.code_at;
-    let constants_at = f.constants_at;
-    let names_at = f.names_at;
-    let upvalues = f.names;
-    fill_code(chunk, code_at, words);
-    fill_constants(chunk, constants_at, tags, payloads);
-    fill_names(chunk, names_at, upvalues, names);
-    report(found)
+    fill_function(chunk, k, words, tags, payloads, names)
 }
 
 // What is shown for upvalue `index`: own are the chunk's places, other the list's.
@@ -85,7 +65,5 @@ pub extern "C" fn lawendeb_upvalue_name(
     ensures { result ≡ shown_of (length chunk.now) own.now (length list.now)
         other.now index }
 {
-    let listed = or_else(0, lookup::upvalue_name(other, index), no_name());
-    let found = or_else(1, lookup::upvalue_name(own, index), listed);
-    check(own, chunk.len(), check(other, list.len(), found))
+    shown_name(chunk, own, list, other, index)
 }
