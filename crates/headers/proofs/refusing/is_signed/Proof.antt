@@ -4,33 +4,28 @@ use Rattle.headers.specs.Refusing.{signed}
 use Rattle.headers.proofs.refusing.is_signed.Statement.{statement}
 use Rattle.headers.proofs.refusing.is_signed.Tie as tie
 
-returns : tie.Need-returns
+returns : tie.Need-returns-then-chunk-lt4
 unfolding signed
-returns c = rw (lt-leb _ _ c.if1.true)
+returns c = rw (lt-leb _ _ c.if-chunk-lt4.true)
 
-returns_2 : tie.Need-returns-2
+returns_2 : tie.Need-returns-then-chunk-ne27
 unfolding signed
-returns_2 c = rw (le-leb _ _ c.before.before.if1.false, ne_eqb _ _ c.if2.true)
+returns_2 c = rw (le-leb _ _ c.if-chunk-lt4.false, ne_eqb _ _ c.if-chunk-ne27.true)
 
-returns_3 : tie.Need-returns-3
+returns_3 : tie.Need-returns-then-chunk-ne76
 unfolding signed
 returns_3 c =
-    let at-if1 = c.before.before.before.before in
-    rw (le-leb _ _ at-if1.if1.false, eq-eqb _ _ c.before.before.if2.false, ne_eqb _ _ c.if3.true)
+    rw (le-leb _ _ c.if-chunk-lt4.false, eq-eqb _ _ c.if-chunk-ne27.false, ne_eqb _ _ c.if-chunk-ne76.true)
 
-returns_4 : tie.Need-returns-4
+returns_4 : tie.Need-returns-then-chunk-ne117
 unfolding signed
 returns_4 c =
-    let at-if2 = c.before.before.before.before in
-    let at-if1 = at-if2.before.before in
-    rw (le-leb _ _ at-if1.if1.false, eq-eqb _ _ at-if2.if2.false, eq-eqb _ _ c.before.before.if3.false, ne_eqb _ _ c.if4.true)
+    rw (le-leb _ _ c.if-chunk-lt4.false, eq-eqb _ _ c.if-chunk-ne27.false, eq-eqb _ _ c.if-chunk-ne76.false, ne_eqb _ _ c.if-chunk-ne117.true)
 
-returns_5 : tie.Need-returns-5
+returns_5 : tie.Need-returns
 unfolding signed
 returns_5 c =
-    let at-if2 = c.before.before.before.before.before in
-    let at-if1 = at-if2.before.before in
-    rw (le-leb _ _ at-if1.if1.false, eq-eqb _ _ at-if2.if2.false, eq-eqb _ _ c.before.before.before.if3.false, eq-eqb _ _ c.before.if4.false)
+    rw (le-leb _ _ c.if-chunk-lt4.false, eq-eqb _ _ c.if-chunk-ne27.false, eq-eqb _ _ c.if-chunk-ne76.false, eq-eqb _ _ c.if-chunk-ne117.false)
 
 pub is_signed_spec : {M : Type 1} → statement M
 is_signed_spec =

@@ -6,49 +6,43 @@ use Rattle.headers.specs.Refusing.{why_refused, header_reason}
 use Rattle.headers.proofs.refusing.why_refused.Statement.{statement}
 use Rattle.headers.proofs.refusing.why_refused.Tie as tie
 
-returns : tie.Need-returns
+returns : tie.Need-returns-then-not-is_signed
 unfolding why_refused
-returns c = rw (ap not (sym c.before.is_Signed.ensures) ∙ c.if1.true)
+returns c = rw (ap not (sym c.is_signed.ensures) ∙ c.if-not-is_signed.true)
 
-returns_2 : tie.Need-returns-2
+returns_2 : tie.Need-returns-then-chunk-le4
 unfolding why_refused
-returns_2 c = rw (ap not (sym c.before.before.is_Signed.ensures) ∙ c.before.if1.false, le-leb _ _ c.if2.true)
+returns_2 c = rw (ap not (sym c.is_signed.ensures) ∙ c.if-not-is_signed.false, le-leb _ _ c.if-chunk-le4.true)
 
-returns_3 : tie.Need-returns-3
+returns_3 : tie.Need-returns-then-version-eq83
 unfolding why_refused
 returns_3 c =
-    let at-is-signed = c.before.before.before.before in
     rw (
-      ap not (sym at-is-signed.is_Signed.ensures) ∙ c.before.before.before.if1.false,
-      lt-leb _ _ c.before.before.if2.false,
-      eq-eqb _ _ c.if3.true,
+      ap not (sym c.is_signed.ensures) ∙ c.if-not-is_signed.false,
+      lt-leb _ _ c.if-chunk-le4.false,
+      eq-eqb _ _ c.if-version-eq83.true,
     )
 
-returns_4 : tie.Need-returns-4
+returns_4 : tie.Need-returns-then-version-ne84
 unfolding why_refused
 returns_4 c =
-    let at-if1 = c.before.before.before.before in
-    let at-is-signed = at-if1.before in
     rw (
-      ap not (sym at-is-signed.is_Signed.ensures) ∙ at-if1.if1.false,
-      lt-leb _ _ c.before.before.before.if2.false,
-      ne_eqb _ _ c.before.if3.false,
-      ne_eqb _ _ c.if4.true,
+      ap not (sym c.is_signed.ensures) ∙ c.if-not-is_signed.false,
+      lt-leb _ _ c.if-chunk-le4.false,
+      ne_eqb _ _ c.if-version-eq83.false,
+      ne_eqb _ _ c.if-version-ne84.true,
     )
 
-returns_5 : tie.Need-returns-5
+returns_5 : tie.Need-returns
 unfolding why_refused
 returns_5 c =
-    let at-if2 = c.before.before.before.before.before in
-    let at-if1 = at-if2.before in
-    let at-is-signed = at-if1.before in
     rw (
-      ap not (sym at-is-signed.is_Signed.ensures) ∙ at-if1.if1.false,
-      lt-leb _ _ at-if2.if2.false,
-      ne_eqb _ _ c.before.before.before.if3.false,
-      eq-eqb _ _ c.before.before.if4.false,
+      ap not (sym c.is_signed.ensures) ∙ c.if-not-is_signed.false,
+      lt-leb _ _ c.if-chunk-le4.false,
+      ne_eqb _ _ c.if-version-eq83.false,
+      eq-eqb _ _ c.if-version-ne84.false,
     )
-    (c.by_header.ensures ∙ ap header_reason c.before.header.ensures)
+    (c.by_header.ensures ∙ ap header_reason c.header.ensures)
 
 pub why_refused_spec : {M : Type 1} → statement M
 why_refused_spec =
