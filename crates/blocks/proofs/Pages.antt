@@ -10,7 +10,7 @@ use lib.Dec.{ltb, eqb}
 use lib.ListN.{length, get_or, set, length-set}
 use lib.Seq.{get_or-set_same, get_or-set_other}
 use Rattle.common.specs.Lists.{over}
-use Rattle.common.proofs.Order.{split, same_or_not, past}
+use Rattle.common.proofs.Order.{split, same_or_not}
 use Rattle.common.proofs.Over.{over_laws}
 use Rattle.fields.specs.declared.version.Version.TheVariants.{Lua54}
 use Rattle.sweep.specs.declared.edges.Successors.{Successors}

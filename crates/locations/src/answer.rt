@@ -3,7 +3,7 @@
 
 // Registers from the first to the last, both touched.
 #[repr(C)]
-#[derive(Drop)]
+#[derive(Clone, Copy)]
 pub struct Range {
     pub first: u16,
     pub last: u16,
@@ -11,7 +11,7 @@ pub struct Range {
 
 // Rising, with a register between any two that is in neither.
 #[repr(C)]
-#[derive(Drop)]
+#[derive(Clone, Copy)]
 pub struct Ranges {
     pub items: [Range; 3],
     pub count: u16,
@@ -19,7 +19,7 @@ pub struct Ranges {
 
 // A range up to the stack top, by its first register past those touched at every top; the count is 0 or 1.
 #[repr(C)]
-#[derive(Drop)]
+#[derive(Clone, Copy)]
 pub struct Top {
     pub first: u16,
     pub count: u16,
@@ -27,14 +27,14 @@ pub struct Top {
 
 // Constants or upvalues, rising.
 #[repr(C)]
-#[derive(Drop)]
+#[derive(Clone, Copy)]
 pub struct Indices {
     pub items: [u32; 3],
     pub count: u32,
 }
 
 #[repr(C)]
-#[derive(Drop)]
+#[derive(Clone, Copy)]
 pub struct Touches {
     pub reads: Ranges,
     pub reads_to_top: Top,

@@ -9,22 +9,21 @@ use Rattle.blocks.proofs.ranges.below.Statement.{statement}
 use Rattle.blocks.proofs.ranges.below.Tie as tie
 
 -- so many registers, fewer than a block has
-abbrev count : (c : tie.Else2) → ℕ
-count c = c.before.before.args.end - c.before.before.args.r
+abbrev count : (c : tie.Else-count-ge-BLOCK) → ℕ
+count c = c.args.end - c.args.r
 
-returns_3 : tie.Need-returns-3
+returns_3 : tie.Need-returns
 returns_3 c =
-    let s = c.before.before in
-    subst (λ (x : ℕ). HoldsBits s.args.r (λ i. ltb i s.args.end) x) (shifted_less (count c) (omega (arith, c.if2.left)))
-    (below_some s.args.r s.args.end (omega (arith, c.before.if1.left)) (omega (arith, c.if2.left)))
+    subst (λ (x : ℕ). HoldsBits c.args.r (λ i. ltb i c.args.end) x) (shifted_less (count c) (omega (arith, c.if-count-ge-BLOCK.false)))
+    (below_some c.args.r c.args.end (omega (arith, c.if-end-r.false)) (omega (arith, c.if-count-ge-BLOCK.false)))
 
 pub below_spec : {M : Type 1} → statement M
 below_spec =
     tie.close
     (tie.spec
-    (λ c. below_none c.before.args.r c.before.args.end c.if1.taken)
+    (λ c. below_none c.args.r c.args.end c.if-end-r.true)
     (λ c. search rules)
-    (λ c. below_all c.before.before.args.r c.before.before.args.end c.if2.taken)
+    (λ c. below_all c.args.r c.args.end c.if-count-ge-BLOCK.true)
     (λ c. search rules)
-    (λ c. subst (λ (x : ℕ). 1 ≤ x) (sym (shifted (count c) (omega (arith, c.if2.left)))) (omega arith))
+    (λ c. subst (λ (x : ℕ). 1 ≤ x) (sym (shifted (count c) (omega (arith, c.if-count-ge-BLOCK.false)))) (omega arith))
     returns_3)

@@ -13,4 +13,4 @@ in_range_spec =
     (λ c. search rules)
     (λ c κs. search rules)
     (λ c. search rules)
-    (λ c. let s = c.before.before.before.before in holds_range s.args.r s.args.x c.before.before.below.ensures c.below2.ensures))
+    (λ c. let s = c.before.before.before.before in holds_range s.args.r s.args.x c.below.ensures c.below-2.ensures))

@@ -17,44 +17,35 @@ Among r x xs = HoldsBits r (λ s. in_ranges s xs) x
 abbrev same : List Range → List Range
 same xs = xs
 
-returns : tie.Need-returns
+returns : tie.Need-returns-then-count-eq0
 returns c =
-    let s = c.before.before in
-    subst (λ (xs : List Range). Among s.args.r 0 xs)
-    (of_none same s.args.x.items s.pre s.args.x.count c.if1.taken)
-    (among_none s.args.r)
+    subst (λ (xs : List Range). Among c.args.r 0 xs)
+    (of_none same c.args.x.items c.requires c.args.x.count c.if-count-eq0.true)
+    (among_none c.args.r)
 
-returns_2 : tie.Need-returns-2
+returns_2 : tie.Need-returns-then-count-eq1
 returns_2 c =
-    let s = c.before.before.before.before.before in
-    subst (λ (xs : List Range). Among s.args.r c.in-range.result xs)
-    (of_one same s.args.x.items s.pre s.args.x.count c.before.before.if2.taken)
-    (among_one s.args.r _ c.in-range.ensures)
+    subst (λ (xs : List Range). Among c.args.r c.in_range.result xs)
+    (of_one same c.args.x.items c.requires c.args.x.count c.if-count-eq1.true)
+    (among_one c.args.r _ c.in_range.ensures)
 
-returns_3 : tie.Need-returns-3
+returns_3 : tie.Need-returns-then-count-eq2
 returns_3 c =
-    let at-if3 = c.before.before.before.before in
-    let s = at-if3.before.before.before.before in
     subst
     (λ (xs : List Range).
-    Among s.args.r (bit_or c.before.before.in-range2.result c.in-range3.result) xs)
-    (of_two same s.args.x.items s.pre s.args.x.count at-if3.if3.taken)
-    (among_more s.args.r _ _ c.before.before.in-range2.ensures (among_one s.args.r _ c.in-range3.ensures))
+    Among c.args.r (bit_or c.in_range-then-count-eq2.result c.in_range-then-count-eq2-2.result) xs)
+    (of_two same c.args.x.items c.requires c.args.x.count c.if-count-eq2.true)
+    (among_more c.args.r _ _ c.in_range-then-count-eq2.ensures (among_one c.args.r _ c.in_range-then-count-eq2-2.ensures))
 
-returns_4 : tie.Need-returns-4
+returns_4 : tie.Need-returns
 returns_4 c =
-    let at-in-range4 = c.before.before.before.before in
-    let at-if3 = at-in-range4.before.before in
-    let at-if2 = at-if3.before in
-    let at-if1 = at-if2.before in
-    let s = at-if1.before.before in
-    subst (λ (xs : List Range). Among s.args.r
-    (bit_or at-in-range4.in-range4.result
-    (bit_or c.before.before.in-range5.result c.in-range6.result))
+    subst (λ (xs : List Range). Among c.args.r
+    (bit_or c.in_range-2.result
+    (bit_or c.in_range-3.result c.in_range-4.result))
     xs)
-    (of_three same s.args.x.items s.pre s.args.x.count at-if1.if1.left at-if2.if2.left at-if3.if3.left)
-    (among_more s.args.r _ _ at-in-range4.in-range4.ensures (among_more s.args.r _ _
-    c.before.before.in-range5.ensures (among_one s.args.r _ c.in-range6.ensures)))
+    (of_three same c.args.x.items c.requires c.args.x.count c.if-count-eq0.false c.if-count-eq1.false c.if-count-eq2.false)
+    (among_more c.args.r _ _ c.in_range-2.ensures (among_more c.args.r _ _
+    c.in_range-3.ensures (among_one c.args.r _ c.in_range-4.ensures)))
 
 pub in_ranges_spec : {M : Type 1} → statement M
 in_ranges_spec =

@@ -8,55 +8,46 @@ use Rattle.blocks.proofs.Within.{of_none, of_one, of_two, of_three}
 use Rattle.blocks.proofs.ranges.next_in.Statement.{statement}
 use Rattle.blocks.proofs.ranges.next_in.Tie as tie
 
-returns : tie.Need-returns
+returns : tie.Need-returns-then-count-eq0
 unfolding next_in end_of
-returns c =
-    let s = c.before.before in (
-      of_none (next_in s.args.r) s.args.x.items s.pre s.args.x.count c.if1.taken,
-      subst (λ (x : ℕ). x ≤ 65536) (of_none end_of s.args.x.items s.pre s.args.x.count c.if1.taken) (omega arith),
-    )
+returns c = (
+  of_none (next_in c.args.r) c.args.x.items c.requires c.args.x.count c.if-count-eq0.true,
+  subst (λ (x : ℕ). x ≤ 65536) (of_none end_of c.args.x.items c.requires c.args.x.count c.if-count-eq0.true) (omega arith),
+)
 
-returns_2 : tie.Need-returns-2
+returns_2 : tie.Need-returns-then-count-eq1
 unfolding next_in end_of
 returns_2 c =
-    let at-next-of = c.before in
-    let s = at-next-of.before.before.before.before.before in
-    let one = c.before.before.before.if2.taken in
-    let a = at-next-of.next_of.ensures in (
-      c.smaller-size.ensures ∙ ap (λ (x : ℕ). min x 65536) a.0 ∙ of_one (next_in s.args.r) s.args.x.items s.pre s.args.x.count one,
-      subst (λ (x : ℕ). x ≤ 65536) (of_one end_of s.args.x.items s.pre s.args.x.count one) (omega (arith, a.1)),
+    let one = c.if-count-eq1.true in
+    let a = c.next_of.ensures in (
+      c.smaller_size.ensures ∙ ap (λ (x : ℕ). min x 65536) a.0 ∙ of_one (next_in c.args.r) c.args.x.items c.requires c.args.x.count one,
+      subst (λ (x : ℕ). x ≤ 65536) (of_one end_of c.args.x.items c.requires c.args.x.count one) (omega (arith, a.1)),
     )
 
-returns_3 : tie.Need-returns-3
+returns_3 : tie.Need-returns-then-count-eq2
 unfolding next_in end_of
 returns_3 c =
-    let at-next-of2 = c.before.before.before.before in
-    let at-if3 = at-next-of2.before.before in
-    let s = at-if3.before.before.before.before in
-    let two = at-if3.if3.taken in
-    let a = at-next-of2.next-of2.ensures in
-    let b = c.before.before.next-of3.ensures in (
-      c.smaller-size3.ensures ∙ ap₂ min a.0 (c.before.smaller-size2.ensures ∙ ap (λ (x : ℕ). min x 65536) b.0)
-          ∙ of_two (next_in s.args.r) s.args.x.items s.pre s.args.x.count two,
-      subst (λ (x : ℕ). x ≤ 65536) (of_two end_of s.args.x.items s.pre s.args.x.count two) (omega (arith, a.1, b.1)),
+    let two = c.if-count-eq2.true in
+    let a = c.next_of-then-count-eq2.ensures in
+    let b = c.next_of-then-count-eq2-2.ensures in (
+      c.smaller_size-then-count-eq2-2.ensures ∙ ap₂ min a.0 (c.smaller_size-then-count-eq2.ensures ∙ ap (λ (x : ℕ). min x 65536) b.0)
+          ∙ of_two (next_in c.args.r) c.args.x.items c.requires c.args.x.count two,
+      subst (λ (x : ℕ). x ≤ 65536) (of_two end_of c.args.x.items c.requires c.args.x.count two) (omega (arith, a.1, b.1)),
     )
 
-returns_4 : tie.Need-returns-4
+returns_4 : tie.Need-returns
 unfolding next_in end_of
 returns_4 c =
-    let at-next-of5 = c.before.before.before.before.before in
-    let e = at-next-of5.before.before.before.before in
-    let s = e.before.before.before.before in
-    let a = at-next-of5.before.before.next-of4.ensures in
-    let b = at-next-of5.next-of5.ensures in
-    let d = c.before.before.before.next-of6.ensures in (
-      c.smaller-size6.ensures ∙ ap₂ min a.0 (c.before.smaller-size5.ensures ∙ ap₂ min b.0
-          (c.before.before.smaller-size4.ensures ∙ ap (λ (x : ℕ). min x 65536) d.0))
-          ∙ of_three (next_in s.args.r) s.args.x.items s.pre s.args.x.count
-          e.before.before.if1.left e.before.if2.left e.if3.left,
+    let a = c.next_of-2.ensures in
+    let b = c.next_of-3.ensures in
+    let d = c.next_of-4.ensures in (
+      c.smaller_size-4.ensures ∙ ap₂ min a.0 (c.smaller_size-3.ensures ∙ ap₂ min b.0
+          (c.smaller_size-2.ensures ∙ ap (λ (x : ℕ). min x 65536) d.0))
+          ∙ of_three (next_in c.args.r) c.args.x.items c.requires c.args.x.count
+          c.if-count-eq0.false c.if-count-eq1.false c.if-count-eq2.false,
       subst (λ (x : ℕ). x ≤ 65536)
-          (of_three end_of s.args.x.items s.pre s.args.x.count e.before.before.if1.left
-          e.before.if2.left e.if3.left)
+          (of_three end_of c.args.x.items c.requires c.args.x.count c.if-count-eq0.false
+          c.if-count-eq1.false c.if-count-eq2.false)
           (omega (arith, a.1, b.1, d.1)),
     )
 

@@ -16,5 +16,5 @@ join_spec =
     (λ c. search rules)
     (λ c. search rules)
     (λ c. search rules)
-    (λ c. grown c.if1.true)
-    (λ c. there c.if1.false))
+    (λ c. grown c.if-new-old.true)
+    (λ c. there c.if-new-old.false))

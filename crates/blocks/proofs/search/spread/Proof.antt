@@ -12,48 +12,35 @@ Still s x =
     Spreads s.args.r s.args.t s.args.at x s.args.unset.now s.args.waiting.now
     s.args.pages.now s.args.unset.now s.args.waiting.now s.args.pages.now
 
-returns : tie.Need-returns
-returns c = subst (λ (x : Successors). Still c.before.before.before.before.before x) (sym c.enum_told.given.1) (refl, refl, refl)
+returns : tie.Need-returns-in-Invalid
+returns c = subst (λ (x : Successors). Still c.before.before.before.before x) (sym c.in-Invalid.is) (refl, refl, refl)
 
-returns_2 : tie.Need-returns-2
-returns_2 c = subst (λ (x : Successors). Still c.before.before.before.before.before x) (sym c.enum-told2.given.1) (refl, refl, refl)
+returns_2 : tie.Need-returns-in-Stop
+returns_2 c = subst (λ (x : Successors). Still c.before.before.before.before x) (sym c.in-Stop.is) (refl, refl, refl)
 
-returns_3 : tie.Need-returns-3
+returns_3 : tie.Need-returns-in-One
 returns_3 c =
-    let at-waiting = c.before.before.before in
-    let at_join = at-waiting.before.before.before in
-    let at-set-by = at_join.before.before.before.before in
-    let at-s = at-set-by.before.before in
-    let s = at-s.before.before.before.before.before in
-    let j = at_join.join in
+    let j = c.join in
     subst
-    (λ (x : Successors). Spreads s.args.r s.args.t s.args.at x s.args.unset.now
-    s.args.waiting.now s.args.pages.now j.new.0 j.new.1.0 j.new.1.1.0)
-    (sym at-s.s.given.1)
-    (record { sets = at-set-by.set-by.result; holds = at-set-by.set-by.ensures; joins = j.ensures })
+    (λ (x : Successors). Spreads c.args.r c.args.t c.args.at x c.args.unset.now
+    c.args.waiting.now c.args.pages.now j.new.unset j.new.waiting j.new.pages)
+    (sym c.in-One.is)
+    (record { sets = c.set_by-sets.result; holds = c.set_by-sets.ensures; joins = j.ensures })
 
-returns_4 : tie.Need-returns-4
+returns_4 : tie.Need-returns-in-Two
 returns_4 c =
-    let at-waiting3 = c.before.before.before in
-    let at-join3 = at-waiting3.before.before.before in
-    let at-set-by3 = at-join3.before.before.before.before in
-    let at-waiting2 = at-set-by3.before.before.before.before in
-    let at-join2 = at-waiting2.before.before.before in
-    let at-set-by2 = at-join2.before.before.before.before in
-    let at-s2 = at-set-by2.before.before in
-    let s = at-s2.before.before.before.before.before in
-    let i = at-join2.join2 in
-    let j = at-join3.join3 in
+    let i = c.join-in-Two in
+    let j = c.join-in-Two-2 in
     subst
-    (λ (x : Successors). Spreads s.args.r s.args.t s.args.at x s.args.unset.now
-    s.args.waiting.now s.args.pages.now j.new.0 j.new.1.0 j.new.1.1.0)
-    (sym at-s2.s2.given.1)
+    (λ (x : Successors). Spreads c.args.r c.args.t c.args.at x c.args.unset.now
+    c.args.waiting.now c.args.pages.now j.new.unset j.new.waiting j.new.pages)
+    (sym c.in-Two.is)
     (record {
-      unset₁ = i.new.0;
-      waiting₁ = i.new.1.0;
-      pages₁ = i.new.1.1.0;
-      first = record { sets = at-set-by2.set-by2.result; holds = at-set-by2.set-by2.ensures; joins = i.ensures };
-      second = record { sets = at-set-by3.set-by3.result; holds = at-set-by3.set-by3.ensures; joins = j.ensures };
+      unset₁ = i.new.unset;
+      waiting₁ = i.new.waiting;
+      pages₁ = i.new.pages;
+      first = record { sets = c.set_by-sets-in-Two.result; holds = c.set_by-sets-in-Two.ensures; joins = i.ensures };
+      second = record { sets = c.set_by-sets_too.result; holds = c.set_by-sets_too.ensures; joins = j.ensures };
     })
 
 pub spread_spec : {M : Type 1} → statement M
@@ -65,53 +52,22 @@ spread_spec =
     (λ c. search rules)
     returns_2
     (λ c. search rules)
-    (λ c κs.
-    let at-s = c.before in
-    let entry = at-s.before.before.before.before.before in
-    entry.requires.0)
+    (λ c κs. c.requires.0)
     (λ c. search rules)
-    (λ c κs.
-    let at-s = c.before.before.before.before.before in
-    let entry = at-s.before.before.before.before.before in
-    asks_one at-s.s.given.0.0 entry.requires.1 at-s.s.given.1)
-    (λ c.
-    let at-waiting = c.before.before.before in
-    let at_join = at-waiting.before.before.before in
-    at_join.join.auto.0)
-    (λ c.
-    let at-waiting = c.before.before.before in
-    let at_join = at-waiting.before.before.before in
-    at_join.join.auto.1.0)
-    (λ c.
-    let at-waiting = c.before.before.before in
-    let at_join = at-waiting.before.before.before in
-    at_join.join.auto.1.1.0)
+    (λ c κs. asks_one c.in-One.a c.requires.1 c.in-One.is)
+    (λ c. c.join.auto.unset)
+    (λ c. c.join.auto.waiting)
+    (λ c. c.join.auto.pages)
     returns_3
     (λ c. search rules)
-    (λ c κs.
-    let at-s2 = c.before in
-    let entry = at-s2.before.before.before.before.before in
-    entry.requires.0)
+    (λ c κs. c.requires.0)
+    (λ c. search rules)
+    (λ c κs. asks_first c.in-Two.a c.in-Two.b c.requires.1 c.in-Two.is)
+    (λ c κs. c.requires.0)
     (λ c. search rules)
     (λ c κs.
-    let at-s2 = c.before.before.before.before.before in
-    let entry = at-s2.before.before.before.before.before in
-    asks_first at-s2.s2.given.0.0 at-s2.s2.given.0.1.0 entry.requires.1 at-s2.s2.given.1)
-    (λ c κs.
-    let at-unset2 = c.before.before.before.before.before in
-    let at-set-by2 = at-unset2.before.before.before.before.before in
-    let at-s2 = at-set-by2.before.before in
-    let entry = at-s2.before.before.before.before.before in
-    entry.requires.0)
-    (λ c. search rules)
-    (λ c κs.
-    let at-pages2 = c.before.before.before.before.before in
-    let at-join2 = at-pages2.before.before.before.before.before in
-    let at-set-by2 = at-join2.before.before.before.before in
-    let at-s2 = at-set-by2.before.before in
-    let entry = at-s2.before.before.before.before.before in
-    let i = at-join2.join2 in
-    asks_second at-s2.s2.given.0.0 at-s2.s2.given.0.1.0 entry.requires.1 at-s2.s2.given.1 i.auto.0 i.auto.1.0 i.auto.1.1.0)
+    let i = c.join-in-Two in
+    asks_second c.in-Two.a c.in-Two.b c.requires.1 c.in-Two.is i.auto.unset i.auto.waiting i.auto.pages)
     (λ c. search rules)
     (λ c. search rules)
     (λ c. search rules)

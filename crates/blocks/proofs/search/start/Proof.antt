@@ -5,13 +5,10 @@ use Rattle.blocks.proofs.search.start.Tie as tie
 
 returns : tie.Need-returns
 returns c =
-    let at-clear-waiting = c.before.before in
-    let at-clear-unset-arg = at-clear-waiting.before.before.before.before.before in
-    let s = at-clear-unset-arg.before.before.before.before.before in
-    let u = at-clear-waiting.before.before.before.before.clear-unset in
-    let v = at-clear-waiting.clear-waiting in
-    started s.args.words.now s.args.unset.now s.args.waiting.now s.args.pages.now s.requires
-    u.ensures v.ensures u.auto.0 v.auto.0
+    let u = c.clear_unset in
+    let v = c.clear_waiting in
+    started c.args.words.now c.args.unset.now c.args.waiting.now c.args.pages.now c.requires
+    u.ensures v.ensures u.auto.unset v.auto.waiting
 
 pub start_spec : {M : Type 1} → statement M
 start_spec =

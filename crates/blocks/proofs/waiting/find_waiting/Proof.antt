@@ -4,10 +4,10 @@ use Rattle.blocks.proofs.Pages.{NoneWaits, none_more}
 use Rattle.blocks.proofs.waiting.find_waiting.Statement.{statement}
 use Rattle.blocks.proofs.waiting.find_waiting.Tie as tie
 
-abbrev invariant_loop : tie.invariant-loop
+abbrev invariant_loop : tie.invariant-loop-p
 invariant_loop waiting i end p₀ p = (p ≤ end) × NoneWaits waiting i p
 
-abbrev decreases_loop : tie.decreases-loop
+abbrev decreases_loop : tie.decreases-loop-p
 decreases_loop waiting i end p₀ p = end - p
 
 pub find_waiting_spec : {M : Type 1} → statement M
@@ -17,14 +17,14 @@ find_waiting_spec =
     invariant_loop
     decreases_loop
     (λ c. (c.requires.0, λ q a b w. absurd (omega arith)))
-    (λ c. let s = c.before.before.before in omega (arith, c.before.loop-test.true, s.requires.1))
-    (λ c. let l = c.before.before.before in record { upto = l.loop.invariant.0; none = l.loop.invariant.1; waits = λ h. c.if1.true })
-    (λ c. omega (arith, c.before.before.loop-test.true))
-    (λ c. omega (arith, c.before.before.loop-test.true))
+    (λ c. let s = c.before.before.before in omega (arith, c.loop-p-test.true, s.requires.1))
+    (λ c. let l = c.before.before.before in record { upto = l.loop-p.invariant.0; none = l.loop-p.invariant.1; waits = λ h. c.if-waiting-p-eq1.true })
+    (λ c. omega (arith, c.loop-p-test.true))
+    (λ c. omega (arith, c.loop-p-test.true))
     (λ c.
     let l = c.before.before.before in (
-      omega (arith, c.before.before.loop-test.true),
-      none_more l.before.args.waiting.now
-          l.before.args.i l.loop.p l.loop.invariant.1 c.if1.false,
+      omega (arith, c.loop-p-test.true),
+      none_more l.args.waiting.now
+          l.args.i l.loop-p.p l.loop-p.invariant.1 c.if-waiting-p-eq1.false,
     ))
-    (λ c. let l = c.before in record { upto = l.loop.invariant.0; none = l.loop.invariant.1; waits = λ h. absurd (omega (arith, c.loop-test.false, h)) }))
+    (λ c. let l = c.before in record { upto = l.loop-p.invariant.0; none = l.loop-p.invariant.1; waits = λ h. absurd (omega (arith, c.loop-p-test.false, h)) }))

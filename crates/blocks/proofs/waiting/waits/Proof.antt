@@ -7,6 +7,6 @@ pub waits_spec : {M : Type 1} → statement M
 waits_spec =
     tie.close
     (tie.spec
-    (λ c. omega (arith, c.before.if1.true, c.before.before.requires))
-    (λ c. rw (lt-ltb _ _ c.before.if1.true))
-    (λ c. rw (le-ltb _ _ c.if1.false)))
+    (λ c. omega (arith, c.if-p-n.true, c.requires))
+    (λ c. rw (lt-ltb _ _ c.if-p-n.true))
+    (λ c. rw (le-ltb _ _ c.if-p-n.false)))
