@@ -3,14 +3,12 @@
 // here are the reads and the write.
 #![tactic(auto)]
 
-use libc::{STDIN_FILENO, STDOUT_FILENO};
-
-fn main() {
+fn main(rt: HostRuntime) {
     // `listing::answer` takes a buffer of this size and no other, and promises that what it
     // holds of an input decides.
     let mut buffer = io::large_buffer();
-    let n = io::read_full(STDIN_FILENO, &mut buffer);
+    let n = input::read_full(&mut rt.stdin(), &mut buffer);
     let mut page = listing::page();
     let r = listing::answer(&buffer, n, &mut page);
-    io::write_all(STDOUT_FILENO, &page[..r]);
+    let _ = rt.write_all(&page[..r]);
 }

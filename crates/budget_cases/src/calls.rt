@@ -4,6 +4,7 @@ use meter::Meter;
 use pages::word_at;
 use print_cases::{number, number_u32, text};
 use vectors::{bytes_of, number_of, words_of};
+use std::io::Stdout;
 
 // The meter whose five numbers stand in place k.
 fn meter_at(ms: &[u32], k: u32) -> Meter {
@@ -30,30 +31,30 @@ fn meters_of(ms: &[u32]) -> Meters {
     }
 }
 
-fn show_meter(m: Meter) {
-    text(b";");
-    number_u32(m.begun);
-    number_u32(m.last);
-    number_u32(m.count);
-    number_u32(m.services);
-    number_u32(m.highest);
+fn show_meter(out: Stdout, m: Meter) {
+    text(out, b";");
+    number_u32(out, m.begun);
+    number_u32(out, m.last);
+    number_u32(out, m.count);
+    number_u32(out, m.services);
+    number_u32(out, m.highest);
 }
 
-fn show(ms: Meters) {
-    show_meter(ms.axis);
-    show_meter(ms.focuser);
-    show_meter(ms.dome);
-    show_meter(ms.guider);
+fn show(out: Stdout, ms: Meters) {
+    show_meter(out, ms.axis);
+    show_meter(out, ms.focuser);
+    show_meter(out, ms.dome);
+    show_meter(out, ms.guider);
 }
 
 // What a call gave.
-fn told(f: FedFour) {
-    number(f.answer.number);
+fn told(out: Stdout, f: FedFour) {
+    number(out, f.answer.number);
     if f.answer.place != 0 {
-        text(b" at");
-        number(f.answer.place);
+        text(out, b" at");
+        number(out, f.answer.place);
     }
-    show(f.meters);
+    show(out, f.meters);
 }
 
 // Part k as a number of 32 bits.
@@ -69,8 +70,8 @@ struct Call {
     q: usize,
 }
 
-fn feed_lent(words: &mut [u32], weights: &mut [u8], ms: &mut [u32], c: Call) {
-    told(feed_four(words, weights, meters_of(ms), c.script, c.budget, c.q));
+fn feed_lent(out: Stdout, words: &mut [u32], weights: &mut [u8], ms: &mut [u32], c: Call) {
+    told(out, feed_four(words, weights, meters_of(ms), c.script, c.budget, c.q));
 }
 
 fn call_of(line: &[u8]) -> Call {
@@ -82,11 +83,12 @@ fn call_of(line: &[u8]) -> Call {
 }
 
 // words | weights | the meters | script | budget | q
-pub fn feed(line: &[u8]) {
+pub fn feed(out: Stdout, line: &[u8]) {
     let mut words = vectors::words();
     let mut weights = [0u8; 256];
     let mut ms = [0u32; 20];
     feed_lent(
+        out,
         words_of(&mut words, line, 2),
         bytes_of(&mut weights, line, 3),
         words_of(&mut ms, line, 4),
@@ -94,22 +96,22 @@ pub fn feed(line: &[u8]) {
     );
 }
 
-fn begun(ms: &mut [u32], script: u32) {
-    told(begin_four(meters_of(ms), script));
+fn begun(out: Stdout, ms: &mut [u32], script: u32) {
+    told(out, begin_four(meters_of(ms), script));
 }
 
 // the meters | script
-pub fn begin(line: &[u8]) {
+pub fn begin(out: Stdout, line: &[u8]) {
     let mut ms = [0u32; 20];
-    begun(words_of(&mut ms, line, 2), small_of(line, 3));
+    begun(out, words_of(&mut ms, line, 2), small_of(line, 3));
 }
 
-fn was_reset(ms: &mut [u32], script: u32) {
-    told(reset_four(meters_of(ms), script));
+fn was_reset(out: Stdout, ms: &mut [u32], script: u32) {
+    told(out, reset_four(meters_of(ms), script));
 }
 
 // the meters | script
-pub fn reset(line: &[u8]) {
+pub fn reset(out: Stdout, line: &[u8]) {
     let mut ms = [0u32; 20];
-    was_reset(words_of(&mut ms, line, 2), small_of(line, 3));
+    was_reset(out, words_of(&mut ms, line, 2), small_of(line, 3));
 }

@@ -2,43 +2,44 @@
 use lundump::Counts;
 use print_cases::{bytes, numbers};
 pub use print_cases::{end, number, text};
+use std::io::Stdout;
 
 // Number, place, words, constants, names.
-pub fn counts(c: Counts) {
-    number(c.number);
-    number(c.place);
-    number(c.words);
-    number(c.constants);
-    number(c.names);
-    end();
+pub fn counts(out: Stdout, c: Counts) {
+    number(out, c.number);
+    number(out, c.place);
+    number(out, c.words);
+    number(out, c.constants);
+    number(out, c.names);
+    end(out);
 }
 
-fn longs(s: &[u64]) {
+fn longs(out: Stdout, s: &[u64]) {
     for i in 0..s.len() {
-        number(s[i]);
+        number(out, s[i]);
     }
 }
 
-fn words_and_tags(words: &[u32], tags: &[u8]) {
-    text(b"  words");
-    numbers(words);
-    end();
-    text(b"  tags");
-    bytes(tags);
-    end();
+fn words_and_tags(out: Stdout, words: &[u32], tags: &[u8]) {
+    text(out, b"  words");
+    numbers(out, words);
+    end(out);
+    text(out, b"  tags");
+    bytes(out, tags);
+    end(out);
 }
 
-fn payloads_and_names(payloads: &[u64], names: &[u64]) {
-    text(b"  payloads");
-    longs(payloads);
-    end();
-    text(b"  names");
-    longs(names);
-    end();
+fn payloads_and_names(out: Stdout, payloads: &[u64], names: &[u64]) {
+    text(out, b"  payloads");
+    longs(out, payloads);
+    end(out);
+    text(out, b"  names");
+    longs(out, names);
+    end(out);
 }
 
 // A line for each slice.
-pub fn slices(words: &[u32], tags: &[u8], payloads: &[u64], names: &[u64]) {
-    words_and_tags(words, tags);
-    payloads_and_names(payloads, names);
+pub fn slices(out: Stdout, words: &[u32], tags: &[u8], payloads: &[u64], names: &[u64]) {
+    words_and_tags(out, words, tags);
+    payloads_and_names(out, payloads, names);
 }

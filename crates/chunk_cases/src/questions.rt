@@ -3,23 +3,25 @@ use crate::print;
 use chunk::{lawendeb_chunk_count, lawendeb_chunk_fill, lawendeb_upvalue_name, lent_name};
 use pages::first;
 use vectors::{bytes_of, number_of, numbers_of, words_of};
+use std::io::Stdout;
 
 // One function at each limit, and one past it.
 fn chunk_bytes() -> [u8; 131124] {
     [0; 131124]
 }
 
-fn count_of(bytes: &mut [u8], k: usize) {
-    print::counts(lawendeb_chunk_count(bytes, k));
+fn count_of(out: Stdout, bytes: &mut [u8], k: usize) {
+    print::counts(out, lawendeb_chunk_count(bytes, k));
 }
 
 // bytes | k
-pub fn count(line: &[u8]) {
+pub fn count(out: Stdout, line: &[u8]) {
     let mut bytes = chunk_bytes();
-    count_of(bytes_of(&mut bytes, line, 2), number_of(line, 3) as usize);
+    count_of(out, bytes_of(&mut bytes, line, 2), number_of(line, 3) as usize);
 }
 
 fn fill_lent(
+    out: Stdout,
     bytes: &mut [u8],
     k: usize,
     words: &mut [u32],
@@ -27,18 +29,19 @@ fn fill_lent(
     payloads: &mut [u64],
     names: &mut [u64],
 ) {
-    print::counts(lawendeb_chunk_fill(bytes, k, words, tags, payloads, names));
-    print::slices(words, tags, payloads, names);
+    print::counts(out, lawendeb_chunk_fill(bytes, k, words, tags, payloads, names));
+    print::slices(out, words, tags, payloads, names);
 }
 
 // bytes | k | words | tags | payloads | names
-pub fn fill(line: &[u8]) {
+pub fn fill(out: Stdout, line: &[u8]) {
     let mut bytes = chunk_bytes();
     let mut words = [0u32; 16];
     let mut tags = [0u8; 8];
     let mut payloads = [0u64; 8];
     let mut names = [0u64; 4];
     fill_lent(
+        out,
         bytes_of(&mut bytes, line, 2),
         number_of(line, 3) as usize,
         words_of(&mut words, line, 4),
@@ -49,20 +52,20 @@ pub fn fill(line: &[u8]) {
 }
 
 // Number, place, in the chunk (1) or the list (0), start, size.
-fn shown(bytes: &[u8], own: &[u64], list: &[u8], other: &[u64], i: usize) {
+fn shown(out: Stdout, bytes: &[u8], own: &[u64], list: &[u8], other: &[u64], i: usize) {
     let s = lawendeb_upvalue_name(bytes, own, list, other, i);
-    print::number(s.number);
-    print::number(s.place);
-    print::number(s.in_chunk);
-    print::number(s.start);
-    print::number(s.size);
+    print::number(out, s.number);
+    print::number(out, s.place);
+    print::number(out, s.in_chunk);
+    print::number(out, s.start);
+    print::number(out, s.size);
 }
 
-fn name_of<'a>(bytes: &'a [u8], own: &[u64], list: &'a [u8], other: &[u64], i: usize) {
-    print::text(b" '");
-    print::text(lent_name(bytes, own, list, other, i));
-    print::text(b"'");
-    print::end();
+fn name_of<'a>(out: Stdout, bytes: &'a [u8], own: &[u64], list: &'a [u8], other: &[u64], i: usize) {
+    print::text(out, b" '");
+    print::text(out, lent_name(bytes, own, list, other, i));
+    print::text(out, b"'");
+    print::end(out);
 }
 
 // The bytes of the chunk and of the list, of which as many are lent as the line has.
@@ -73,6 +76,7 @@ struct Lent {
 }
 
 fn name_lent<'a>(
+    out: Stdout,
     n: Lent,
     bytes: &'a [u8],
     own: &mut [u64],
@@ -80,12 +84,12 @@ fn name_lent<'a>(
     other: &mut [u64],
     i: usize,
 ) {
-    shown(first(bytes, n.bytes), own, first(list, n.list), other, i);
-    name_of(first(bytes, n.bytes), own, first(list, n.list), other, i);
+    shown(out, first(bytes, n.bytes), own, first(list, n.list), other, i);
+    name_of(out, first(bytes, n.bytes), own, first(list, n.list), other, i);
 }
 
 // bytes | names of the chunk | bytes of the list | names of the list | i
-pub fn name(line: &[u8]) {
+pub fn name(out: Stdout, line: &[u8]) {
     let mut bytes = [0u8; 16];
     let mut own = [0u64; 256];
     let mut list = [0u8; 16];
@@ -95,6 +99,7 @@ pub fn name(line: &[u8]) {
     let l = bytes_of(&mut list, line, 4);
     let of_list = l.len();
     name_lent(
+        out,
         Lent {
             bytes: of_chunk,
             list: of_list,

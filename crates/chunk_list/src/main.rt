@@ -2,28 +2,28 @@
 // output, and nothing else. The line is `survey::line`, which is proved; here are the read and the writes.
 #![tactic(auto)]
 
-use libc::{STDIN_FILENO, STDOUT_FILENO};
+use std::io::Stdout;
 
 // Writes the line of function k, and answers its length.
-fn write_line(bytes: &[u8], k: usize) -> usize {
+fn write_line(out: Stdout, bytes: &[u8], k: usize) -> usize {
     let mut page = survey::line_page();
     let r = survey::line(bytes, k, &mut page);
-    io::write_all(STDOUT_FILENO, &page[..r]);
+    let _ = out.write_all(&page[..r]);
     r
 }
 
 // The first line that is empty ends the list. So many numbers are enough, since there are no more functions
 // than bytes: survey/specs/Claims.antt has it as `enough`.
-fn write_lines(bytes: &[u8]) {
+fn write_lines(out: Stdout, bytes: &[u8]) {
     for k in 0..262144 {
-        if write_line(bytes, k) == 0 {
+        if write_line(out, bytes, k) == 0 {
             return;
         }
     }
 }
 
-fn main() {
+fn main(rt: HostRuntime) {
     let mut buffer = survey::buffer();
-    let n = io::read_full(STDIN_FILENO, &mut buffer);
-    write_lines(&buffer[..n]);
+    let n = input::read_full(&mut rt.stdin(), &mut buffer);
+    write_lines(rt.stdout(), &buffer[..n]);
 }

@@ -2,7 +2,7 @@
 use pages::{byte_at, first, is_same};
 use wording::NO_LIMIT;
 
-#[derive(Drop)]
+#[derive(Clone, Copy)]
 pub enum Wish {
     Telling,
     Usage,
@@ -12,7 +12,7 @@ pub enum Wish {
 }
 
 // What the next argument is for.
-#[derive(Drop)]
+#[derive(Clone, Copy)]
 pub enum Awaits {
     Anything,
     Limit,
@@ -22,7 +22,7 @@ pub enum Awaits {
 
 // The arguments by number: the file with the weights and the name that the script is told by, each 0 for
 // none, and the script.
-#[derive(Drop)]
+#[derive(Clone, Copy)]
 pub struct Asked {
     pub wish: Wish,
     pub awaits: Awaits,

@@ -5,7 +5,7 @@ use reports::put_title;
 use rows::put_rows;
 use wording::NO_LIMIT;
 
-#[derive(Drop)]
+#[derive(Clone, Copy)]
 pub struct Options {
     // NO_LIMIT without one.
     pub limit: u64,

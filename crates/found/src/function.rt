@@ -1,5 +1,5 @@
 // A function of a compiled script, as it is told.
-#[derive(Drop)]
+#[derive(Clone, Copy)]
 pub struct Function {
     // 0, or why the run is refused, and where.
     pub number: u64,

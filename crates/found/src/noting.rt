@@ -9,7 +9,7 @@ use steps::lua54::successors::successors;
 use sweep::edges::{Successors, serves};
 
 // How the run goes on from a word.
-#[derive(Drop)]
+#[derive(Clone, Copy)]
 pub enum Way {
     // To the only word that follows, or past a metamethod's: arithmetic is no branch of the script.
     Straight,

@@ -6,37 +6,39 @@
 mod print;
 mod questions;
 
-fn ask(line: &[u8]) {
+use std::io::Stdout;
+
+fn ask(out: Stdout, line: &[u8]) {
     let question = vectors::which(line, b"list|number|place|why");
     if question > 3 {
         return;
     }
-    print::text(vectors::part(line, 1));
+    print::text(out, vectors::part(line, 1));
     match question {
         0 => {
-            questions::list(line);
+            questions::list(out, line);
         }
         1 => {
-            questions::by_number(line);
+            questions::by_number(out, line);
         }
         2 => {
-            questions::by_place(line);
+            questions::by_place(out, line);
         }
         _ => {
-            questions::why(line);
+            questions::why(out, line);
         }
     }
-    print::end();
+    print::end(out);
 }
 
-fn ask_all(text: &[u8]) {
+fn ask_all(out: Stdout, text: &[u8]) {
     for i in 0..text.len() {
-        ask(vectors::line_at(text, i));
+        ask(out, vectors::line_at(text, i));
     }
 }
 
-fn main() {
+fn main(rt: HostRuntime) {
     let mut page = io::large_buffer();
-    let n = vectors::read(&mut page);
-    ask_all(pages::first(&page, n));
+    let n = vectors::read(rt.stdin(), &mut page);
+    ask_all(rt.stdout(), pages::first(&page, n));
 }

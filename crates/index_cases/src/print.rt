@@ -5,49 +5,50 @@ use lines::FlatHead;
 use lundump::Counts;
 use print_cases::number;
 pub use print_cases::{end, numbers, text};
+use std::io::Stdout;
 
-fn longs(s: &[u64]) {
+fn longs(out: Stdout, s: &[u64]) {
     for i in 0..s.len() {
-        number(s[i]);
+        number(out, s[i]);
     }
 }
 
-pub fn answer(l: Listed) {
-    number(l.number);
-    number(l.place);
-    number(l.functions);
+pub fn answer(out: Stdout, l: Listed) {
+    number(out, l.number);
+    number(out, l.place);
+    number(out, l.functions);
 }
 
-pub fn counts(c: Counts) {
-    number(c.number);
-    number(c.place);
-    number(c.words);
+pub fn counts(out: Stdout, c: Counts) {
+    number(out, c.number);
+    number(out, c.place);
+    number(out, c.words);
 }
 
-pub fn head(h: FlatHead) {
-    text(b" head");
-    number(h.number);
-    number(h.source);
-    number(h.linedefined);
-    number(h.lastlinedefined);
-    number(h.numparams);
-    number(h.is_vararg);
-    number(h.maxstacksize);
+pub fn head(out: Stdout, h: FlatHead) {
+    text(out, b" head");
+    number(out, h.number);
+    number(out, h.source);
+    number(out, h.linedefined);
+    number(out, h.lastlinedefined);
+    number(out, h.numparams);
+    number(out, h.is_vararg);
+    number(out, h.maxstacksize);
 }
 
-pub fn listed(places: &[u64], parents: &[u64]) {
-    text(b" places");
-    longs(places);
-    text(b" parents");
-    longs(parents);
+pub fn listed(out: Stdout, places: &[u64], parents: &[u64]) {
+    text(out, b" places");
+    longs(out, places);
+    text(out, b" parents");
+    longs(out, parents);
 }
 
-pub fn why(w: Why) {
+pub fn why(out: Stdout, w: Why) {
     match w {
-        Why::NotLua => text(b" not a compiled script of Lua"),
-        Why::Lua53 => text(b" of Lua 5.3"),
-        Why::OtherVersion => text(b" of another version"),
-        Why::OtherNumbers => text(b" of other numbers"),
-        Why::Damaged => text(b" damaged"),
+        Why::NotLua => text(out, b" not a compiled script of Lua"),
+        Why::Lua53 => text(out, b" of Lua 5.3"),
+        Why::OtherVersion => text(out, b" of another version"),
+        Why::OtherNumbers => text(out, b" of other numbers"),
+        Why::Damaged => text(out, b" damaged"),
     }
 }

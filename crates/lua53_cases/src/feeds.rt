@@ -4,6 +4,7 @@ use meter::Meter;
 use meter53::feed_step_53;
 use pages::word_at;
 use vectors::{bytes_of, number_of, words_of};
+use std::io::Stdout;
 
 fn meter_of(m: &[u32]) -> Meter {
     Meter {
@@ -15,31 +16,32 @@ fn meter_of(m: &[u32]) -> Meter {
     }
 }
 
-fn show(m: Meter) {
-    text(b";");
-    number_u32(m.begun);
-    number_u32(m.last);
-    number_u32(m.count);
-    number_u32(m.services);
-    number_u32(m.highest);
+fn show(out: Stdout, m: Meter) {
+    text(out, b";");
+    number_u32(out, m.begun);
+    number_u32(out, m.last);
+    number_u32(out, m.count);
+    number_u32(out, m.services);
+    number_u32(out, m.highest);
 }
 
-fn feed_lent(words: &mut [u32], weights: &mut [u8], m: &mut [u32], q: usize) {
+fn feed_lent(out: Stdout, words: &mut [u32], weights: &mut [u8], m: &mut [u32], q: usize) {
     let f = feed_step_53(words, weights, meter_of(m), q);
     if f.answer.number == 0 {
-        text(b" accepted");
+        text(out, b" accepted");
     } else {
-        refused(f.answer.number, f.answer.place);
+        refused(out, f.answer.number, f.answer.place);
     }
-    show(f.meter);
+    show(out, f.meter);
 }
 
 // words | weights | the meter | q
-pub fn feed(line: &[u8]) {
+pub fn feed(out: Stdout, line: &[u8]) {
     let mut words = vectors::words();
     let mut weights = [0u8; 256];
     let mut m = [0u32; 5];
     feed_lent(
+        out,
         words_of(&mut words, line, 2),
         bytes_of(&mut weights, line, 3),
         words_of(&mut m, line, 4),
@@ -47,22 +49,22 @@ pub fn feed(line: &[u8]) {
     );
 }
 
-fn begun(m: &mut [u32]) {
-    show(meter::begin_step(meter_of(m)));
+fn begun(out: Stdout, m: &mut [u32]) {
+    show(out, meter::begin_step(meter_of(m)));
 }
 
 // the meter
-pub fn begin(line: &[u8]) {
+pub fn begin(out: Stdout, line: &[u8]) {
     let mut m = [0u32; 5];
-    begun(words_of(&mut m, line, 2));
+    begun(out, words_of(&mut m, line, 2));
 }
 
-fn was_reset(m: &mut [u32]) {
-    show(meter::reset_step(meter_of(m)));
+fn was_reset(out: Stdout, m: &mut [u32]) {
+    show(out, meter::reset_step(meter_of(m)));
 }
 
 // the meter
-pub fn reset(line: &[u8]) {
+pub fn reset(out: Stdout, line: &[u8]) {
     let mut m = [0u32; 5];
-    was_reset(words_of(&mut m, line, 2));
+    was_reset(out, words_of(&mut m, line, 2));
 }

@@ -6,40 +6,42 @@ mod feeds;
 mod print;
 mod questions;
 
-fn answer(question: usize, line: &[u8]) {
+use std::io::Stdout;
+
+fn answer(out: Stdout, question: usize, line: &[u8]) {
     match question {
         1 => {
-            questions::decode(line);
+            questions::decode(out, line);
         }
         2 => {
-            questions::step(line);
+            questions::step(out, line);
         }
         3 => {
-            questions::run(line);
+            questions::run(out, line);
         }
         4 => {
-            questions::distance(line);
+            questions::distance(out, line);
         }
         5 => {
-            questions::crossings(line);
+            questions::crossings(out, line);
         }
         6 => {
-            questions::within(line);
+            questions::within(out, line);
         }
         7 => {
-            feeds::feed(line);
+            feeds::feed(out, line);
         }
         8 => {
-            feeds::begin(line);
+            feeds::begin(out, line);
         }
         9 => {
-            feeds::reset(line);
+            feeds::reset(out, line);
         }
         _ => {}
     }
 }
 
-fn ask(line: &[u8]) {
+fn ask(out: Stdout, line: &[u8]) {
     let question = vectors::which(
         line,
         b"title|decode|step|run|distance|crossings|within|feed|begin|reset",
@@ -47,21 +49,21 @@ fn ask(line: &[u8]) {
     if question > 9 {
         return;
     }
-    print::text(vectors::part(line, 1));
-    answer(question, line);
+    print::text(out, vectors::part(line, 1));
+    answer(out, question, line);
     if !vectors::is_open(line) {
-        print::end();
+        print::end(out);
     }
 }
 
-fn ask_all(text: &[u8]) {
+fn ask_all(out: Stdout, text: &[u8]) {
     for i in 0..text.len() {
-        ask(vectors::line_at(text, i));
+        ask(out, vectors::line_at(text, i));
     }
 }
 
-fn main() {
+fn main(rt: HostRuntime) {
     let mut page = io::large_buffer();
-    let n = vectors::read(&mut page);
-    ask_all(pages::first(&page, n));
+    let n = vectors::read(rt.stdin(), &mut page);
+    ask_all(rt.stdout(), pages::first(&page, n));
 }

@@ -3,62 +3,63 @@ use print_cases::numbers;
 pub use print_cases::{bytes, end, number, number_u32, text};
 use runs::c::{FlatRun, FlatSuccessors};
 use service::c::{FlatCrossed, FlatNearest};
+use std::io::Stdout;
 
-pub fn steps(s: FlatSuccessors) {
+pub fn steps(out: Stdout, s: FlatSuccessors) {
     if s.kind == 0 {
-        text(b" bad");
+        text(out, b" bad");
         return;
     }
     if s.kind == 1 {
-        text(b" none");
+        text(out, b" none");
         return;
     }
-    number(s.first);
+    number(out, s.first);
     if s.kind == 3 {
-        number(s.second);
+        number(out, s.second);
     }
 }
 
 // The number, then L and first, or the place.
-pub fn answer(run: FlatRun) {
+pub fn answer(out: Stdout, run: FlatRun) {
     if run.number == 0 {
-        text(b" accepted");
-        number(run.longest);
-        number(run.first);
+        text(out, b" accepted");
+        number(out, run.longest);
+        number(out, run.first);
     } else {
-        refused(run.number, run.place);
+        refused(out, run.number, run.place);
     }
 }
 
-pub fn refused(k: u64, place: u64) {
-    text(b" refused");
-    number(k);
-    number(place);
+pub fn refused(out: Stdout, k: u64, place: u64) {
+    text(out, b" refused");
+    number(out, k);
+    number(out, place);
 }
 
-pub fn slices(marks: &[u8], lengths: &[u32]) {
-    text(b" marks");
-    bytes(marks);
-    text(b" lengths");
-    numbers(lengths);
+pub fn slices(out: Stdout, marks: &[u8], lengths: &[u32]) {
+    text(out, b" marks");
+    bytes(out, marks);
+    text(out, b" lengths");
+    numbers(out, lengths);
 }
 
-pub fn nearest(a: FlatNearest) {
+pub fn nearest(out: Stdout, a: FlatNearest) {
     if a.number != 0 {
-        text(b" refused");
+        text(out, b" refused");
         return;
     }
     if a.found == 1 {
-        number(a.fewest);
+        number(out, a.fewest);
         return;
     }
-    text(b" -");
+    text(out, b" -");
 }
 
-pub fn crossed(a: FlatCrossed) {
+pub fn crossed(out: Stdout, a: FlatCrossed) {
     if a.number != 0 {
-        text(b" refused");
+        text(out, b" refused");
         return;
     }
-    number(a.count);
+    number(out, a.count);
 }

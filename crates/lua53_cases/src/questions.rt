@@ -5,54 +5,56 @@ use lua53::c::{
     lawendeb_list_within_53, lawendeb_longest_run_53, lawendeb_successors_53,
 };
 use vectors::{bytes_of, number_of, words_of};
+use std::io::Stdout;
 
-fn signed(sbx: i32) {
+fn signed(out: Stdout, sbx: i32) {
     if sbx < 0 {
-        text(b" below 0");
+        text(out, b" below 0");
     }
     if sbx == 0 {
-        text(b" 0");
+        text(out, b" 0");
     }
     if sbx == 131072 {
-        text(b" 131072");
+        text(out, b" 131072");
     }
 }
 
 // A word: its opcode, mode, A, B, C, Bx, Ax, and whether sBx is below 0, 0 or 131,072.
-pub fn decode(line: &[u8]) {
+pub fn decode(out: Stdout, line: &[u8]) {
     let f = lawendeb_decode_53((number_of(line, 2) % 4294967296) as u32);
-    number_u32(f.opcode);
-    number_u32(f.mode);
-    number_u32(f.a);
-    number_u32(f.b);
-    number_u32(f.c);
-    number_u32(f.bx);
-    number_u32(f.ax);
-    signed(f.sbx);
+    number_u32(out, f.opcode);
+    number_u32(out, f.mode);
+    number_u32(out, f.a);
+    number_u32(out, f.b);
+    number_u32(out, f.c);
+    number_u32(out, f.bx);
+    number_u32(out, f.ax);
+    signed(out, f.sbx);
 }
 
-fn step_at(words: &mut [u32], p: usize) {
-    steps(lawendeb_successors_53(words, p));
+fn step_at(out: Stdout, words: &mut [u32], p: usize) {
+    steps(out, lawendeb_successors_53(words, p));
 }
 
 // words | p
-pub fn step(line: &[u8]) {
+pub fn step(out: Stdout, line: &[u8]) {
     let mut words = [0u32; 8];
-    step_at(words_of(&mut words, line, 2), number_of(line, 3) as usize);
+    step_at(out, words_of(&mut words, line, 2), number_of(line, 3) as usize);
 }
 
-fn run_lent(words: &mut [u32], weights: &mut [u8], marks: &mut [u8], lengths: &mut [u32]) {
-    answer(lawendeb_longest_run_53(words, weights, marks, lengths));
-    slices(marks, lengths);
+fn run_lent(out: Stdout, words: &mut [u32], weights: &mut [u8], marks: &mut [u8], lengths: &mut [u32]) {
+    answer(out, lawendeb_longest_run_53(words, weights, marks, lengths));
+    slices(out, marks, lengths);
 }
 
 // words | weights | marks | lengths
-pub fn run(line: &[u8]) {
+pub fn run(out: Stdout, line: &[u8]) {
     let mut words = vectors::words();
     let mut weights = [0u8; 256];
     let mut marks = [0u8; 8];
     let mut lengths = [0u32; 8];
     run_lent(
+        out,
         words_of(&mut words, line, 2),
         bytes_of(&mut weights, line, 3),
         bytes_of(&mut marks, line, 4),
@@ -60,16 +62,17 @@ pub fn run(line: &[u8]) {
     );
 }
 
-fn distance_lent(words: &mut [u32], w: usize, marks: &mut [u8], lengths: &mut [u32]) {
-    nearest(lawendeb_distance_to_service_53(words, w, marks, lengths));
+fn distance_lent(out: Stdout, words: &mut [u32], w: usize, marks: &mut [u8], lengths: &mut [u32]) {
+    nearest(out, lawendeb_distance_to_service_53(words, w, marks, lengths));
 }
 
 // words | w | marks | lengths
-pub fn distance(line: &[u8]) {
+pub fn distance(out: Stdout, line: &[u8]) {
     let mut words = [0u32; 8];
     let mut marks = [0u8; 8];
     let mut lengths = [0u32; 8];
     distance_lent(
+        out,
         words_of(&mut words, line, 2),
         number_of(line, 3) as usize,
         bytes_of(&mut marks, line, 4),
@@ -77,16 +80,17 @@ pub fn distance(line: &[u8]) {
     );
 }
 
-fn crossings_lent(words: &mut [u32], w: usize, marks: &mut [u8], lengths: &mut [u32]) {
-    crossed(lawendeb_crossing_edges_53(words, w, marks, lengths));
+fn crossings_lent(out: Stdout, words: &mut [u32], w: usize, marks: &mut [u8], lengths: &mut [u32]) {
+    crossed(out, lawendeb_crossing_edges_53(words, w, marks, lengths));
 }
 
 // words | w | marks | lengths
-pub fn crossings(line: &[u8]) {
+pub fn crossings(out: Stdout, line: &[u8]) {
     let mut words = [0u32; 8];
     let mut marks = [0u8; 8];
     let mut lengths = [0u32; 8];
     crossings_lent(
+        out,
         words_of(&mut words, line, 2),
         number_of(line, 3) as usize,
         bytes_of(&mut marks, line, 4),
@@ -95,6 +99,7 @@ pub fn crossings(line: &[u8]) {
 }
 
 fn within_lent(
+    out: Stdout,
     words: &mut [u32],
     d: usize,
     marks: &mut [u8],
@@ -102,19 +107,20 @@ fn within_lent(
     list: &mut [u8],
 ) {
     let a = lawendeb_list_within_53(words, d, marks, lengths, list);
-    number(a.number);
-    text(b":");
-    bytes(list);
-    slices(marks, lengths);
+    number(out, a.number);
+    text(out, b":");
+    bytes(out, list);
+    slices(out, marks, lengths);
 }
 
 // words | d | marks | lengths | list
-pub fn within(line: &[u8]) {
+pub fn within(out: Stdout, line: &[u8]) {
     let mut words = [0u32; 8];
     let mut marks = [0u8; 8];
     let mut lengths = [0u32; 8];
     let mut list = [0u8; 8];
     within_lent(
+        out,
         words_of(&mut words, line, 2),
         number_of(line, 3) as usize,
         bytes_of(&mut marks, line, 4),

@@ -4,6 +4,7 @@ use meter::{Fed, Meter, feed_step};
 use pages::word_at;
 use print_cases::{number, number_u32, text};
 use vectors::{bytes_of, number_of, words_of};
+use std::io::Stdout;
 
 fn meter_of(m: &[u32]) -> Meter {
     Meter {
@@ -15,34 +16,35 @@ fn meter_of(m: &[u32]) -> Meter {
     }
 }
 
-fn show(m: Meter) {
-    text(b";");
-    number_u32(m.begun);
-    number_u32(m.last);
-    number_u32(m.count);
-    number_u32(m.services);
-    number_u32(m.highest);
+fn show(out: Stdout, m: Meter) {
+    text(out, b";");
+    number_u32(out, m.begun);
+    number_u32(out, m.last);
+    number_u32(out, m.count);
+    number_u32(out, m.services);
+    number_u32(out, m.highest);
 }
 
-fn show_fed(fed: Fed) {
-    number(fed.answer.number);
+fn show_fed(out: Stdout, fed: Fed) {
+    number(out, fed.answer.number);
     if fed.answer.place != 0 {
-        text(b" at");
-        number(fed.answer.place);
+        text(out, b" at");
+        number(out, fed.answer.place);
     }
-    show(fed.meter);
+    show(out, fed.meter);
 }
 
-fn feed_lent(words: &mut [u32], weights: &mut [u8], m: &mut [u32], q: usize) {
-    show_fed(feed_step(words, weights, meter_of(m), q));
+fn feed_lent(out: Stdout, words: &mut [u32], weights: &mut [u8], m: &mut [u32], q: usize) {
+    show_fed(out, feed_step(words, weights, meter_of(m), q));
 }
 
 // words | weights | the meter | q
-pub fn feed(line: &[u8]) {
+pub fn feed(out: Stdout, line: &[u8]) {
     let mut words = vectors::words();
     let mut weights = [0u8; 256];
     let mut m = [0u32; 5];
     feed_lent(
+        out,
         words_of(&mut words, line, 2),
         bytes_of(&mut weights, line, 3),
         words_of(&mut m, line, 4),
@@ -50,24 +52,24 @@ pub fn feed(line: &[u8]) {
     );
 }
 
-fn begun(m: &mut [u32]) {
-    show(meter::begin_step(meter_of(m)));
+fn begun(out: Stdout, m: &mut [u32]) {
+    show(out, meter::begin_step(meter_of(m)));
 }
 
 // the meter
-pub fn begin(line: &[u8]) {
+pub fn begin(out: Stdout, line: &[u8]) {
     let mut m = [0u32; 5];
-    begun(words_of(&mut m, line, 2));
+    begun(out, words_of(&mut m, line, 2));
 }
 
-fn was_reset(m: &mut [u32]) {
-    show(meter::reset_step(meter_of(m)));
+fn was_reset(out: Stdout, m: &mut [u32]) {
+    show(out, meter::reset_step(meter_of(m)));
 }
 
 // the meter
-pub fn reset(line: &[u8]) {
+pub fn reset(out: Stdout, line: &[u8]) {
     let mut m = [0u32; 5];
-    was_reset(words_of(&mut m, line, 2));
+    was_reset(out, words_of(&mut m, line, 2));
 }
 
 // A feed after others: the number of the last that was refused.
@@ -83,7 +85,7 @@ fn also_fed(words: &[u32], weights: &[u8], before: Fed, q: usize) -> Fed {
 }
 
 // Feeds words 0 to the last, and writes only what is left in the end.
-fn straight_on(words: &mut [u32], weights: &mut [u8], m: &mut [u32]) {
+fn straight_on(out: Stdout, words: &mut [u32], weights: &mut [u8], m: &mut [u32]) {
     let start = meter_of(m);
     let mut fed = Fed {
         meter: start,
@@ -95,15 +97,16 @@ fn straight_on(words: &mut [u32], weights: &mut [u8], m: &mut [u32]) {
     for q in 0..words.len() {
         fed = also_fed(words, weights, fed, q);
     }
-    show_fed(fed);
+    show_fed(out, fed);
 }
 
 // words | weights | the meter
-pub fn straight(line: &[u8]) {
+pub fn straight(out: Stdout, line: &[u8]) {
     let mut words = vectors::words();
     let mut weights = [0u8; 256];
     let mut m = [0u32; 5];
     straight_on(
+        out,
         words_of(&mut words, line, 2),
         bytes_of(&mut weights, line, 3),
         words_of(&mut m, line, 4),

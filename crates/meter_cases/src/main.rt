@@ -6,39 +6,40 @@
 mod calls;
 
 use print_cases::{end, text};
+use std::io::Stdout;
 
-fn ask(line: &[u8]) {
+fn ask(out: Stdout, line: &[u8]) {
     let question = vectors::which(line, b"title|feed|begin|reset|straight");
     if question > 4 {
         return;
     }
-    text(vectors::part(line, 1));
+    text(out, vectors::part(line, 1));
     match question {
         1 => {
-            calls::feed(line);
+            calls::feed(out, line);
         }
         2 => {
-            calls::begin(line);
+            calls::begin(out, line);
         }
         3 => {
-            calls::reset(line);
+            calls::reset(out, line);
         }
         4 => {
-            calls::straight(line);
+            calls::straight(out, line);
         }
         _ => {}
     }
-    end();
+    end(out);
 }
 
-fn ask_all(text: &[u8]) {
+fn ask_all(out: Stdout, text: &[u8]) {
     for i in 0..text.len() {
-        ask(vectors::line_at(text, i));
+        ask(out, vectors::line_at(text, i));
     }
 }
 
-fn main() {
+fn main(rt: HostRuntime) {
     let mut page = io::large_buffer();
-    let n = vectors::read(&mut page);
-    ask_all(pages::first(&page, n));
+    let n = vectors::read(rt.stdin(), &mut page);
+    ask_all(rt.stdout(), pages::first(&page, n));
 }

@@ -1,5 +1,5 @@
 -- Text put behind text. Assumes nothing.
-use Rattle.std.proofs.Common.{◌≡◌, ℕ, zero, suc, ◌+◌, ◌-◌, ◌≤◌, List, ◌∷◌, ◌++◌, length, take, replicate, refl, ap, ◌∙◌, arith, length-append}
+use Rattle.std.proofs.Common.{◌≡◌, ℕ, zero, suc, ◌+◌, ◌≤◌, List, ◌∷◌, ◌++◌, length, take, replicate, refl, ap, ◌∙◌, arith, length-append}
 use Rattle.common.specs.Lists.{put}
 use Rattle.common.proofs.Put.{put_laws}
 use Rattle.pages.specs.declared.text.PageState.{PageState}

@@ -5,36 +5,42 @@ ghost use Rattle.pages.specs.Text.{Puts, PutsNumber, PutsCell};
 
 use crate::parts::{before, first, rest};
 use common::inner::put_text;
-use libc::STDOUT_FILENO;
+use std::io::Stdout;
 use std::num::wrapping_add_usize;
 
-// How much of the page is filled, and whether a write has failed.
-#[derive(Drop)]
+// How much of the page is filled, where it is written out, and whether a write has failed.
+#[derive(Clone, Copy)]
 pub struct PageState {
     pub at: usize,
+    pub out: Stdout,
     pub is_lost: bool,
 }
 
 // Nothing is on the page, nothing is lost.
-pub fn blank() -> PageState {
+pub fn blank(out: Stdout) -> PageState {
     PageState {
         at: 0,
+        out,
         is_lost: false,
     }
 }
 
 // Once a write has failed nothing more is written.
-fn write(text: &[u8], is_lost: bool) -> bool {
-    if is_lost {
+fn write(text: &[u8], s: PageState) -> bool {
+    if s.is_lost {
         return true;
     }
-    !io::write_all(STDOUT_FILENO, text)
+    s.out.write_all(text).is_err()
 }
 
 // Writes out what is on the page.
 pub fn finish(page: &[u8], s: PageState) -> PageState {
-    let is_lost = write(first(page, s.at), s.is_lost);
-    PageState { at: 0, is_lost }
+    let is_lost = write(first(page, s.at), s);
+    PageState {
+        at: 0,
+        out: s.out,
+        is_lost,
+    }
 }
 
 // Text on a page that has no room left for it: what is there goes out first, and the text by itself where
@@ -44,12 +50,14 @@ fn put_over(page: &mut [u8], s: PageState, text: &[u8]) -> PageState {
     if page.len() < text.len() {
         return PageState {
             at: 0,
-            is_lost: write(text, f.is_lost),
+            out: f.out,
+            is_lost: write(text, f),
         };
     }
     put_text(page, 0, text);
     PageState {
         at: text.len(),
+        out: f.out,
         is_lost: f.is_lost,
     }
 }
@@ -67,6 +75,7 @@ pub fn put(page: &mut [u8], s: PageState, text: &[u8]) -> PageState
     put_text(page, at, text);
     PageState {
         at: at + text.len(),
+        out: s.out,
         is_lost: s.is_lost,
     }
 }

@@ -2,34 +2,37 @@
 // so none promises anything.
 #![tactic(auto)]
 
-use libc::STDOUT_FILENO;
+use std::io::Stdout;
 
-pub fn text(bytes: &[u8]) {
-    io::write_all(STDOUT_FILENO, bytes);
+// Where a write fails the line is lost, and the program goes on.
+pub fn text(out: Stdout, bytes: &[u8]) {
+    let _ = out.write_all(bytes);
 }
 
-pub fn decimal(n: u64) {
-    io::print_decimal(STDOUT_FILENO, n);
+pub fn decimal(out: Stdout, n: u64) {
+    let mut digits = [0u8; 20];
+    let k = io::decimal(n, &mut digits);
+    text(out, &digits[..k]);
 }
 
 // A number after a blank.
-pub fn number(n: u64) {
-    text(b" ");
-    decimal(n);
+pub fn number(out: Stdout, n: u64) {
+    text(out, b" ");
+    decimal(out, n);
 }
 
-pub fn end() {
-    text(b"\n");
+pub fn end(out: Stdout) {
+    text(out, b"\n");
 }
 
 // Numbers of fewer bits: a parameter is known to fit its type, where an element or a
 // loop's local asks for a proof.
-pub fn number_u8(x: u8) {
-    number(x as u64);
+pub fn number_u8(out: Stdout, x: u8) {
+    number(out, x as u64);
 }
 
-pub fn number_u32(x: u32) {
-    number(x as u64);
+pub fn number_u32(out: Stdout, x: u32) {
+    number(out, x as u64);
 }
 
 // Of more than 128 elements only the first and the last five are printed.
@@ -46,26 +49,26 @@ fn is_shown(i: usize, len: usize) -> bool {
     len - i <= 5
 }
 
-fn byte_of(i: usize, len: usize, x: u8) {
+fn byte_of(out: Stdout, i: usize, len: usize, x: u8) {
     if is_shown(i, len) {
-        number_u8(x);
+        number_u8(out, x);
     }
 }
 
-pub fn bytes(s: &[u8]) {
+pub fn bytes(out: Stdout, s: &[u8]) {
     for i in 0..s.len() {
-        byte_of(i, s.len(), s[i]);
+        byte_of(out, i, s.len(), s[i]);
     }
 }
 
-fn number_of(i: usize, len: usize, x: u32) {
+fn number_of(out: Stdout, i: usize, len: usize, x: u32) {
     if is_shown(i, len) {
-        number_u32(x);
+        number_u32(out, x);
     }
 }
 
-pub fn numbers(s: &[u32]) {
+pub fn numbers(out: Stdout, s: &[u32]) {
     for i in 0..s.len() {
-        number_of(i, s.len(), s[i]);
+        number_of(out, i, s.len(), s[i]);
     }
 }

@@ -13,6 +13,7 @@ use values::ir::{
     Confidence, EffectTarget, Fallback, ImplicitEffect, OperandSlot, Operands, OptionalPc, Reads,
     SemanticInstruction, TargetSlot, TypedOperand, Writes,
 };
+use std::io::Stdout;
 
 #[derive(Drop)]
 struct Few {
@@ -76,21 +77,22 @@ fn unwritten() -> SemanticInstruction {
 }
 
 // A line for each place: its record's pc, word and sum.
-fn show_places(records: [SemanticInstruction; 8]) {
+fn show_places(out: Stdout, records: [SemanticInstruction; 8]) {
     let mut i: usize = 0;
     while i < 8 {
         let record = records[i];
-        text(b"place");
-        number(i as u64);
-        number(record.pc as u64);
-        number(record.raw_word as u64);
-        number(sums::record(0, record));
-        end();
+        text(out, b"place");
+        number(out, i as u64);
+        number(out, record.pc as u64);
+        number(out, record.raw_word as u64);
+        number(out, sums::record(0, record));
+        end(out);
         i += 1;
     }
 }
 
 pub fn show<'a>(
+    out: Stdout,
     label: &[u8],
     words: &'a [u32],
     tags: &'a [u8],
@@ -101,9 +103,9 @@ pub fn show<'a>(
     let few = lift_few(words, tags, payloads, names, bytes, unwritten());
     let answer = few.answer;
     let records = few.records;
-    text(label);
-    number(answer.number as u64);
-    number(answer.place as u64);
-    end();
-    show_places(records);
+    text(out, label);
+    number(out, answer.number as u64);
+    number(out, answer.place as u64);
+    end(out);
+    show_places(out, records);
 }

@@ -8,29 +8,31 @@ mod list;
 mod questions;
 mod sums;
 
-fn ask(line: &[u8]) {
+use std::io::Stdout;
+
+fn ask(out: Stdout, line: &[u8]) {
     match vectors::which(line, b"plan|sums|lift") {
         0 => {
-            questions::plan(line);
+            questions::plan(out, line);
         }
         1 => {
-            questions::sums(line);
+            questions::sums(out, line);
         }
         2 => {
-            questions::lift(line);
+            questions::lift(out, line);
         }
         _ => {}
     }
 }
 
-fn ask_all(text: &[u8]) {
+fn ask_all(out: Stdout, text: &[u8]) {
     for i in 0..text.len() {
-        ask(vectors::line_at(text, i));
+        ask(out, vectors::line_at(text, i));
     }
 }
 
-fn main() {
+fn main(rt: HostRuntime) {
     let mut page = io::large_buffer();
-    let n = vectors::read(&mut page);
-    ask_all(pages::first(&page, n));
+    let n = vectors::read(rt.stdin(), &mut page);
+    ask_all(rt.stdout(), pages::first(&page, n));
 }

@@ -7,9 +7,11 @@ use print_cases::{end, number, text};
 use records::lift::lift_word;
 use tables::refusals::planned;
 use vectors::{number_of, part};
+use std::io::Stdout;
 
 // How many records there is room for; the answer's number and place, and how many records are written.
 fn plan_of<'a>(
+    out: Stdout,
     c: Counts,
     words: &'a [u32],
     tags: &'a [u8],
@@ -27,13 +29,13 @@ fn plan_of<'a>(
         room,
     );
     let answer = plan.answer;
-    number(answer.number as u64);
-    number(answer.place as u64);
-    number(plan.count as u64);
-    end();
+    number(out, answer.number as u64);
+    number(out, answer.place as u64);
+    number(out, plan.count as u64);
+    end(out);
 }
 
-pub fn plan(line: &[u8]) {
+pub fn plan(out: Stdout, line: &[u8]) {
     let mut words = vectors::words();
     let mut tags = lent::tags();
     let mut payloads = lent::payloads();
@@ -47,8 +49,9 @@ pub fn plan(line: &[u8]) {
         &mut names,
         &mut bytes,
     );
-    text(part(line, 1));
+    text(out, part(line, 1));
     plan_of(
+        out,
         c,
         &words,
         &tags,
@@ -74,21 +77,22 @@ fn with_record<'a>(
 }
 
 // Where a group of words ends its sum is printed, and the next begins with 0.
-fn after_word(line: &[u8], group: usize, i: usize, sum: u64) -> u64 {
+fn after_word(out: Stdout, line: &[u8], group: usize, i: usize, sum: u64) -> u64 {
     if group == 0 {
         return sum;
     }
     if i % group != group - 1 {
         return sum;
     }
-    text(part(line, 1));
-    number((i / group) as u64);
-    number(sum);
-    end();
+    text(out, part(line, 1));
+    number(out, (i / group) as u64);
+    number(out, sum);
+    end(out);
     0
 }
 
 fn sums_of<'a>(
+    out: Stdout,
     line: &'a [u8],
     words: &'a [u32],
     tags: &'a [u8],
@@ -100,11 +104,12 @@ fn sums_of<'a>(
     let mut sum: u64 = 0;
     for i in 0..words.len() {
         sum = with_record(sum, words, tags, payloads, names, bytes, i);
-        sum = after_word(line, group, i, sum);
+        sum = after_word(out, line, group, i, sum);
     }
 }
 
 fn sums_lent<'a>(
+    out: Stdout,
     line: &'a [u8],
     c: Counts,
     words: &'a [u32],
@@ -114,6 +119,7 @@ fn sums_lent<'a>(
     bytes: &'a [u8],
 ) {
     sums_of(
+        out,
         line,
         first_words(words, c.words),
         first(tags, c.tags),
@@ -124,7 +130,7 @@ fn sums_lent<'a>(
 }
 
 // How many words have one sum.
-pub fn sums(line: &[u8]) {
+pub fn sums(out: Stdout, line: &[u8]) {
     let mut words = [0u32; 1024];
     let mut tags = [0u8; 8];
     let mut payloads = [0u64; 8];
@@ -138,10 +144,11 @@ pub fn sums(line: &[u8]) {
         &mut names,
         &mut bytes,
     );
-    sums_lent(line, c, &words, &tags, &payloads, &names, &bytes);
+    sums_lent(out, line, c, &words, &tags, &payloads, &names, &bytes);
 }
 
 fn lift_lent<'a>(
+    out: Stdout,
     label: &[u8],
     c: Counts,
     words: &'a [u32],
@@ -151,6 +158,7 @@ fn lift_lent<'a>(
     bytes: &'a [u8],
 ) {
     list::show(
+        out,
         label,
         first_words(words, c.words),
         first(tags, c.tags),
@@ -161,7 +169,7 @@ fn lift_lent<'a>(
 }
 
 // Into a list of eight records.
-pub fn lift(line: &[u8]) {
+pub fn lift(out: Stdout, line: &[u8]) {
     let mut words = [0u32; 16];
     let mut tags = [0u8; 8];
     let mut payloads = [0u64; 8];
@@ -175,5 +183,5 @@ pub fn lift(line: &[u8]) {
         &mut names,
         &mut bytes,
     );
-    lift_lent(part(line, 1), c, &words, &tags, &payloads, &names, &bytes);
+    lift_lent(out, part(line, 1), c, &words, &tags, &payloads, &names, &bytes);
 }

@@ -5,23 +5,25 @@
 mod print;
 mod question;
 
-fn ask(line: &[u8]) {
+use std::io::Stdout;
+
+fn ask(out: Stdout, line: &[u8]) {
     if vectors::which(line, b"rehearse") > 0 {
         return;
     }
-    print::text(vectors::part(line, 1));
-    question::rehearsal(line);
-    print::end();
+    print::text(out, vectors::part(line, 1));
+    question::rehearsal(out, line);
+    print::end(out);
 }
 
-fn ask_all(text: &[u8]) {
+fn ask_all(out: Stdout, text: &[u8]) {
     for i in 0..text.len() {
-        ask(vectors::line_at(text, i));
+        ask(out, vectors::line_at(text, i));
     }
 }
 
-fn main() {
+fn main(rt: HostRuntime) {
     let mut page = io::large_buffer();
-    let n = vectors::read(&mut page);
-    ask_all(pages::first(&page, n));
+    let n = vectors::read(rt.stdin(), &mut page);
+    ask_all(rt.stdout(), pages::first(&page, n));
 }

@@ -2,9 +2,10 @@
 use print_cases::{bytes, number, numbers};
 pub use print_cases::{end, text};
 use rehearsal::Rehearsal;
+use std::io::Stdout;
 
 // The longest wait of each of four, or the refusal's number and place.
-pub fn answer(r: Rehearsal) {
+pub fn answer(out: Stdout, r: Rehearsal) {
     match r {
         Rehearsal::Rehearsed {
             first,
@@ -12,24 +13,24 @@ pub fn answer(r: Rehearsal) {
             third,
             fourth,
         } => {
-            text(b": waits");
-            number(first as u64);
-            number(second as u64);
-            number(third as u64);
-            number(fourth as u64);
+            text(out, b": waits");
+            number(out, first as u64);
+            number(out, second as u64);
+            number(out, third as u64);
+            number(out, fourth as u64);
         }
         Rehearsal::Refused { number: k, place } => {
-            text(b": refused");
-            number(k as u64);
-            number(place as u64);
+            text(out, b": refused");
+            number(out, k as u64);
+            number(out, place as u64);
         }
     }
 }
 
 // Both slices: what no run touches is to stay as it was.
-pub fn slices(marks: &[u8], lengths: &[u32]) {
-    text(b" marks");
-    bytes(marks);
-    text(b" lengths");
-    numbers(lengths);
+pub fn slices(out: Stdout, marks: &[u8], lengths: &[u32]) {
+    text(out, b" marks");
+    bytes(out, marks);
+    text(out, b" lengths");
+    numbers(out, lengths);
 }

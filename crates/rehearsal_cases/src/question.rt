@@ -2,6 +2,7 @@
 use crate::print;
 use rehearsal::rehearse;
 use vectors::{bytes_of, number_of, words_of};
+use std::io::Stdout;
 
 // How many scripts there are, a turn's words, and the words in all.
 #[derive(Drop)]
@@ -12,6 +13,7 @@ struct Numbers {
 }
 
 fn rehearsed(
+    out: Stdout,
     w0: &mut [u32],
     w1: &mut [u32],
     w2: &mut [u32],
@@ -21,10 +23,10 @@ fn rehearsed(
     marks: &mut [u8],
     lengths: &mut [u32],
 ) {
-    print::answer(rehearse(
+    print::answer(out, rehearse(
         w0, w1, w2, w3, n.count, n.quantum, choices, n.limit, marks, lengths,
     ));
-    print::slices(marks, lengths);
+    print::slices(out, marks, lengths);
 }
 
 fn small_of(line: &[u8], k: usize) -> u32 {
@@ -40,7 +42,7 @@ fn numbers_of(line: &[u8]) -> Numbers {
 }
 
 // four lists of words | count | quantum | choices | limit | marks | lengths
-pub fn rehearsal(line: &[u8]) {
+pub fn rehearsal(out: Stdout, line: &[u8]) {
     let mut w0 = [0u32; 8];
     let mut w1 = [0u32; 8];
     let mut w2 = [0u32; 8];
@@ -49,6 +51,7 @@ pub fn rehearsal(line: &[u8]) {
     let mut marks = [0u8; 8];
     let mut lengths = [0u32; 8];
     rehearsed(
+        out,
         words_of(&mut w0, line, 2),
         words_of(&mut w1, line, 3),
         words_of(&mut w2, line, 4),

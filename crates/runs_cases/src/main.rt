@@ -6,38 +6,39 @@ mod print;
 mod questions;
 
 use vectors::{part, which};
+use std::io::Stdout;
 
-fn ask(line: &[u8]) {
+fn ask(out: Stdout, line: &[u8]) {
     let question = which(line, b"step|serves|run|runs");
     if question > 3 {
         return;
     }
-    print::text(part(line, 1));
+    print::text(out, part(line, 1));
     match question {
         0 => {
-            questions::step(line);
+            questions::step(out, line);
         }
         1 => {
-            questions::serves(line);
+            questions::serves(out, line);
         }
         2 => {
-            questions::run(line);
+            questions::run(out, line);
         }
         _ => {
-            questions::runs(line);
+            questions::runs(out, line);
         }
     }
-    print::end();
+    print::end(out);
 }
 
-fn ask_all(text: &[u8]) {
+fn ask_all(out: Stdout, text: &[u8]) {
     for i in 0..text.len() {
-        ask(vectors::line_at(text, i));
+        ask(out, vectors::line_at(text, i));
     }
 }
 
-fn main() {
+fn main(rt: HostRuntime) {
     let mut page = io::large_buffer();
-    let n = vectors::read(&mut page);
-    ask_all(pages::first(&page, n));
+    let n = vectors::read(rt.stdin(), &mut page);
+    ask_all(rt.stdout(), pages::first(&page, n));
 }

@@ -4,25 +4,26 @@ pub use print_cases::{end, text};
 use ranges::RunRange;
 use runs::Run;
 use sweep::edges::Successors;
+use std::io::Stdout;
 
 // The number, then L and first, or the place.
-pub fn answer(run: Run) {
+pub fn answer(out: Stdout, run: Run) {
     match run {
         Run::Accepted { longest, first } => {
-            text(b" accepted");
-            number(longest as u64);
-            number(first as u64);
+            text(out, b" accepted");
+            number(out, longest as u64);
+            number(out, first as u64);
         }
         Run::Refused { number: k, place } => {
-            text(b" refused");
-            number(k as u64);
-            number(place as u64);
+            text(out, b" refused");
+            number(out, k as u64);
+            number(out, place as u64);
         }
     }
 }
 
 // The number, then L and first of both tables, or the place.
-pub fn range(runs: RunRange) {
+pub fn range(out: Stdout, runs: RunRange) {
     match runs {
         RunRange::Accepted {
             low_longest,
@@ -30,41 +31,41 @@ pub fn range(runs: RunRange) {
             high_longest,
             high_first,
         } => {
-            text(b" accepted");
-            number(low_longest as u64);
-            number(low_first as u64);
-            number(high_longest as u64);
-            number(high_first as u64);
+            text(out, b" accepted");
+            number(out, low_longest as u64);
+            number(out, low_first as u64);
+            number(out, high_longest as u64);
+            number(out, high_first as u64);
         }
         RunRange::Refused { number: k, place } => {
-            text(b" refused");
-            number(k as u64);
-            number(place as u64);
+            text(out, b" refused");
+            number(out, k as u64);
+            number(out, place as u64);
         }
     }
 }
 
-pub fn steps(s: Successors) {
+pub fn steps(out: Stdout, s: Successors) {
     match s {
         Successors::Invalid => {
-            text(b" bad");
+            text(out, b" bad");
         }
         Successors::Stop => {
-            text(b" none");
+            text(out, b" none");
         }
         Successors::One(a) => {
-            number(a as u64);
+            number(out, a as u64);
         }
         Successors::Two(a, b) => {
-            number(a as u64);
-            number(b as u64);
+            number(out, a as u64);
+            number(out, b as u64);
         }
     }
 }
 
-pub fn slices(marks: &[u8], lengths: &[u32]) {
-    text(b" marks");
-    bytes(marks);
-    text(b" lengths");
-    numbers(lengths);
+pub fn slices(out: Stdout, marks: &[u8], lengths: &[u32]) {
+    text(out, b" marks");
+    bytes(out, marks);
+    text(out, b" lengths");
+    numbers(out, lengths);
 }

@@ -6,36 +6,38 @@ use runs::longest_run;
 use steps::lua54::successors::successors;
 use sweep::edges;
 use vectors::{bytes_of, number_of, words_of};
+use std::io::Stdout;
 
-fn step_at(words: &mut [u32], p: usize) {
-    print::steps(successors(words, p));
+fn step_at(out: Stdout, words: &mut [u32], p: usize) {
+    print::steps(out, successors(words, p));
 }
 
 // words | p
-pub fn step(line: &[u8]) {
+pub fn step(out: Stdout, line: &[u8]) {
     let mut words = [0u32; 8];
-    step_at(words_of(&mut words, line, 2), number_of(line, 3) as usize);
+    step_at(out, words_of(&mut words, line, 2), number_of(line, 3) as usize);
 }
 
 // p | q
-pub fn serves(line: &[u8]) {
+pub fn serves(out: Stdout, line: &[u8]) {
     if edges::serves(number_of(line, 2) as usize, number_of(line, 3) as usize) {
-        print::text(b" serves");
+        print::text(out, b" serves");
     }
 }
 
-fn run_lent(words: &mut [u32], weights: &mut [u8], marks: &mut [u8], lengths: &mut [u32]) {
-    print::answer(longest_run(Version::Lua54, words, weights, marks, lengths));
-    print::slices(marks, lengths);
+fn run_lent(out: Stdout, words: &mut [u32], weights: &mut [u8], marks: &mut [u8], lengths: &mut [u32]) {
+    print::answer(out, longest_run(Version::Lua54, words, weights, marks, lengths));
+    print::slices(out, marks, lengths);
 }
 
 // words | weights | marks | lengths
-pub fn run(line: &[u8]) {
+pub fn run(out: Stdout, line: &[u8]) {
     let mut words = vectors::words();
     let mut weights = [0u8; 256];
     let mut marks = vectors::bytes();
     let mut lengths = vectors::words();
     run_lent(
+        out,
         words_of(&mut words, line, 2),
         bytes_of(&mut weights, line, 3),
         bytes_of(&mut marks, line, 4),
@@ -44,24 +46,26 @@ pub fn run(line: &[u8]) {
 }
 
 fn runs_lent(
+    out: Stdout,
     words: &mut [u32],
     low: &mut [u8],
     high: &mut [u8],
     marks: &mut [u8],
     lengths: &mut [u32],
 ) {
-    print::range(longest_runs(Version::Lua54, words, low, high, marks, lengths));
-    print::slices(marks, lengths);
+    print::range(out, longest_runs(Version::Lua54, words, low, high, marks, lengths));
+    print::slices(out, marks, lengths);
 }
 
 // words | low weights | high weights | marks | lengths
-pub fn runs(line: &[u8]) {
+pub fn runs(out: Stdout, line: &[u8]) {
     let mut words = vectors::words();
     let mut low = [0u8; 256];
     let mut high = [0u8; 256];
     let mut marks = vectors::bytes();
     let mut lengths = vectors::words();
     runs_lent(
+        out,
         words_of(&mut words, line, 2),
         bytes_of(&mut low, line, 3),
         bytes_of(&mut high, line, 4),

@@ -5,38 +5,40 @@
 mod print;
 mod questions;
 
-fn ask(line: &[u8]) {
+use std::io::Stdout;
+
+fn ask(out: Stdout, line: &[u8]) {
     let question = vectors::which(line, b"title|distances|crossings|within|all");
     if question > 4 {
         return;
     }
-    print::text(vectors::part(line, 1));
+    print::text(out, vectors::part(line, 1));
     match question {
         1 => {
-            questions::distances(line);
+            questions::distances(out, line);
         }
         2 => {
-            questions::crossings(line);
+            questions::crossings(out, line);
         }
         3 => {
-            questions::within(line);
+            questions::within(out, line);
         }
         4 => {
-            questions::all(line);
+            questions::all(out, line);
         }
         _ => {}
     }
-    print::end();
+    print::end(out);
 }
 
-fn ask_all(text: &[u8]) {
+fn ask_all(out: Stdout, text: &[u8]) {
     for i in 0..text.len() {
-        ask(vectors::line_at(text, i));
+        ask(out, vectors::line_at(text, i));
     }
 }
 
-fn main() {
+fn main(rt: HostRuntime) {
     let mut page = io::large_buffer();
-    let n = vectors::read(&mut page);
-    ask_all(pages::first(&page, n));
+    let n = vectors::read(rt.stdin(), &mut page);
+    ask_all(rt.stdout(), pages::first(&page, n));
 }

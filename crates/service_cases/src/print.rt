@@ -3,50 +3,51 @@ use common::Answer;
 pub use print_cases::{bytes, end, text};
 use print_cases::{number, numbers};
 use service::{Crossed, Nearest};
+use std::io::Stdout;
 
-fn refused(k: u8, place: usize) {
-    text(b" refused");
-    number(k as u64);
-    number(place as u64);
+fn refused(out: Stdout, k: u8, place: usize) {
+    text(out, b" refused");
+    number(out, k as u64);
+    number(out, place as u64);
 }
 
-pub fn nearest(answer: Nearest) {
+pub fn nearest(out: Stdout, answer: Nearest) {
     match answer {
         Nearest::Fewest(words) => {
-            number(words as u64);
+            number(out, words as u64);
         }
         Nearest::Nowhere => {
-            text(b" -");
+            text(out, b" -");
         }
         Nearest::Refused { number: k, place } => {
-            refused(k, place);
+            refused(out, k, place);
         }
     }
 }
 
-pub fn crossed(answer: Crossed) {
+pub fn crossed(out: Stdout, answer: Crossed) {
     match answer {
         Crossed::Count(count) => {
-            number(count as u64);
+            number(out, count as u64);
         }
         Crossed::Refused { number: k, place } => {
-            refused(k, place);
+            refused(out, k, place);
         }
     }
 }
 
-pub fn listed(answer: Answer) {
+pub fn listed(out: Stdout, answer: Answer) {
     if answer.number == 0 {
-        text(b" listed");
+        text(out, b" listed");
     } else {
-        refused(answer.number, answer.place);
+        refused(out, answer.number, answer.place);
     }
 }
 
 // The run's two slices.
-pub fn slices(marks: &[u8], lengths: &[u32]) {
-    text(b" marks");
-    bytes(marks);
-    text(b" lengths");
-    numbers(lengths);
+pub fn slices(out: Stdout, marks: &[u8], lengths: &[u32]) {
+    text(out, b" marks");
+    bytes(out, marks);
+    text(out, b" lengths");
+    numbers(out, lengths);
 }

@@ -3,6 +3,7 @@ use crate::print;
 use fields::version::Version;
 use service::{crossing_edges, distance_to_service, list_within};
 use vectors::{bytes_of, number_of, numbers_of, words_of};
+use std::io::Stdout;
 
 fn number_at(ws: &[u64], i: usize) -> usize {
     if i < ws.len() { as_index(ws[i]) } else { 0 }
@@ -13,24 +14,25 @@ fn as_index(w: u64) -> usize {
     w as usize
 }
 
-fn distances_lent(words: &mut [u32], ws: &mut [u64], marks: &mut [u8], lengths: &mut [u32]) {
+fn distances_lent(out: Stdout, words: &mut [u32], ws: &mut [u64], marks: &mut [u8], lengths: &mut [u32]) {
     for i in 0..ws.len() {
-        distance(words, number_at(ws, i), marks, lengths);
+        distance(out, words, number_at(ws, i), marks, lengths);
     }
-    print::slices(marks, lengths);
+    print::slices(out, marks, lengths);
 }
 
-fn distance(words: &[u32], w: usize, marks: &mut [u8], lengths: &mut [u32]) {
-    print::nearest(distance_to_service(Version::Lua54, words, w, marks, lengths));
+fn distance(out: Stdout, words: &[u32], w: usize, marks: &mut [u8], lengths: &mut [u32]) {
+    print::nearest(out, distance_to_service(Version::Lua54, words, w, marks, lengths));
 }
 
 // words | several w, one after another in the same slices | marks | lengths
-pub fn distances(line: &[u8]) {
+pub fn distances(out: Stdout, line: &[u8]) {
     let mut words = vectors::words();
     let mut marks = vectors::bytes();
     let mut lengths = vectors::words();
     let mut ws = [0u64; 8];
     distances_lent(
+        out,
         words_of(&mut words, line, 2),
         numbers_of(&mut ws, line, 3),
         bytes_of(&mut marks, line, 4),
@@ -38,24 +40,25 @@ pub fn distances(line: &[u8]) {
     );
 }
 
-fn crossing(words: &[u32], w: usize, marks: &mut [u8], lengths: &mut [u32]) {
-    print::crossed(crossing_edges(Version::Lua54, words, w, marks, lengths));
+fn crossing(out: Stdout, words: &[u32], w: usize, marks: &mut [u8], lengths: &mut [u32]) {
+    print::crossed(out, crossing_edges(Version::Lua54, words, w, marks, lengths));
 }
 
-fn crossings_lent(words: &mut [u32], ws: &mut [u64], marks: &mut [u8], lengths: &mut [u32]) {
+fn crossings_lent(out: Stdout, words: &mut [u32], ws: &mut [u64], marks: &mut [u8], lengths: &mut [u32]) {
     for i in 0..ws.len() {
-        crossing(words, number_at(ws, i), marks, lengths);
+        crossing(out, words, number_at(ws, i), marks, lengths);
     }
-    print::slices(marks, lengths);
+    print::slices(out, marks, lengths);
 }
 
 // words | several w, one after another in the same slices | marks | lengths
-pub fn crossings(line: &[u8]) {
+pub fn crossings(out: Stdout, line: &[u8]) {
     let mut words = vectors::words();
     let mut marks = vectors::bytes();
     let mut lengths = vectors::words();
     let mut ws = [0u64; 8];
     crossings_lent(
+        out,
         words_of(&mut words, line, 2),
         numbers_of(&mut ws, line, 3),
         bytes_of(&mut marks, line, 4),
@@ -63,29 +66,31 @@ pub fn crossings(line: &[u8]) {
     );
 }
 
-fn listed(words: &[u32], d: usize, marks: &mut [u8], lengths: &mut [u32], list: &mut [u8]) {
-    print::listed(list_within(Version::Lua54, words, d, marks, lengths, list));
-    print::bytes(list);
+fn listed(out: Stdout, words: &[u32], d: usize, marks: &mut [u8], lengths: &mut [u32], list: &mut [u8]) {
+    print::listed(out, list_within(Version::Lua54, words, d, marks, lengths, list));
+    print::bytes(out, list);
 }
 
 fn within_lent(
+    out: Stdout,
     words: &mut [u32],
     d: usize,
     marks: &mut [u8],
     lengths: &mut [u32],
     list: &mut [u8],
 ) {
-    listed(words, d, marks, lengths, list);
-    print::slices(marks, lengths);
+    listed(out, words, d, marks, lengths, list);
+    print::slices(out, marks, lengths);
 }
 
 // words | d | marks | lengths | list
-pub fn within(line: &[u8]) {
+pub fn within(out: Stdout, line: &[u8]) {
     let mut words = vectors::words();
     let mut marks = vectors::bytes();
     let mut lengths = vectors::words();
     let mut list = vectors::bytes();
     within_lent(
+        out,
         words_of(&mut words, line, 2),
         number_of(line, 3) as usize,
         bytes_of(&mut marks, line, 4),
@@ -102,10 +107,10 @@ struct Places {
     within: usize,
 }
 
-fn all_lent(words: &mut [u32], q: Places, marks: &mut [u8], lengths: &mut [u32], list: &mut [u8]) {
-    distance(words, q.distance, marks, lengths);
-    crossing(words, q.crossing, marks, lengths);
-    within_lent(words, q.within, marks, lengths, list);
+fn all_lent(out: Stdout, words: &mut [u32], q: Places, marks: &mut [u8], lengths: &mut [u32], list: &mut [u8]) {
+    distance(out, words, q.distance, marks, lengths);
+    crossing(out, words, q.crossing, marks, lengths);
+    within_lent(out, words, q.within, marks, lengths, list);
 }
 
 fn places_of(line: &[u8]) -> Places {
@@ -117,12 +122,13 @@ fn places_of(line: &[u8]) -> Places {
 }
 
 // words | w of the distance | w of the edges | d | marks | lengths | list
-pub fn all(line: &[u8]) {
+pub fn all(out: Stdout, line: &[u8]) {
     let mut words = vectors::words();
     let mut marks = vectors::bytes();
     let mut lengths = vectors::words();
     let mut list = vectors::bytes();
     all_lent(
+        out,
         words_of(&mut words, line, 2),
         places_of(line),
         bytes_of(&mut marks, line, 6),

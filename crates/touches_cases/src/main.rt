@@ -6,38 +6,39 @@ mod print;
 
 use touches::{touches, touches_53};
 use vectors::{number_of, words_of};
+use std::io::Stdout;
 
-fn touched(words: &mut [u32], p: usize) {
-    print::touches(touches(words, p));
+fn touched(out: Stdout, words: &mut [u32], p: usize) {
+    print::touches(out, touches(words, p));
 }
 
-fn touched_53(words: &mut [u32], p: usize) {
-    print::touches(touches_53(words, p));
+fn touched_53(out: Stdout, words: &mut [u32], p: usize) {
+    print::touches(out, touches_53(words, p));
 }
 
 // words | p, by the version that the name says
-fn ask(line: &[u8]) {
+fn ask(out: Stdout, line: &[u8]) {
     let question = vectors::which(line, b"touches|touches_53");
     if question > 1 {
         return;
     }
     let mut words = [0u32; 8];
-    print::text(vectors::part(line, 1));
+    print::text(out, vectors::part(line, 1));
     if question == 0 {
-        touched(words_of(&mut words, line, 2), number_of(line, 3) as usize);
+        touched(out, words_of(&mut words, line, 2), number_of(line, 3) as usize);
     } else {
-        touched_53(words_of(&mut words, line, 2), number_of(line, 3) as usize);
+        touched_53(out, words_of(&mut words, line, 2), number_of(line, 3) as usize);
     }
 }
 
-fn ask_all(text: &[u8]) {
+fn ask_all(out: Stdout, text: &[u8]) {
     for i in 0..text.len() {
-        ask(vectors::line_at(text, i));
+        ask(out, vectors::line_at(text, i));
     }
 }
 
-fn main() {
+fn main(rt: HostRuntime) {
     let mut page = io::large_buffer();
-    let n = vectors::read(&mut page);
-    ask_all(pages::first(&page, n));
+    let n = vectors::read(rt.stdin(), &mut page);
+    ask_all(rt.stdout(), pages::first(&page, n));
 }

@@ -9,9 +9,11 @@ mod parts;
 mod tables;
 
 pub use parts::{is_open, line_at, number_of, part, which};
+use std::io::Stdin;
 pub use tables::{bytes, bytes_of, numbers_of, words, words_of};
 
 // What stands on standard input, as far as there is room.
-pub fn read(page: &mut [u8]) -> usize {
-    io::read_full(libc::STDIN_FILENO, page)
+pub fn read(stdin: Stdin, page: &mut [u8]) -> usize {
+    let mut source = stdin;
+    input::read_full(&mut source, page)
 }

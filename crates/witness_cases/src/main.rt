@@ -5,23 +5,24 @@
 use print_cases::{end, number, numbers, text};
 use vectors::{bytes_of, words_of};
 use witness::{PathRun, longest_path, longest_path_53};
+use std::io::Stdout;
 
-fn answer(r: PathRun) {
+fn answer(out: Stdout, r: PathRun) {
     match r {
         PathRun::Accepted {
             longest,
             first,
             count,
         } => {
-            text(b" accepted");
-            number(longest as u64);
-            number(first as u64);
-            number(count as u64);
+            text(out, b" accepted");
+            number(out, longest as u64);
+            number(out, first as u64);
+            number(out, count as u64);
         }
         PathRun::Refused { number: n, place } => {
-            text(b" refused");
-            number(n as u64);
-            number(place as u64);
+            text(out, b" refused");
+            number(out, n as u64);
+            number(out, place as u64);
         }
     }
 }
@@ -42,6 +43,7 @@ fn asked(
 }
 
 fn path_lent(
+    out: Stdout,
     older: bool,
     words: &mut [u32],
     weights: &mut [u8],
@@ -49,21 +51,22 @@ fn path_lent(
     lengths: &mut [u32],
     path: &mut [u32],
 ) {
-    answer(asked(older, words, weights, marks, lengths, path));
-    text(b" path");
-    numbers(path);
-    end();
+    answer(out, asked(older, words, weights, marks, lengths, path));
+    text(out, b" path");
+    numbers(out, path);
+    end(out);
 }
 
 // words | weights | marks | lengths | path
-fn show(older: bool, line: &[u8]) {
+fn show(out: Stdout, older: bool, line: &[u8]) {
     let mut words = [0u32; 8];
     let mut weights = [0u8; 128];
     let mut marks = [0u8; 8];
     let mut lengths = [0u32; 8];
     let mut path = [0u32; 8];
-    text(vectors::part(line, 1));
+    text(out, vectors::part(line, 1));
     path_lent(
+        out,
         older,
         words_of(&mut words, line, 2),
         bytes_of(&mut weights, line, 3),
@@ -74,26 +77,26 @@ fn show(older: bool, line: &[u8]) {
 }
 
 // By the version that the name says.
-fn ask(line: &[u8]) {
+fn ask(out: Stdout, line: &[u8]) {
     match vectors::which(line, b"path|path_53") {
         0 => {
-            show(false, line);
+            show(out, false, line);
         }
         1 => {
-            show(true, line);
+            show(out, true, line);
         }
         _ => {}
     }
 }
 
-fn ask_all(text: &[u8]) {
+fn ask_all(out: Stdout, text: &[u8]) {
     for i in 0..text.len() {
-        ask(vectors::line_at(text, i));
+        ask(out, vectors::line_at(text, i));
     }
 }
 
-fn main() {
+fn main(rt: HostRuntime) {
     let mut page = io::large_buffer();
-    let n = vectors::read(&mut page);
-    ask_all(pages::first(&page, n));
+    let n = vectors::read(rt.stdin(), &mut page);
+    ask_all(rt.stdout(), pages::first(&page, n));
 }
