@@ -5,7 +5,7 @@ ghost use Rattle.std.specs.Prelude.{◌≡◌, ◌<◌, pos};
 ghost use Rattle.graph.specs.Graph.{member};
 ghost use Rattle.sweep.specs.Steps.{one, two, list_of, serves_of};
 
-#[derive(Drop)]
+#[derive(Clone, Copy)]
 pub enum Successors {
     // A bad word, or no word at all.
     Invalid,
