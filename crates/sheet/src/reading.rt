@@ -16,7 +16,7 @@ use common::limits::MOST_LINES;
 use common::numbers::{ACCEPTED, MALFORMED_LINE, TOO_MANY_LINES};
 
 // What a sheet holds.
-#[derive(Drop)]
+#[derive(Clone, Copy)]
 pub enum Sheet {
     // So many words.
     Words(usize),

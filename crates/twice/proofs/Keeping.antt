@@ -3,7 +3,7 @@ use mathlib.Core.Path.{◌≡◌, refl, sym, ap, subst, ◌∙◌}
 use mathlib.Core.Logic.{inl, ⊎_elim}
 use mathlib.Core.Bool.{Bool, true, false, cond}
 use mathlib.Core.List.{List, []}
-use Prim.Native.Nat.{ℕ, zero, suc, ◌+◌, ◌-◌, ◌*◌, ◌/◌, ◌%◌, ◌≤◌, ◌<◌, max}
+use Prim.Native.Nat.{ℕ, ◌+◌, ◌-◌, ◌*◌, ◌/◌, ◌%◌, ◌≤◌, ◌<◌, max}
 use native.Mathlib.Nat.{le_trans, mul-le-mul_left}
 use native.Mathlib.Omega.{arith}
 use borrow.Author.Tests.{eq-eqb, ne_eqb, leb-false, lt-leb, ltb-false, lt-ltb, le-ltb}
@@ -30,7 +30,7 @@ use Rattle.sweep.specs.PassInvariants.{most_weight, FillAsks, Lengths, steps_in,
 use Rattle.twice.specs.TwiceInvariants.{KEPT_LENGTHS, «SHARE», KEPT_NEXT, KEPT_SKIP, KEPT_TARGET, low_at, kept_entry, kept_steps, kept_in, length_by, KeptAs, KeepAsks}
 use Rattle.twice.specs.TwiceInvariants.{KeepsWord, Keeps, KeptWords, KeepsAll, RaiseAsks, Raises, Restored}
 use Rattle.twice.specs.TwiceInvariants.{Twice}
-use Rattle.sweep.proofs.Entries.{ordered_among, entries_length, entry_is, entry_next, entry_target, entry_stop, entry_invalid, entry_both, entry_none}
+use Rattle.sweep.proofs.Entries.{ordered_among, entries_length, entry_is, entry_next, entry_target, entry_stop, entry_invalid, entry_both}
 use Rattle.sweep.proofs.Measures.{next_unserved, best_in, both_valid, lowest_none_here, lowest-by}
 
 -- a step that goes forward is no service

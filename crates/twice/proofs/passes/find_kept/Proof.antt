@@ -15,31 +15,25 @@ use Rattle.twice.proofs.passes.find_kept.Tie as tie
 abbrev test : List ℕ → ℕ → ℕ → Bool
 test lengths sought p = eqb (low_at lengths p) sought
 
-abbrev invariant_loop : tie.invariant-loop
+abbrev invariant_loop : tie.invariant-loop-i
 invariant_loop lengths n sought i₀ i = (i ≤ n) × ((p : ℕ) → p < i → test lengths sought p ≡ false)
 
-abbrev decreases_loop : tie.decreases-loop
+abbrev decreases_loop : tie.decreases-loop-i
 decreases_loop lengths n sought i₀ i = n - i
 
-returns : tie.Need-returns invariant_loop decreases_loop
+returns : tie.Need-returns-then-lengths-i invariant_loop decreases_loop
 returns c =
-    let l = c.before.before.before in
-    let s = l.before in
-    lowest_laws.is (test s.args.lengths.now s.args.sought) s.args.n l.loop.i
-    c.before.before.loop-test.true (eq-eqb _ _ c.if1.true) l.loop.invariant.1
+    lowest_laws.is (test c.args.lengths.now c.args.sought) c.args.n c.loop-i.i
+    c.loop-i-test.true (eq-eqb _ _ c.if-lengths-i.true) c.loop-i.invariant.1
 
-loop_again : tie.Need-loop-preserved invariant_loop decreases_loop
+loop_again : tie.Need-loop-i-preserved invariant_loop decreases_loop
 loop_again c =
-    let l = c.before.before.before in
-    let s = l.before in
-    (omega arith, below_more (λ (p : ℕ). test s.args.lengths.now s.args.sought p ≡ false) l.loop.i l.loop.invariant.1 (ne_eqb _ _ c.if1.false))
+    (omega arith, below_more (λ (p : ℕ). test c.args.lengths.now c.args.sought p ≡ false) c.loop-i.i c.loop-i.invariant.1 (ne_eqb _ _ c.if-lengths-i.false))
 
-returns_2 : tie.Need-returns-2 invariant_loop decreases_loop
+returns_2 : tie.Need-returns invariant_loop decreases_loop
 returns_2 c =
-    let l = c.before in
-    let s = l.before in
-    let e : l.loop.i ≡ s.args.n = omega arith in
-    e ∙ lowest_laws.nowhere (test s.args.lengths.now s.args.sought) s.args.n (λ p h. l.loop.invariant.1 p (omega arith))
+    let e : c.loop-i.i ≡ c.args.n = omega arith in
+    e ∙ lowest_laws.nowhere (test c.args.lengths.now c.args.sought) c.args.n (λ p h. c.loop-i.invariant.1 p (omega arith))
 
 pub find_kept_spec : {M : Type 1} → statement M
 find_kept_spec =

@@ -8,29 +8,25 @@ use Rattle.twice.specs.TwiceInvariants.{low_at}
 use Rattle.twice.proofs.passes.find_low.Statement.{statement}
 use Rattle.twice.proofs.passes.find_low.Tie as tie
 
-abbrev invariant_loop : tie.invariant-loop
+abbrev invariant_loop : tie.invariant-loop-i
 invariant_loop lengths n longest₀ i₀ longest i = (i ≤ n) × (longest ≡ most (low_at lengths) i)
 
-abbrev decreases_loop : tie.decreases-loop
+abbrev decreases_loop : tie.decreases-loop-i
 decreases_loop lengths n longest₀ i₀ longest i = n - i
 
-loop_holds : tie.Need-loop-init invariant_loop decreases_loop
+loop_holds : tie.Need-loop-i-init invariant_loop decreases_loop
 unfolding most
 loop_holds c = (omega arith, refl)
 
-loop_again : tie.Need-loop-preserved invariant_loop decreases_loop
+loop_again : tie.Need-loop-i-preserved invariant_loop decreases_loop
 loop_again c =
-    let l = c.before.before.before in
-    let s = l.before.before in
-    let m = laws.most_more (low_at s.args.lengths.now) l.loop.i in
-    (omega arith, omega (arith, c.larger.ensures, l.loop.invariant.1, m))
+    let m = laws.most_more (low_at c.args.lengths.now) c.loop-i.i in
+    (omega arith, omega (arith, c.larger-longest.ensures, c.loop-i.invariant.1, m))
 
 returns : tie.Need-returns invariant_loop decreases_loop
 returns c =
-    let l = c.before in
-    let s = l.before.before in
-    let e : l.loop.i ≡ s.args.n = omega arith in
-    l.loop.invariant.1 ∙ ap (most (low_at s.args.lengths.now)) e
+    let e : c.loop-i.i ≡ c.args.n = omega arith in
+    c.loop-i.invariant.1 ∙ ap (most (low_at c.args.lengths.now)) e
 
 pub find_low_spec : {M : Type 1} → statement M
 find_low_spec =

@@ -18,30 +18,29 @@ module _ (s : tie.Start) where
   p = s.args.p
 
 -- the places of the tests
-abbrev enter : tie.Else1 → tie.Start
+abbrev enter : tie.Else-marks-p-eq0 → tie.Start
 enter c = c.before.before.before.before
 
-abbrev on : tie.Else2 → tie.Else1
+abbrev on : tie.Else-lengths-p-eq-KIND_NEXT → tie.Else-marks-p-eq0
 on c = c.before.before
 
-returns : tie.Need-returns
+returns : tie.Need-returns-then-marks-p-eq0
 returns c =
     let s = c.before.before.before.before in
-    keeps_none (m s) (l s) (p s) s.args.above s.args.after s.args.weight s.args.invalid s.requires.0 s.requires.1 c.if1.true
+    keeps_none (m s) (l s) (p s) s.args.above s.args.after s.args.weight s.args.invalid s.requires.0 s.requires.1 c.if-marks-p-eq0.true
 
-returns_2 : tie.Need-returns-2
+returns_2 : tie.Need-returns-then-lengths-p-eq-KIND_NEXT
 returns_2 c =
     let d = c.before.before in
     let s = enter d in
-    keeps_next (m s) (l s) (p s) s.args.above s.args.after s.args.weight s.args.invalid s.pre.0 s.pre.1 d.if1.false (omega (arith, c.if2.true))
+    keeps_next (m s) (l s) (p s) s.args.above s.args.after s.args.weight s.args.invalid s.requires.0 s.requires.1 d.if-marks-p-eq0.false (omega (arith, c.if-lengths-p-eq-KIND_NEXT.true))
 
-returns_3 : tie.Need-returns-3
+returns_3 : tie.Need-returns-then-lengths-p
 returns_3 c =
-    let e = c.before in
-    let d = on e.before.before in
+    let d = on c.before.before.before in
     let s = enter d in
-    keeps_skip (m s) (l s) (p s) s.args.above s.args.after s.args.weight s.args.invalid s.pre.0 s.pre.1 d.if1.left
-    (omega (arith, e.if3.true)) c.larger.ensures
+    keeps_skip (m s) (l s) (p s) s.args.above s.args.after s.args.weight s.args.invalid s.requires.0 s.requires.1 d.if-marks-p-eq0.false
+    (omega (arith, c.if-lengths-p.true)) c.larger.ensures
 
 pub keep_spec : {M : Type 1} → statement M
 keep_spec =
@@ -77,8 +76,8 @@ keep_spec =
     let e = c.before.before.before.before in
     let d = on e in
     let s = enter d in (
-      record { after = s.args.after; asks = s.pre.0; reached = d.if1.left; apart = λ z. e.if2.false (omega (arith, z)) },
-      s.pre.1,
+      record { after = s.args.after; asks = s.requires.0; reached = d.if-marks-p-eq0.false; apart = λ z. e.if-lengths-p-eq-KIND_NEXT.false (omega (arith, z)) },
+      s.requires.1,
     ))
     (λ c. search rules)
     (λ c. search rules)

@@ -29,24 +29,24 @@ module _ (s : tie.Start) where
   entry = get_or l p 0 % «ENTRIES»
 
   abbrev after : ℕ
-  after = s.pre.0.after
+  after = s.requires.0.after
 
   k : KeepAsks m l p s.args.above after
-  k = s.pre.0.asks
+  k = s.requires.0.asks
 
   light : s.args.weight ≤ heaviest_weight
-  light = s.pre.1
+  light = s.requires.1
 
   under : s.args.above ≤ most_weight
   under = above_under m l p s.args.above after s.args.weight s.args.invalid k light
 
 -- where the word has a target
-module _ (c : tie.Else1) where
+module _ (c : tie.Else-kind-eq-KIND_NONE) where
   abbrev enter : tie.Start
   enter = c.before.before.before.before
 
   far : KIND_TARGET ≤ entry enter / «TARGETS»
-  far = omega (arith, c.if1.false, enter.pre.0.apart)
+  far = omega (arith, c.if-kind-eq-KIND_NONE.false, enter.requires.0.apart)
 
   -- what `beyond` asks
   asks :
@@ -59,49 +59,47 @@ module _ (c : tie.Else1) where
       (omega (arith, length-set (l s) (p s) 0, (k s).in_l), omega (arith, length-set (l s) (p s) 0, t), get_or-set_same (l s) (p s) 0 0 (k s).in_l)
 
 -- where the word's own place is cleared
-module _ (c : tie.After-beyond) where
-  abbrev here : tie.Else1
-  here = c.before.before
+module _ (c : tie.After-beyond-x) where
+  abbrev here : tie.Else-kind-eq-KIND_NONE
+  here = c.before
 
   abbrev start : tie.Start
   start = enter here
 
   abbrev added : ℕ
-  added = c.beyond.result % KEPT_LENGTHS
+  added = c.beyond-x.result % KEPT_LENGTHS
 
   adds : added ≡ beyond_by (low_at (l start)) (p start) (entry start % «TARGETS»)
-  adds = beyond_kept (l start) (p start) (entry start % «TARGETS») c.beyond.ensures
+  adds = beyond_kept (l start) (p start) (entry start % «TARGETS») c.beyond-x.ensures
 
   low : added ≤ most_weight
   low = omega (arith, adds, beyond_under (l start) (p start) (low_at (l start)) most_weight (k start).low (entry start % «TARGETS»))
 
-returns : tie.Need-returns
+returns : tie.Need-returns-then-entry-eq-RETURNS
 returns c =
-    let d = c.before in
-    let s = d.before.before.before.before in
-    keeps_stop (m s) (l s) (p s) s.args.above (after s) s.args.weight s.args.invalid (k s) (light s) s.requires.0.reached d.if1.true c.if2.true
+    let s = c.before.before.before.before.before in
+    keeps_stop (m s) (l s) (p s) s.args.above (after s) s.args.weight s.args.invalid (k s) (light s) s.requires.0.reached c.if-kind-eq-KIND_NONE.true c.if-entry-eq-RETURNS.true
 
-returns_2 : tie.Need-returns-2
+returns_2 : tie.Need-returns-then-kind-eq-KIND_NONE
 returns_2 c =
-    let d = c.before in
-    let s = d.before.before.before.before in
-    keeps_invalid (m s) (l s) (p s) s.args.above (after s) s.args.weight s.args.invalid (k s) (light s) s.requires.0.reached d.if1.true c.if2.false
+    let s = c.before.before.before.before.before in
+    keeps_invalid (m s) (l s) (p s) s.args.above (after s) s.args.weight s.args.invalid (k s) (light s) s.requires.0.reached c.if-kind-eq-KIND_NONE.true c.if-entry-eq-RETURNS.false
 
-returns_3 : tie.Need-returns-3
+returns_3 : tie.Need-returns-then-kind-eq-KIND_TARGET
 returns_3 c =
     let b = c.before in
     let s = start b in
     keeps_cleared (m s) (l s) (p s) s.args.invalid _ _ _
     (keeps_target (m s) (l s) (p s) s.args.above (after s) s.args.weight s.args.invalid (k s) (light s)
-    s.pre.0.reached (far (here b)) (added b) (adds b) c.if3.true)
+    s.requires.0.reached (far (here b)) (added b) (adds b) c.if-kind-eq-KIND_TARGET.true)
 
-returns_4 : tie.Need-returns-4
+returns_4 : tie.Need-returns
 returns_4 c =
     let b = c.before.before in
     let s = start b in
     keeps_cleared (m s) (l s) (p s) s.args.invalid _ _ _
     (keeps_both (m s) (l s) (p s) s.args.above (after s) s.args.weight s.args.invalid (k s) (light s)
-    s.pre.0.reached (far (here b)) (added b) (adds b) c.before.if3.false c.larger.ensures)
+    s.requires.0.reached (far (here b)) (added b) (adds b) c.if-kind-eq-KIND_TARGET.false c.larger.ensures)
 
 pub keep_apart_spec : {M : Type 1} → statement M
 keep_apart_spec =
@@ -123,7 +121,7 @@ keep_apart_spec =
     (λ c. search rules)
     (λ c. search rules)
     (λ c. search rules)
-    (λ c κs. asks c.before)
+    (λ c κs. asks c)
     (λ c. search rules)
     (λ c. search rules)
     (λ c. omega (arith, low c.before, light (start c.before)))

@@ -1,5 +1,4 @@
 use mathlib.Core.Path.{◌≡◌, subst, sym, ◌∙◌}
-use mathlib.Core.List.{List}
 use Prim.Native.Nat.{ℕ, ◌+◌, ◌-◌, ◌≤◌, ◌<◌}
 use native.Mathlib.Omega.{arith}
 use lib.Bits.{bit_and}
@@ -12,15 +11,15 @@ use Rattle.twice.proofs.Keeping.{Keeping, keeping_none, keeping_asks, keeping_mo
 use Rattle.twice.proofs.passes.keep_lengths.Statement.{statement}
 use Rattle.twice.proofs.passes.keep_lengths.Tie as tie
 
-abbrev invariant_loop : tie.invariant-loop
+abbrev invariant_loop : tie.invariant-loop-i
 invariant_loop mask words weights marks₀ lengths₀ invalid₀ above₀ after₀ i₀ marks lengths invalid above after i =
     Keeping (weight_by mask words weights) (entries lengths₀) marks lengths i above after invalid
 
-abbrev decreases_loop : tie.decreases-loop
+abbrev decreases_loop : tie.decreases-loop-i
 decreases_loop mask words weights marks₀ lengths₀ invalid₀ above₀ after₀ i₀ marks lengths invalid above after i = i
 
 -- a turn: the word i - 1 is the next
-module _ (c : tie.In-loop invariant_loop decreases_loop) where
+module _ (c : tie.In-loop-i invariant_loop decreases_loop) where
   abbrev start : tie.Start invariant_loop decreases_loop
   start =
       let round = c.before in
@@ -32,34 +31,33 @@ module _ (c : tie.In-loop invariant_loop decreases_loop) where
   -- a weight is a byte
   light : (q : ℕ) → w q ≤ heaviest_weight
   light q =
-      let k = c.before.before.before.before in
       omega (
         arith,
-        k.shared-slice-known2.given (bit_and (get_or start.args.words.now q 0) start.args.mask),
+        c.shared_slice_known-2-1.given (bit_and (get_or start.args.words.now q 0) start.args.mask),
       )
 
   abbrev word : ℕ
-  word = c.before.loop.i - 1
+  word = c.loop-i.i - 1
 
-  keeping : Keeping w (entries start.args.lengths.now) c.before.loop.marks
-      c.before.loop.lengths (word + 1) c.before.loop.above c.before.loop.after
-      c.before.loop.invalid
+  keeping : Keeping w (entries start.args.lengths.now) c.loop-i.marks
+      c.loop-i.lengths (word + 1) c.loop-i.above c.loop-i.after
+      c.loop-i.invalid
   keeping =
-      let e : c.before.loop.i ≡ word + 1 = omega (arith, c.loop-test.true) in
+      let e : c.loop-i.i ≡ word + 1 = omega (arith, c.loop-i-test.true) in
       subst
-      (λ (x : ℕ). Keeping w (entries start.args.lengths.now) c.before.loop.marks
-      c.before.loop.lengths x c.before.loop.above c.before.loop.after
-      c.before.loop.invalid)
-      e c.before.loop.invariant
+      (λ (x : ℕ). Keeping w (entries start.args.lengths.now) c.loop-i.marks
+      c.loop-i.lengths x c.loop-i.above c.loop-i.after
+      c.loop-i.invalid)
+      e c.loop-i.invariant
 
-  in_lengths : word < length c.before.loop.lengths
+  in_lengths : word < length c.loop-i.lengths
   in_lengths = (keeping_asks w light _ _ _ _ _ _ _ keeping).in_l
 
   in_words : word < length start.args.words.now
-  in_words = omega (arith, in_lengths, keeping.l_same, entries_length start.args.lengths.now, start.pre.1)
+  in_words = omega (arith, in_lengths, keeping.l_same, entries_length start.args.lengths.now, start.requires.1)
 
 -- a turn's keeping
-abbrev turn : tie.After-keep invariant_loop decreases_loop → tie.In-loop invariant_loop decreases_loop
+abbrev turn : tie.After-keep-k invariant_loop decreases_loop → tie.In-loop-i invariant_loop decreases_loop
 turn c = c.before.before.before.before.before
 
 pub keep_lengths_spec : {M : Type 1} → statement M
@@ -72,17 +70,16 @@ keep_lengths_spec =
     (λ c. omega arith)
     (λ c. omega (arith, in_words c))
     (λ c. in_words c.before)
-    (λ c κs. (start c.before).pre.2)
-    (λ c κs. let d = c.before.before.before.before in (keeping_asks (w d) (light d) _ _ _ _ _ _ _ (keeping d), c.before.before.weigh.ensures.1))
-    (λ c. omega (arith, (turn c.before.before.before.before).loop-test.taken))
+    (λ c κs. (start c.before).requires.2)
+    (λ c κs. let d = c.before.before.before.before in (keeping_asks (w d) (light d) _ _ _ _ _ _ _ (keeping d), c.weigh-weight.ensures.1))
+    (λ c. omega (arith, (turn c.before.before.before.before).loop-i-test.true))
     (λ c.
     let k = c.before.before.before.before in
     let d = turn k in
     keeping_more (w d) (light d) _ _ _ _ _ _ _ (keeping d)
-    (keeps_at _ _ _ _ _ _ k.before.before.before.weigh.ensures.0 k.keep.ensures))
+    (keeps_at _ _ _ _ _ _ k.weigh-weight.ensures.0 k.keep-k.ensures))
     (λ c.
-    let round = c.before in
-    let s = round.before.before.before.before.before in
-    round.loop.invariant.m_same ∙ sym s.requires.0.held.lent.m_same)
-    (λ c. c.before.loop.invariant.l_same ∙ entries_length _)
-    (λ c. keeping_done _ c.before.loop.invariant c.loop-test.false))
+    let s = c.before.before.before.before.before in
+    c.loop-i.invariant.m_same ∙ sym s.requires.0.held.lent.m_same)
+    (λ c. c.loop-i.invariant.l_same ∙ entries_length _)
+    (λ c. keeping_done _ c.loop-i.invariant c.loop-i-test.false))

@@ -29,10 +29,10 @@ module _ (s : tie.Start) where
   target = kept_entry (get_or m p 0) (get_or l p 0) % «TARGETS»
 
   under : s.args.above ≤ most_weight
-  under = raised_under m l p s.args.above s.args.after s.args.weight s.pre.0
+  under = raised_under m l p s.args.above s.args.after s.args.weight s.requires.0
 
   under_after : s.args.after ≤ most_weight
-  under_after = raised_after m l p s.args.above s.args.after s.args.weight s.pre.0
+  under_after = raised_after m l p s.args.above s.args.after s.args.weight s.requires.0
 
 same : (l : List ℕ) (p : ℕ) → SameBut p l l
 same l p v = refl
@@ -41,75 +41,74 @@ cleared : (l : List ℕ) (p : ℕ) → SameBut p l (set l p 0)
 cleared l p v = set-set l p 0 v
 
 -- the places of the tests
-abbrev enter : tie.Else1 → tie.Start
+abbrev enter : tie.Else-byte-eq-KEPT_NEXT → tie.Start
 enter c = c.before.before.before.before
 
 -- where the word's own place is cleared
-module _ (c : tie.After-beyond) where
-  abbrev far : tie.Else2
-  far = c.before.before.before
+module _ (c : tie.After-beyond-x) where
+  abbrev far : tie.Else-byte-lt-KEPT_TARGET
+  far = c.before.before
 
   abbrev start : tie.Start
   start = enter far.before
 
-  adds : c.beyond.result ≡ beyond_by (at (l start)) (p start) (target start)
-  adds = beyond_raised (l start) (p start) (target start) c.beyond.ensures
+  adds : c.beyond-x.result ≡ beyond_by (at (l start)) (p start) (target start)
+  adds = beyond_raised (l start) (p start) (target start) c.beyond-x.ensures
 
-  low : c.beyond.result ≤ most_weight
-  low = omega (arith, adds, beyond_under (l start) (p start) (at (l start)) most_weight start.pre.0.low (target start))
+  low : c.beyond-x.result ≤ most_weight
+  low = omega (arith, adds, beyond_under (l start) (p start) (at (l start)) most_weight start.requires.0.low (target start))
 
-returns : tie.Need-returns
+returns : tie.Need-returns-then-byte-eq-KEPT_NEXT
 returns c =
     let s = c.before.before.before.before in
-    (rises_next (m s) (l s) (p s) s.args.above s.args.after s.args.weight s.requires.0 c.if1.true, same (l s) (p s))
+    (rises_next (m s) (l s) (p s) s.args.above s.args.after s.args.weight s.requires.0 c.if-byte-eq-KEPT_NEXT.true, same (l s) (p s))
 
-returns_2 : tie.Need-returns-2
+returns_2 : tie.Need-returns-then-byte-ge-KEPT_SKIP
 returns_2 c =
     let s = enter c.before.before.before in
-    (rises_skip (m s) (l s) (p s) s.args.above s.args.after s.args.weight s.pre.0 c.before.if3.true c.before.before.if2.true c.larger.ensures, same (l s) (p s))
+    (rises_skip (m s) (l s) (p s) s.args.above s.args.after s.args.weight s.requires.0 c.if-byte-ge-KEPT_SKIP.true c.if-byte-lt-KEPT_TARGET.true c.larger.ensures, same (l s) (p s))
 
-returns_3 : tie.Need-returns-3
+returns_3 : tie.Need-returns-then-byte-eq0
 returns_3 c =
     let s = enter c.before.before.before in
-    (rises_none (m s) (l s) (p s) s.args.above s.args.after s.args.weight s.pre.0 c.if4.true, same (l s) (p s))
+    (rises_none (m s) (l s) (p s) s.args.above s.args.after s.args.weight s.requires.0 c.if-byte-eq0.true, same (l s) (p s))
 
-returns_4 : tie.Need-returns-4
+returns_4 : tie.Need-returns-then-byte-lt-KEPT_TARGET
 returns_4 c =
-    let e = c.before in
-    let d = e.before.before in
+    let d = c.before.before.before in
     let s = enter d in (
-      rises_stop (m s) (l s) (p s) s.args.above s.args.after s.args.weight s.pre.0 c.if4.false
-          d.if1.false e.if3.false,
+      rises_stop (m s) (l s) (p s) s.args.above s.args.after s.args.weight s.requires.0 c.if-byte-eq0.false
+          d.if-byte-eq-KEPT_NEXT.false c.if-byte-ge-KEPT_SKIP.false,
       same (l s) (p s),
     )
 
-returns_5 : tie.Need-returns-5
+returns_5 : tie.Need-returns-then-byte-lt-KEPT_BOTH
 returns_5 c =
     let b = c.before in
     let s = start b in
-    (rises_target (m s) (l s) (p s) s.args.above s.args.after s.args.weight s.pre.0 (far b).if2.false (adds b) c.if5.true, cleared (l s) (p s))
+    (rises_target (m s) (l s) (p s) s.args.above s.args.after s.args.weight s.requires.0 (far b).if-byte-lt-KEPT_TARGET.false (adds b) c.if-byte-lt-KEPT_BOTH.true, cleared (l s) (p s))
 
-returns_6 : tie.Need-returns-6
+returns_6 : tie.Need-returns
 returns_6 c =
     let b = c.before.before in
     let s = start b in (
-      rises_both (m s) (l s) (p s) s.args.above s.args.after s.args.weight s.pre.0 (far b).if2.false (adds b)
-          c.before.if5.false c.larger2.ensures,
+      rises_both (m s) (l s) (p s) s.args.above s.args.after s.args.weight s.requires.0 (far b).if-byte-lt-KEPT_TARGET.false (adds b)
+          c.if-byte-lt-KEPT_BOTH.false c.larger-2.ensures,
       cleared (l s) (p s),
     )
 
 -- a byte is a byte
-small : (c : tie.Else2) → get_or (m (enter c.before)) (p (enter c.before)) 0 < 256
-small c = let d = c.before.before in omega (arith, d.shared-slice-known2.given (p (enter c.before)))
+small : (c : tie.Else-byte-lt-KEPT_TARGET) → get_or (m (enter c.before)) (p (enter c.before)) 0 < 256
+small c = let d = c.before.before in omega (arith, d.shared_slice_known-2-1.given (p (enter c.before)))
 
 -- what `beyond` asks
-asks : (c : tie.Else2) → let s = enter c.before in
+asks : (c : tie.Else-byte-lt-KEPT_TARGET) → let s = enter c.before in
     (p s < length (set (l s) (p s) 0)) × (target s < length (set (l s) (p s) 0))
     × (at (set (l s) (p s) 0) (p s) ≡ 0)
 asks c =
     let s = enter c.before in
-    let k = s.pre.0 in
-    let t = raised_target_in (m s) (l s) (p s) s.args.above s.args.after s.args.weight k c.if2.false in
+    let k = s.requires.0 in
+    let t = raised_target_in (m s) (l s) (p s) s.args.above s.args.after s.args.weight k c.if-byte-lt-KEPT_TARGET.false in
     (omega (arith, length-set (l s) (p s) 0, k.in_l), omega (arith, length-set (l s) (p s) 0, t), get_or-set_same (l s) (p s) 0 0 k.in_l)
 
 pub raise_spec : {M : Type 1} → statement M
@@ -120,7 +119,7 @@ raise_spec =
     (λ c. let s = c.before.before.before.before in omega (arith, s.requires.1, under s))
     returns
     (λ c κs. search rules)
-    (λ c. let s = enter c.before.before.before in omega (arith, s.pre.1, c.larger.ensures, under s, under_after s))
+    (λ c. let s = enter c.before.before.before in omega (arith, s.requires.1, c.larger.ensures, under s, under_after s))
     returns_2
     returns_3
     returns_4
@@ -132,11 +131,11 @@ raise_spec =
     (λ c. search rules)
     (λ c. search rules)
     (λ c. search rules)
-    (λ c κs. asks c.before.before)
-    (λ c. omega (arith, (start c.before).pre.1, low c.before))
+    (λ c κs. asks c.before)
+    (λ c. omega (arith, (start c.before).requires.1, low c.before))
     (λ c. let s = start c.before in length-set (l s) (p s) 0)
     returns_5
     (λ c κs. search rules)
-    (λ c. let s = start c.before.before in omega (arith, s.pre.1, c.larger2.ensures, under s, low c.before.before))
+    (λ c. let s = start c.before.before in omega (arith, s.requires.1, c.larger-2.ensures, under s, low c.before.before))
     (λ c. let s = start c.before.before in length-set (l s) (p s) 0)
     returns_6)

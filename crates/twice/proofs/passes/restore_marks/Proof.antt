@@ -7,10 +7,10 @@ use Rattle.twice.proofs.Keeping.{Restoring, restoring_none, restoring_more, rest
 use Rattle.twice.proofs.passes.restore_marks.Statement.{statement}
 use Rattle.twice.proofs.passes.restore_marks.Tie as tie
 
-abbrev invariant_loop : tie.invariant-loop
+abbrev invariant_loop : tie.invariant-loop-i
 invariant_loop marks₀ n i₀ marks i = Restoring marks₀ marks i × (n ≡ length marks₀)
 
-abbrev decreases_loop : tie.decreases-loop
+abbrev decreases_loop : tie.decreases-loop-i
 decreases_loop marks₀ n i₀ marks i = n - i
 
 pub restore_marks_spec : {M : Type 1} → statement M
@@ -20,16 +20,16 @@ restore_marks_spec =
     invariant_loop
     decreases_loop
     (λ c. (restoring_none _, refl))
-    (λ c. let l = c.before.before in omega (arith, c.before.loop-test.true, l.loop.invariant.0.same, l.loop.invariant.1))
+    (λ c. let l = c.before.before in omega (arith, c.loop-i-test.true, l.loop-i.invariant.0.same, l.loop-i.invariant.1))
     (λ c κs. search rules)
-    (λ c. let l = c.before.before.before in omega (arith, c.before.before.loop-test.true, l.loop.invariant.0.same, l.loop.invariant.1))
-    (λ c. omega (arith, c.before.before.loop-test.true))
-    (λ c. omega (arith, c.before.before.loop-test.true))
+    (λ c. let l = c.before.before.before in omega (arith, c.loop-i-test.true, l.loop-i.invariant.0.same, l.loop-i.invariant.1))
+    (λ c. omega (arith, c.loop-i-test.true))
+    (λ c. omega (arith, c.loop-i-test.true))
     (λ c.
     let l = c.before.before.before in (
-      restoring_more _ l.loop.invariant.0
-          (omega (arith, c.before.before.loop-test.true, l.loop.invariant.1)) c.mark_of.ensures,
-      l.loop.invariant.1,
+      restoring_more _ l.loop-i.invariant.0
+          (omega (arith, c.loop-i-test.true, l.loop-i.invariant.1)) c.mark_of.ensures,
+      l.loop-i.invariant.1,
     ))
-    (λ c. c.before.loop.invariant.0.same)
-    (λ c. restoring_done _ c.before.loop.invariant.0 (omega (arith, c.loop-test.false, c.before.loop.invariant.1))))
+    (λ c. c.loop-i.invariant.0.same)
+    (λ c. restoring_done _ c.loop-i.invariant.0 (omega (arith, c.loop-i-test.false, c.loop-i.invariant.1))))
