@@ -1,3 +1,2 @@
 pub mod Floats
 pub mod Payloads
-pub mod Signed

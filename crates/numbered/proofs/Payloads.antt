@@ -13,7 +13,6 @@ use lib.Ieee.{binary64, nan_bits}
 use mir.Syntax.{w64}
 use mir.Val.{of_z}
 use Rattle.values.specs.declared.model.ConstantValue.{ConstantValue}
-use Rattle.values.specs.declared.model.ConstantValue.TheVariants as value
 use Rattle.values.specs.declared.model.Name.{Name}
 use Rattle.values.specs.declared.model.Name.TheVariants.{Unnamed, Named}
 use Rattle.values.specs.declared.ir.TypedOperand.{TypedOperand}

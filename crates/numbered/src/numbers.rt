@@ -38,6 +38,7 @@ pub(crate) fn widened(v: i32) -> i64
 }
 
 // f64::to_bits has no value at what is not a number; no record holds that as an f64.
+#[tactic(auto, unfolding(crate::specs::Parts::float_bits, common::specs::Chain::choose))]
 pub(crate) fn float_bits(x: f64) -> u64
     ensures { result ≡ float_bits x }
 {
