@@ -64,7 +64,7 @@ def turn(text, d):
                 continue
             if w in known or not (i == 1 or parts[i - 1] == "before"):
                 continue
-            new = step.get(norm(w), w)
+            new = step.get(norm(w)) or step.get(norm(w.removesuffix("_lem")), w)
             # A step that Rattle adds has a count behind its name; a variable of that name is cited more often.
             if new.endswith("-1") and "-" not in w and parts[i - 1] != "before":
                 continue
@@ -95,6 +95,7 @@ def turn(text, d):
                 )
     text = text.replace(".type-inv", ".type_inv").replace(".well-formed", ".well_formed")
     text = re.sub(r"(?<![\w.\-])tie\.(" + WORD + ")", of_tie, text)
+    text = re.sub(r"(?<=\.args\.)[\w\-]+", lambda m: m[0].replace("-", "_"), text)
     lines = text.split("\n")
     for i, l in enumerate(lines):
         if not l.startswith("use "):
@@ -104,7 +105,7 @@ def turn(text, d):
 
 def flat(text):
     """`let at_x = c.before.before in`, of which only fields are cited: what is known further out is a field of `c`."""
-    blocks = text.split("\n\n")
+    blocks = re.split(r"(\n\n|\n(?= *\(λ ))", text + "\n")
     for i, b in enumerate(blocks):
         while True:
             for m in re.finditer(r"(?m)^ *let ([\w·'\-]+) = ([\w·'\-]+)((?:\.before)+) in( \()?\n", b):
@@ -119,7 +120,7 @@ def flat(text):
             else:
                 break
         blocks[i] = b
-    return "\n\n".join(blocks)
+    return "".join(blocks)[:-1]
 
 
 def handed_on(text, d):

@@ -1,8 +1,8 @@
 -- The head of a function. Assumes nothing.
 use mathlib.Core.Path.{◌≡◌, refl, sym, ap, ◌∙◌}
-use mathlib.Core.Bool.{Bool, true, false, true≢false}
+use mathlib.Core.Bool.{true≢false}
 use mathlib.Core.List.{List}
-use Prim.Native.Nat.{ℕ, ◌≤◌}
+use Prim.Native.Nat.{ℕ}
 use Rattle.loaders.specs.declared.reading.Refusal.{Refusal}
 use Rattle.loaders.specs.declared.reading.Cursor.{Cursor}
 use Rattle.loaders.specs.declared.reading.Cursor.TheVariants.{At, Refused}

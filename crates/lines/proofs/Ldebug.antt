@@ -1,6 +1,5 @@
 -- Lines as the C finds them, and line after line. Assumes nothing.
 use mathlib.Core.Path.{◌≡◌, refl, sym, ap, subst, ◌∙◌}
-use mathlib.Core.Logic.{⊎_elim}
 use mathlib.Core.Bool.{Bool, true, false, cond}
 use mathlib.Core.List.{List, [], ◌∷◌}
 use Prim.Native.Nat.{ℕ, zero, suc, ◌+◌, ◌-◌, ◌*◌, ◌/◌, ◌≤◌, ◌<◌, zero-le}
@@ -9,8 +8,7 @@ use native.Mathlib.Numerals.{add-one}
 use lib.Dec.{ltb, leb, eqb}
 use lib.ListN.{length, get_or, drop}
 use lib.Seq.{drop-cons, get_or-drop}
-use borrow.Author.Tests.{lt-ltb, le-ltb, le-leb, lt-leb, leb-true, leb-false, ltb-true, ltb-false, eqb-true, eqb-false, eq-eqb, ne_eqb}
-use Rattle.common.proofs.Order.{split, same_or_not}
+use borrow.Author.Tests.{le-leb, lt-leb, ltb-true, ltb-false, eqb-true, eqb-false, ne_eqb}
 use Rattle.lines.specs.Ldebug.{AbsLine, LineInfo, line_moved, most_without_abs, Base, base_at, no_abs, climb}
 use Rattle.lines.specs.Ldebug.{getbaseline, walked, up_to, funcline, lines_from, lines_of, Rises}
 use Rattle.lines.specs.Ldebug.{Estimated, Lines}

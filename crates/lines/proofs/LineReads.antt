@@ -1,7 +1,7 @@
 -- The line information that is read again is what the first pass read, and its lines are luaG_getfuncline's. Assumes nothing.
-use mathlib.Core.Path.{◌≡◌, refl, sym, ap, ◌∙◌}
+use mathlib.Core.Path.{◌≡◌, refl, ap, ◌∙◌}
 use mathlib.Core.Bool.{Bool, true, false, true≢false}
-use mathlib.Core.List.{List, [], ◌∷◌}
+use mathlib.Core.List.{List, ◌∷◌}
 use Prim.Native.Nat.{ℕ, zero, suc, ◌+◌, ◌*◌}
 use native.Mathlib.Omega.{arith}
 use lib.Dec.{leb}
@@ -13,7 +13,7 @@ use Rattle.lundump.specs.Lundump.{Vector, Function, load_vector, load_items, loa
 use Rattle.lundump.specs.Stands.{Stands, OneRead}
 use Rattle.lines.specs.declared.choosing.Choice.{Choice}
 use Rattle.lines.specs.Choices.{chosen_by}
-use Rattle.lines.specs.Ldebug.{AbsLine, lines_of}
+use Rattle.lines.specs.Ldebug.{AbsLine}
 use Rattle.lines.specs.Lines.{read_info, read_abs, abs_from, line_info_at, InfoRead, LineLaws}
 use Rattle.lines.proofs.Passes.{chosen_stands}
 use Rattle.lines.proofs.Ldebug as ldebug

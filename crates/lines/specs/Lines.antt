@@ -2,7 +2,7 @@
 -- first pass kept of it. `specs/Ldebug.antt` says what they come to.
 -- Assumes nothing.
 use Rattle.std.specs.Prelude.{◌≡◌, List, [], ◌∷◌, ℕ, zero, suc, ◌+◌, ◌/◌, ◌≤◌, ◌<◌, length, get_or, take, drop}
-use Rattle.common.specs.Limits.{most_words, int_max}
+use Rattle.common.specs.Limits.{int_max}
 use Rattle.lines.specs.declared.lines.AbsRead.{AbsRead}
 use Rattle.lines.specs.declared.lines.AbsRead.TheVariants as next
 use Rattle.lines.specs.declared.lines.LinePlaces.{LinePlaces}

@@ -7,7 +7,7 @@ pub locate_at_spec : {M : Type 1} → statement M
 locate_at_spec =
     tie.close
     (tie.spec
-    (λ c. place_too_long _ _ c.if1.true)
+    (λ c. place_too_long _ _ c.if-chunk-gt-MOST_BYTES.true)
     (λ c κs. search rules)
     (λ c κs. search rules)
-    (λ c. place_there _ _ _ _ c.before.before.if1.false c.before.function.ensures c.located-counts.ensures))
+    (λ c. place_there _ _ _ _ c.if-chunk-gt-MOST_BYTES.false c.function.ensures c.located_counts.ensures))

@@ -11,5 +11,5 @@ locate_by_spec =
     (λ c κs. search rules)
     (λ c. search rules)
     (λ c κs. search rules)
-    (λ c. located-by _ _ _ _ c.before.before.choice.given.1 c.locate.ensures)
-    (λ c. located-by _ _ _ _ c.before.before.choice2.given.1 c.locate-at.ensures))
+    (λ c. located-by _ _ _ _ c.in-Number.is c.locate.ensures)
+    (λ c. located-by _ _ _ _ c.in-Place.is c.locate_at.ensures))

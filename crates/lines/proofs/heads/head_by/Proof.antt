@@ -11,13 +11,11 @@ head_by_spec =
     (λ c. search rules)
     (λ c κs. search rules)
     (λ c.
-    let at-locate-by = c.before.before.before.before in
-    not_there _ _ _ at-locate-by.locate-by.ensures _ _ c.before.before.found.given.1 c.refuse-head.ensures)
+    not_there _ _ _ c.locate_by-found.ensures _ _ c.in-Not.is c.refuse_head.ensures)
     (λ c. search rules)
     (λ c κs.
-    let s = c.before.before.before.before.before.args in
-    within_bytes s.chunk.now s.choice _ c.before.before.before.locate-by.ensures _
-    c.before.found2.given.1)
+    let s = c.args in
+    within_bytes s.chunk.now s.choice _ c.locate_by-found.ensures _
+    c.in-Here.is)
     (λ c.
-    let at-locate-by = c.before.before.before.before in
-    there _ _ _ at-locate-by.locate-by.ensures _ _ c.before.before.found2.given.1 c.head_at.ensures))
+    there _ _ _ c.locate_by-found.ensures _ _ c.in-Here.is c.head_at.ensures))

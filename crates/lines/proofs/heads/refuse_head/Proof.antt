@@ -9,4 +9,4 @@ refuse_head_spec =
     (λ c κs. search rules)
     (λ c. search rules)
     (λ c κs. search rules)
-    (λ c. rw (c.before.refusal-number.ensures, c.refusal-place.ensures)))
+    (λ c. rw (c.refusal_number.ensures, c.refusal_place.ensures)))

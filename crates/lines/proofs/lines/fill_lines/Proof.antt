@@ -6,25 +6,24 @@ use Rattle.lines.proofs.Infos.{defined_is, defined_low, fill_is}
 use Rattle.lines.proofs.lines.fill_lines.Statement.{statement}
 use Rattle.lines.proofs.lines.fill_lines.Tie as tie
 
-abbrev start : tie.After-value → tie.Start
+abbrev start : tie.After-value-defined → tie.Start
 start c = c.before.before.before.before.before
 
-defined : (c : tie.After-value) → c.value.result ≡ defined_at (start c).args.chunk.now (start c).args.first-at
-defined c = defined_is _ _ _ _ _ c.before.before.string.ensures c.before.int.ensures c.value.ensures
+defined : (c : tie.After-value-defined) → c.value-defined.result ≡ defined_at (start c).args.chunk.now (start c).args.first_at
+defined c = defined_is _ _ _ _ _ c.string.ensures c.int.ensures c.value-defined.ensures
 
-store_lines_requires : tie.Need-store-lines-requires
+store_lines_requires : tie.Need-store_lines-requires
 store_lines_requires c κs =
     let v = c.before.before in
     let s = start v in
-    let l = defined_low s.args.chunk.now s.args.first-at in
-    (c.before.places.ensures.inside, (omega (arith, defined v, l), (s.pre.0, s.pre.1)))
+    let l = defined_low s.args.chunk.now s.args.first_at in
+    (c.places-p.ensures.inside, (omega (arith, defined v, l), (s.requires.0, s.requires.1)))
 
 returns : tie.Need-returns
 returns c =
-    let at_places = c.before.before.before.before in
-    let v = at_places.before in
+    let v = c.before.before.before.before.before in
     let s = start v in
-    c.before.before.store-lines.ensures ∙ fill_is _ _ _ _ _ at_places.places.result _ (defined v) at_places.places.ensures
+    c.store_lines.ensures ∙ fill_is _ _ _ _ _ c.places-p.result _ (defined v) c.places-p.ensures
 
 pub fill_lines_spec : {M : Type 1} → statement M
 fill_lines_spec =

@@ -11,38 +11,36 @@ use Rattle.lines.proofs.Passes.{filled_is, Filled, is_filled, answer_refused, no
 use Rattle.lines.proofs.words.words_by.Statement.{statement}
 use Rattle.lines.proofs.words.words_by.Tie as tie
 
-abbrev start : tie.After-with-room → tie.Start
+abbrev start : tie.After-with_room-found → tie.Start
 start c = c.before.before.before.before
 
 abbrev rooms : tie.Start → Rooms
 rooms s = words_room (length s.args.words.now)
 
-located : (c : tie.After-with-room) → c.with_room.result ≡ located_of (filled_by (start c).args.choice (start c).args.chunk.now (rooms (start c)))
+located : (c : tie.After-with_room-found) → c.with_room-found.result ≡ located_of (filled_by (start c).args.choice (start c).args.chunk.now (rooms (start c)))
 located c =
     filled_is (start c).args.chunk.now (start c).args.choice (length (start c).args.words.now)
-    most_constants most_constants most_names _ _ c.before.locate-by.ensures c.with_room.ensures
+    most_constants most_constants most_names _ _ c.locate_by.ensures c.with_room-found.ensures
 
-here : (c : tie.After-with-room) (l : Layout) → c.with_room.result ≡ Here l → Filled (start c).args.chunk.now (start c).args.choice (rooms (start c)) l
+here : (c : tie.After-with_room-found) (l : Layout) → c.with_room-found.result ≡ Here l → Filled (start c).args.chunk.now (start c).args.choice (rooms (start c)) l
 here c l e = is_filled (start c).args.chunk.now (start c).args.choice (rooms (start c)) l _ (located c) e
 
-returns : tie.Need-returns
+returns : tie.Need-returns-in_default
 returns c = (
-  answer_refused _ _ _ _ (located c.before.before.before) _ c.before.enum_told.given.1 _
+  answer_refused _ _ _ _ (located c.before.before) _ c.in_default.is _
       c.report.ensures,
-  nothing_altered _ _ _ _ (located c.before.before.before) _
-      c.before.enum_told.given.1 words_of _,
+  nothing_altered _ _ _ _ (located c.before.before) _
+      c.in_default.is words_of _,
 )
 
-fill_code_requires : tie.Need-fill-code-requires
-fill_code_requires c κs = code_again _ _ _ _ (here c.before.before.before.before _ c.before.before.found.given.1)
+fill_code_requires : tie.Need-fill_code-requires
+fill_code_requires c κs = code_again _ _ _ _ (here c.before.before _ c.in-Here.is)
 
-returns_2 : tie.Need-returns-2
+returns_2 : tie.Need-returns
 returns_2 c =
-    let at_words = c.before.before in
-    let at-found = at_words.before.before.before.before in
-    let at-with-room = at-found.before.before in
-    let f = here at-with-room _ at-found.found.given.1 in
-    (answer_filled _ _ _ _ f _ c.report2.ensures, words_filled _ _ _ _ f _ _ c.before.before.before.fill-code.ensures)
+    let at-with-room = c.before.before.before.before.before.before in
+    let f = here at-with-room _ c.in-Here.is in
+    (answer_filled _ _ _ _ f _ c.report-2.ensures, words_filled _ _ _ _ f _ _ c.fill_code.ensures)
 
 pub words_by_spec : {M : Type 1} → statement M
 words_by_spec =
