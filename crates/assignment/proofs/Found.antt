@@ -6,7 +6,7 @@ use mathlib.Core.List.{List}
 use Prim.Native.Nat.{ℕ, ◌+◌, ◌-◌, ◌≤◌, ◌<◌}
 use native.Mathlib.Omega.{arith}
 use borrow.Author.Tests.{le-leb, lt-leb, lt-ltb, eq-eqb, ne_eqb, eqb-true}
-use lib.Dec.{leb, ltb, eqb}
+use lib.Dec.{leb, eqb}
 use lib.ListN.{length, get_or}
 use Rattle.common.specs.Lists.{tabulate}
 use Rattle.common.specs.Lowest.{lowest}
@@ -15,7 +15,7 @@ use Rattle.common.proofs.Order.{bit, split, same_or_not}
 use Rattle.common.proofs.Over.{over_laws}
 use Rattle.graph.specs.Graph.{Graph, Reachable}
 use Rattle.graph.specs.Marks.{mark_of}
-use Rattle.graph.specs.Assignment.{cut, some_below, reads_unset, unset_at, lowest_unset}
+use Rattle.graph.specs.Assignment.{cut, reads_unset, unset_at, lowest_unset}
 use Rattle.graph.proofs.Laws as graph
 use Rattle.runs.specs.Script.{lua54, graph_of}
 use Rattle.sweep.specs.Steps.{is_invalid}

@@ -14,146 +14,71 @@ use Rattle.assignment.proofs.definite.assign_in.Statement.{statement}
 use Rattle.assignment.proofs.definite.assign_in.Tie as tie
 
 -- after the first block
-module _ (c : tie.After-mark-words) where
-  abbrev searched : tie.After-search
-  searched =
-      let at-pages = c.before.before.before.before in
-      at-pages.before.before.before.before.before
-
-  abbrev entry : tie.Start
-  entry =
-      let at-access-table = searched.before.before.before.before.before in
-      at-access-table.before.before.before.before.before.before
-
-  marks : c.mark-words.new.1.0 ≡ tabulate (mark_of (graph_of (lua54 entry.args.words.now))) 0 (length entry.args.words.now)
+module _ (c : tie.After-mark_words) where
+  marks : c.mark_words.new.marks ≡ tabulate (mark_of (graph_of (lua54 c.args.words.now))) 0 (length c.args.words.now)
   marks =
-      marks_are entry.args.words.now searched.search.ensures
-      (subst (λ (x : ℕ). c.mark-words.new.1.0 ≡ tabulate (marked searched.search.last.1.1.1.0) 0 x) entry.pre.1 c.mark-words.ensures)
+      marks_are c.args.words.now c.search-seen.ensures
+      (subst (λ (x : ℕ). c.mark_words.new.marks ≡ tabulate (marked c.search-seen.new.unset) 0 x) c.requires.1 c.mark_words.ensures)
 
-  rest : Rest entry.args.words.now entry.args.parameters searched.search.result.least searched.search.result.next
-  rest = rest_of entry.args.words.now entry.args.parameters (omega (arith, entry.fits.parameters)) searched.search.ensures
+  rest : Rest c.args.words.now c.args.parameters c.search-seen.result.least c.search-seen.result.next
+  rest = rest_of c.args.words.now c.args.parameters (omega (arith, c.ranges.parameters)) c.search-seen.ensures
 
-returns : tie.Need-returns
+returns : tie.Need-returns-then-invalid-words
 returns c =
-    let m = c.before.before.before.before.before in
-    let s = entry m in
-    (decided_bad s.args.words.now s.args.parameters c.before.find-invalid.ensures refl c.if1.true, marks m)
+    let m = c.before.before.before.before in
+    (decided_bad c.args.words.now c.args.parameters c.find_invalid-invalid.ensures refl c.if-invalid-words.true, marks m)
 
-search_rest_requires : tie.Need-search-rest-requires
+search_rest_requires : tie.Need-search_rest-least-requires
 search_rest_requires c κs =
-    let at-find-invalid = c.before.before.before.before.before in
-    let m = at-find-invalid.before.before.before.before in
-    let s = entry m in
-    let k = (searched m).search.auto in (
-      (searched m).before.before.before.before.before.access-table.ensures,
-      room_stays s.pre.0 k.1.1.1.0 k.1.1.1.1.0 k.1.1.1.1.1.0,
+    let good = c.before.before.before.before in
+    let m = good.before.before.before.before in
+    let k = c.search-seen.auto in (
+      c.access_table-rows.ensures,
+      room_stays c.requires.0 k.unset k.waiting k.pages,
       rest m,
     )
 
-returns_2 : tie.Need-returns-2
+returns_2 : tie.Need-returns-then-least-words
 returns_2 c =
-    let at-waiting2 = c.before.before.before.before in
-    let at-search-rest = at-waiting2.before.before.before in
-    let bad = at-search-rest.before.before.before.before.before in
-    let m = bad.before.before.before.before.before in
-    let s = entry m in (
-      decided_unset s.args.words.now s.args.parameters bad.before.find-invalid.ensures
-          at-search-rest.search-rest.ensures bad.if1.false c.if2.true,
+    let at-search-rest = c.before.before.before.before.before.before.before in
+    let good = at-search-rest.before.before.before.before.before in
+    let m = good.before.before.before.before in (
+      decided_unset c.args.words.now c.args.parameters c.find_invalid-invalid.ensures
+          c.search_rest-least.ensures c.if-invalid-words.false c.if-least-words.true,
       marks m,
     )
 
-returns_3 : tie.Need-returns-3
+returns_3 : tie.Need-returns
 returns_3 c =
-    let at-waiting2 = c.before.before.before.before in
-    let at-search-rest = at-waiting2.before.before.before in
-    let bad = at-search-rest.before.before.before.before.before in
-    let m = bad.before.before.before.before.before in
-    let s = entry m in (
-      decided_accepted s.args.words.now s.args.parameters bad.before.find-invalid.ensures
-          at-search-rest.search-rest.ensures bad.if1.false c.if2.false,
+    let at-search-rest = c.before.before.before.before.before.before.before in
+    let good = at-search-rest.before.before.before.before.before in
+    let m = good.before.before.before.before in (
+      decided_accepted c.args.words.now c.args.parameters c.find_invalid-invalid.ensures
+          c.search_rest-least.ensures c.if-invalid-words.false c.if-least-words.false,
       marks m,
     )
-
--- the tables keep their lengths
-module _ (c : tie.After-search-rest) where
-  abbrev first : tie.After-search
-  first =
-      let at-rows2 = c.before.before.before.before in
-      let at-marks = at-rows2.before.before.before.before.before in
-      let at-pages = at-marks.before.before.before.before.before in
-      at-pages.before.before.before.before.before
 
 pub assign_in_spec : {M : Type 1} → statement M
 assign_in_spec =
     tie.close
     (tie.spec
     (λ c κs. search rules)
-    (λ c κs.
-    let at-access-table = c.before.before.before.before in
-    let s = at-access-table.before.before.before.before.before.before in
-    (at-access-table.access-table.ensures, s.requires.0, omega arith, omega (arith, s.ranges.parameters)))
-    (λ c κs.
-    let at-pages = c.before.before.before in
-    let at-search = at-pages.before.before.before.before.before in
-    let at-access-table = at-search.before.before.before.before.before in
-    let s = at-access-table.before.before.before.before.before.before in
-    omega (arith, s.requires.1, s.requires.0.unset_long, at-search.search.auto.1.1.1.0))
-    (λ c κs. let m = c.before.before.before in ((entry m).requires.0.few, marks m, none_bad (entry m).args.words.now (searched m).search.ensures))
-    (λ c.
-    let at-mark-words = c.before.before.before.before.before in
-    at-mark-words.mark-words.auto.1.0)
-    (λ c.
-    let at-marks = c.before.before.before.before in
-    let at-pages = at-marks.before.before.before.before.before in
-    let at-search = at-pages.before.before.before.before.before in
-    at-search.search.auto.1.1.1.0)
-    (λ c.
-    let at-marks = c.before.before.before.before in
-    let at-pages = at-marks.before.before.before.before.before in
-    let at-search = at-pages.before.before.before.before.before in
-    at-search.search.auto.1.1.1.1.0)
-    (λ c.
-    let at-marks = c.before.before.before.before in
-    let at-pages = at-marks.before.before.before.before.before in
-    let at-search = at-pages.before.before.before.before.before in
-    at-search.search.auto.1.1.1.1.1.0)
+    (λ c κs. (c.access_table-rows.ensures, c.requires.0, omega arith, omega (arith, c.ranges.parameters)))
+    (λ c κs. omega (arith, c.requires.1, c.requires.0.unset_long, c.search-seen.auto.unset))
+    (λ c κs. let m = c.before.before in (c.requires.0.few, marks m, none_bad c.args.words.now c.search-seen.ensures))
+    (λ c. c.mark_words.auto.marks)
+    (λ c. c.search-seen.auto.unset)
+    (λ c. c.search-seen.auto.waiting)
+    (λ c. c.search-seen.auto.pages)
     returns
     search_rest_requires
-    (λ c.
-    let at-waiting2 = c.before.before.before.before in
-    let at-search-rest = at-waiting2.before.before.before in
-    let at-if1 = at-search-rest.before.before.before.before.before in
-    let at-mark-words = at-if1.before.before.before.before.before in
-    at-mark-words.mark-words.auto.1.0)
-    (λ c.
-    let at-waiting2 = c.before.before.before.before in
-    let r = at-waiting2.before.before.before in
-    r.search-rest.auto.1.1.1.0 ∙ (first r).search.auto.1.1.1.0)
-    (λ c.
-    let at-waiting2 = c.before.before.before.before in
-    let r = at-waiting2.before.before.before in
-    r.search-rest.auto.1.1.1.1.0 ∙ (first r).search.auto.1.1.1.1.0)
-    (λ c.
-    let at-waiting2 = c.before.before.before.before in
-    let r = at-waiting2.before.before.before in
-    r.search-rest.auto.1.1.1.1.1.0 ∙ (first r).search.auto.1.1.1.1.1.0)
+    (λ c. c.mark_words.auto.marks)
+    (λ c. c.search_rest-least.auto.unset ∙ c.search-seen.auto.unset)
+    (λ c. c.search_rest-least.auto.waiting ∙ c.search-seen.auto.waiting)
+    (λ c. c.search_rest-least.auto.pages ∙ c.search-seen.auto.pages)
     returns_2
-    (λ c.
-    let at-waiting2 = c.before.before.before.before in
-    let at-search-rest = at-waiting2.before.before.before in
-    let at-if1 = at-search-rest.before.before.before.before.before in
-    let at-mark-words = at-if1.before.before.before.before.before in
-    at-mark-words.mark-words.auto.1.0)
-    (λ c.
-    let at-waiting2 = c.before.before.before.before in
-    let r = at-waiting2.before.before.before in
-    r.search-rest.auto.1.1.1.0 ∙ (first r).search.auto.1.1.1.0)
-    (λ c.
-    let at-waiting2 = c.before.before.before.before in
-    let r = at-waiting2.before.before.before in
-    r.search-rest.auto.1.1.1.1.0 ∙ (first r).search.auto.1.1.1.1.0)
-    (λ c.
-    let at-waiting2 = c.before.before.before.before in
-    let r = at-waiting2.before.before.before in
-    r.search-rest.auto.1.1.1.1.1.0 ∙ (first r).search.auto.1.1.1.1.1.0)
+    (λ c. c.mark_words.auto.marks)
+    (λ c. c.search_rest-least.auto.unset ∙ c.search-seen.auto.unset)
+    (λ c. c.search_rest-least.auto.waiting ∙ c.search-seen.auto.waiting)
+    (λ c. c.search_rest-least.auto.pages ∙ c.search-seen.auto.pages)
     returns_3)

@@ -9,13 +9,13 @@ use Rattle.assignment.proofs.Outcome.{assigned_refused, assigned_passed, refusal
 use Rattle.assignment.proofs.definite.definite_assignment.Statement.{statement}
 use Rattle.assignment.proofs.definite.definite_assignment.Tie as tie
 
-returns : tie.Need-returns
+returns : tie.Need-returns-then-number-ne-ACCEPTED
 returns c =
-    let s = c.before.before.before.before.args in
+    let s = c.args in
     let words = s.words.now in
     let marks = s.marks.now in
-    let e = c.before.size-refusal.ensures in
-    let n : sizes_number (length words) (length marks) ≡ «ACCEPTED» → ⊥ = λ z. c.if1.true (e ∙ z) in
+    let e = c.size_refusal-number.ensures in
+    let n : sizes_number (length words) (length marks) ≡ «ACCEPTED» → ⊥ = λ z. c.if-number-ne-ACCEPTED.true (e ∙ z) in
     rw e (outcome_kept words s.parameters marks (sizes_number (length words) (length marks))
     (assigned_refused words s.parameters (length marks) n) (refusal_untouched words s.parameters (length marks) n))
 
@@ -25,13 +25,13 @@ definite_assignment_spec =
     (tie.spec
     (λ c κs. search rules)
     returns
-    (λ c. (sizes_pass _ _ (sym c.before.size-refusal.ensures ∙ c.if1.false)).1)
-    (λ c. let d = c.before in sym (length-take-le _ _ (sizes_pass _ _ (sym d.before.size-refusal.ensures ∙ d.if1.false)).1))
-    (λ c κs. let d = c.before in let p = sizes_pass _ _ (sym d.before.size-refusal.ensures ∙ d.if1.false) in (p.2, p.0, length-take-le _ _ p.1))
+    (λ c. (sizes_pass _ _ (sym c.size_refusal-number.ensures ∙ c.if-number-ne-ACCEPTED.false)).1)
+    (λ c. let d = c.before in sym (length-take-le _ _ (sizes_pass _ _ (sym d.size_refusal-number.ensures ∙ d.if-number-ne-ACCEPTED.false)).1))
+    (λ c κs. let d = c.before in let p = sizes_pass _ _ (sym d.size_refusal-number.ensures ∙ d.if-number-ne-ACCEPTED.false) in (p.2, p.0, length-take-le _ _ p.1))
     (λ c. search rules)
     (λ c.
     let d = c.before.before.before.before in
-    let a = c.before.before.assign.ensures in
-    let s = d.before.before.before.before.args in
+    let a = c.assign.ensures in
+    let s = d.args in
     outcome_words s.words.now s.parameters s.marks.now
-    (assigned_passed s.words.now s.parameters (length s.marks.now) (sym d.before.size-refusal.ensures ∙ d.if1.false)) a.0 a.1))
+    (assigned_passed s.words.now s.parameters (length s.marks.now) (sym d.size_refusal-number.ensures ∙ d.if-number-ne-ACCEPTED.false)) a.0 a.1))

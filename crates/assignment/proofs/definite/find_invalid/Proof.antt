@@ -7,5 +7,5 @@ find_invalid_spec =
     tie.close
     (tie.spec
     (λ c κs. let s = c.before.before.before in (s.requires.0, s.requires.1))
-    (λ c. c.find-bad.ensures)
-    (λ c. sym (c.before.before.before.requires.2 c.if1.false)))
+    (λ c. c.find_bad.ensures)
+    (λ c. sym (c.requires.2 c.if-bad.false)))

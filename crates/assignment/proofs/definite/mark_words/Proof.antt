@@ -8,18 +8,17 @@ use Rattle.assignment.specs.Rest.{marked}
 use Rattle.assignment.proofs.definite.mark_words.Statement.{statement}
 use Rattle.assignment.proofs.definite.mark_words.Tie as tie
 
-abbrev invariant_loop : tie.invariant-loop
+abbrev invariant_loop : tie.invariant-loop-i
 invariant_loop unset marks₀ n i₀ marks i = Writing (marked unset) (length marks₀) marks₀ marks i
 
-abbrev decreases_loop : tie.decreases-loop
+abbrev decreases_loop : tie.decreases-loop-i
 decreases_loop unset marks₀ n i₀ marks i = length marks₀ - i
 
 returns : tie.Need-returns invariant_loop decreases_loop
 returns c =
-    let s = c.before.before.before.before in
-    let v = c.before.loop.invariant in
-    over_laws.whole (marked s.args.unset.now) (length s.args.marks.now) c.before.loop.marks v.same
-    (λ p h. v.each p (omega (arith, c.loop-test.false)))
+    let v = c.loop-i.invariant in
+    over_laws.whole (marked c.args.unset.now) (length c.args.marks.now) c.loop-i.marks v.same
+    (λ p h. v.each p (omega (arith, c.loop-i-test.false)))
 
 pub mark_words_spec : {M : Type 1} → statement M
 mark_words_spec =
@@ -28,14 +27,14 @@ mark_words_spec =
     invariant_loop
     decreases_loop
     (λ c. writing_none _ _ _ (omega arith))
-    (λ c. let entry = c.before.before.before.before in omega (arith, c.loop-test.true, entry.requires))
+    (λ c. let entry = c.before.before.before.before in omega (arith, c.loop-i-test.true, entry.requires))
     (λ c.
     let entry = c.before.before.before.before.before in
-    omega (arith, c.before.loop-test.true, entry.requires))
+    omega (arith, c.loop-i-test.true, entry.requires))
     (λ c κs. search rules)
-    (λ c. let v = c.before.before.before.loop.invariant in omega (arith, c.before.before.loop-test.true, v.same))
-    (λ c. omega (arith, c.before.before.loop-test.true))
-    (λ c. omega (arith, c.before.before.loop-test.true))
-    (λ c. writing_more _ _ _ c.before.before.before.loop.invariant c.before.before.loop-test.true c.mark_of.ensures)
-    (λ c. c.before.loop.invariant.same)
+    (λ c. let v = c.loop-i.invariant in omega (arith, c.loop-i-test.true, v.same))
+    (λ c. omega (arith, c.loop-i-test.true))
+    (λ c. omega (arith, c.loop-i-test.true))
+    (λ c. writing_more _ _ _ c.loop-i.invariant c.loop-i-test.true c.mark_of.ensures)
+    (λ c. c.loop-i.invariant.same)
     returns)

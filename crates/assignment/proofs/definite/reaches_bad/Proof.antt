@@ -11,5 +11,5 @@ reaches_bad_spec =
     (tie.spec
     (λ c κs. search rules)
     (λ c κs. search rules)
-    (λ c. rw (eq-eqb _ _ c.before.before.if1.true) (c.is-bad.ensures ∙ ap is_invalid c.before.successors.ensures))
-    (λ c. rw (ne_eqb _ _ c.if1.false)))
+    (λ c. rw (eq-eqb _ _ c.if-mark-eq1.true) (c.is_bad.ensures ∙ ap is_invalid c.successors.ensures))
+    (λ c. rw (ne_eqb _ _ c.if-mark-eq1.false)))
