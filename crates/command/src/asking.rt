@@ -1,5 +1,8 @@
 // What the arguments ask for.
+ghost use Rattle.io.specs.Counts.{IsPrefixLen};
+
 use pages::{byte_at, first, is_same};
+use std::env::{Env, FillError};
 use wording::NO_LIMIT;
 
 #[derive(Clone, Copy)]
@@ -199,10 +202,14 @@ fn with_argument(a: Asked, text: &[u8], i: usize) -> Asked {
     }
 }
 
-fn read_argument(a: Asked, i: usize) -> Asked {
+// What is asked for with argument i, if there is one. One that is longer than the buffer counts as empty.
+fn read_argument(env: &impl Env, a: Asked, i: usize) -> Option<Asked> {
     let mut buffer = io::buffer();
-    let n = os::arg(i, &mut buffer);
-    with_argument(a, &buffer[..n], i)
+    match env.arg(i, &mut buffer) {
+        Ok(n) => Some(with_argument(a, &buffer[..n], i)),
+        Err(FillError::TooLong) => Some(with_argument(a, b"", i)),
+        Err(FillError::NotPresent) => None,
+    }
 }
 
 // An option without its value, and no file, show how the program is used.
@@ -222,7 +229,7 @@ fn complete(a: Asked) -> Asked {
 }
 
 // All arguments in turn.
-pub fn read_all() -> Asked {
+pub fn read_all(env: &impl Env) -> Asked {
     let mut a = Asked {
         wish: Wish::Telling,
         awaits: Awaits::Anything,
@@ -232,10 +239,23 @@ pub fn read_all() -> Asked {
         name: 0,
         file: 0,
     };
-    for i in 1..os::arg_count() {
-        a = read_argument(a, i);
+    for i in 1..usize::MAX {
+        match read_argument(env, a, i) {
+            Some(next) => a = next,
+            None => break,
+        }
     }
     complete(a)
+}
+
+// Puts argument i at the start of the buffer. How long it is; 0 where it is missing or longer than the buffer.
+pub fn argument(env: &impl Env, i: usize, buffer: &mut [u8]) -> usize
+    ensures { IsPrefixLen result buffer.new }
+{
+    match env.arg(i, buffer) {
+        Ok(n) => n,
+        Err(_) => 0,
+    }
 }
 
 // The argument that has the script's name: its own where no other is asked for.

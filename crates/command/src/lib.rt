@@ -2,6 +2,7 @@
 #![tactic(auto)]
 
 pub mod asking;
+pub mod failing;
 pub mod loading;
 pub mod reading;
 pub mod rooms;

@@ -1,30 +1,34 @@
 // A file to its end.
+use std::io::{Error, Read};
 use std::num::wrapping_add_usize;
 
-#[derive(Drop)]
+#[derive(Clone, Copy)]
 pub enum Reading {
     Whole(usize),
     Longer,
-    Failed,
+    Failed(Error),
 }
 
 // One read into the buffer from a position on; nothing where it is full.
-fn read_some(fd: i32, buffer: &mut [u8], at: usize) -> isize {
+fn read_some<R: Read>(file: &mut R, buffer: &mut [u8], at: usize) -> Result<usize, Error> {
     if buffer.len() <= at {
-        return 0;
+        return Ok(0);
     }
-    libc::read(fd, &mut buffer[at..])
+    file.read(&mut buffer[at..])
 }
 
 // Whether there is more to read than the buffer took.
-fn has_more(fd: i32) -> bool {
+fn has_more<R: Read>(file: &mut R) -> bool {
     let mut more = [0u8; 1];
-    0 < libc::read(fd, &mut more)
+    match file.read(&mut more) {
+        Ok(n) => 0 < n,
+        Err(_) => false,
+    }
 }
 
-fn ended(fd: i32, buffer: &[u8], at: usize) -> Reading {
+fn ended<R: Read>(file: &mut R, buffer: &[u8], at: usize) -> Reading {
     if buffer.len() <= at {
-        if has_more(fd) {
+        if has_more(file) {
             return Reading::Longer;
         }
     }
@@ -32,17 +36,14 @@ fn ended(fd: i32, buffer: &[u8], at: usize) -> Reading {
 }
 
 // Fills the buffer. Each turn but the last reads a byte at least.
-pub fn read_file(fd: i32, buffer: &mut [u8]) -> Reading {
+pub fn read_file<R: Read>(file: &mut R, buffer: &mut [u8]) -> Reading {
     let mut at = 0;
     for turn in 0..buffer.len() {
-        let got = read_some(fd, buffer, at);
-        if got < 0 {
-            return Reading::Failed;
+        match read_some(file, buffer, at) {
+            Err(e) => return Reading::Failed(e),
+            Ok(0) => return ended(file, buffer, at),
+            Ok(n) => at = wrapping_add_usize(at, n),
         }
-        if got == 0 {
-            return ended(fd, buffer, at);
-        }
-        at = wrapping_add_usize(at, io::count(got, buffer));
     }
-    ended(fd, buffer, at)
+    ended(file, buffer, at)
 }

@@ -3,13 +3,16 @@
 // they meet.
 #![tactic(auto)]
 
-use command::asking::{Asked, Wish, named, read_all};
+use command::asking::{Asked, Wish, argument, named, read_all};
+use command::failing::fail;
 use command::loading::{Weighed, load_script, load_weights};
 use command::reading::Reading;
 use command::rooms;
 use forms::Options;
-use libc::STDERR_FILENO;
 use pages::{PageState, first};
+use std::env::Env;
+use std::fs::Files;
+use std::io::{Error, Stderr};
 use usage::{put_bad_line, put_unclear, put_usage, put_version};
 
 // What came of a script: all is told, or it is refused, by number and place.
@@ -76,20 +79,23 @@ fn tell_bytes(
 }
 
 // Tells of the script that the arguments name.
-fn tell_script(a: Asked, weights: &[u8], page: &mut [u8], s: PageState) -> PageState {
+fn tell_script<R: Env + Files>(
+    rt: &R,
+    err: Stderr,
+    a: Asked,
+    weights: &[u8],
+    page: &mut [u8],
+    s: PageState,
+) -> PageState {
     let mut name = io::buffer();
-    let k = os::arg(named(a), &mut name);
+    let k = argument(rt, named(a), &mut name);
     let mut bytes = rooms::bytes();
-    let r = load_script(a, &name[..k], &mut bytes);
-    match r {
-        Reading::Whole(n) => {
-            return tell_bytes(&mut bytes, n, &name[..k], options(a), weights, page, s);
-        }
-        Reading::Longer => {
-            return forms::put_too_long(page, s, &name[..k], options(a));
-        }
-        Reading::Failed => {
-            return s;
+    match load_script(rt, a, &mut bytes) {
+        Reading::Whole(n) => tell_bytes(&mut bytes, n, &name[..k], options(a), weights, page, s),
+        Reading::Longer => forms::put_too_long(page, s, &name[..k], options(a)),
+        Reading::Failed(error) => {
+            fail(err, &name[..k], error);
+            s
         }
     }
 }
@@ -102,47 +108,80 @@ fn options(a: Asked) -> Options {
     }
 }
 
+// Which line of the weights file, by its argument's number, can't be read.
+fn tell_bad_line<E: Env>(
+    env: &E,
+    i: usize,
+    line: usize,
+    page: &mut [u8],
+    s: PageState,
+) -> PageState {
+    let mut name = io::buffer();
+    let n = argument(env, i, &mut name);
+    put_bad_line(page, s, &name[..n], line)
+}
+
+// Why the file that argument i names can't be opened or read.
+fn tell_failed<E: Env>(env: &E, err: Stderr, i: usize, error: Error) {
+    let mut name = io::buffer();
+    let n = argument(env, i, &mut name);
+    fail(err, &name[..n], error);
+}
+
 // With the weights of the file that the arguments name, or of 1; or which of its lines can't be read, and
 // then nothing more is told.
-fn tell_weighed(a: Asked, page: &mut [u8], s: PageState) -> PageState {
+fn tell_weighed<R: Env + Files>(
+    rt: &R,
+    err: Stderr,
+    a: Asked,
+    page: &mut [u8],
+    s: PageState,
+) -> PageState {
     let mut weights = rooms::weights();
-    let w = load_weights(a.weights, &mut weights);
-    match w {
-        Weighed::Read => {
-            return tell_script(a, &weights, page, s);
-        }
-        Weighed::BadLine(line) => {
-            return put_bad_line(page, s, a.weights, line);
-        }
-        Weighed::Failed => {
-            return s;
+    match load_weights(rt, a.weights, &mut weights) {
+        Weighed::Read => tell_script(rt, err, a, &weights, page, s),
+        Weighed::BadLine(line) => tell_bad_line(rt, a.weights, line, page, s),
+        Weighed::Failed(error) => {
+            tell_failed(rt, err, a.weights, error);
+            s
         }
     }
 }
 
-fn answer(a: Asked, page: &mut [u8], s: PageState) -> PageState {
-    let wish = a.wish;
-    match wish {
-        Wish::Telling => {
-            return tell_weighed(a, page, s);
-        }
-        Wish::Usage => {
-            return put_usage(page, s);
-        }
-        Wish::Version => {
-            return put_version(page, s);
-        }
-        Wish::Unclear(i) => {
-            return put_unclear(page, s, i);
-        }
+// An argument that is not understood.
+fn tell_unclear<E: Env>(env: &E, i: usize, page: &mut [u8], s: PageState) -> PageState {
+    let mut text = io::buffer();
+    let n = argument(env, i, &mut text);
+    put_unclear(page, s, &text[..n])
+}
+
+fn answer<R: Env + Files>(
+    rt: &R,
+    err: Stderr,
+    a: Asked,
+    page: &mut [u8],
+    s: PageState,
+) -> PageState {
+    match a.wish {
+        Wish::Telling => tell_weighed(rt, err, a, page, s),
+        Wish::Usage => put_usage(page, s),
+        Wish::Version => put_version(page, s),
+        Wish::Unclear(i) => tell_unclear(rt, i, page, s),
     }
 }
 
-fn main() {
+fn main(rt: HostRuntime) {
     let mut page = io::large_buffer();
-    let s = answer(read_all(), &mut page, pages::blank());
+    let asked = read_all(&rt);
+    let s = answer(
+        &rt,
+        rt.stderr(),
+        asked,
+        &mut page,
+        pages::blank(rt.stdout()),
+    );
     let t = pages::finish(&page, s);
     if t.is_lost {
-        io::write_all(STDERR_FILENO, b"lawendeb: could not write\n");
+        let _ = rt.stderr().write_all(b"lawendeb: could not write\n");
     }
 }

@@ -67,20 +67,16 @@ pub fn put_version(page: &mut [u8], s: PageState) -> PageState {
 }
 
 // An argument that is not understood.
-pub fn put_unclear(page: &mut [u8], s: PageState, i: usize) -> PageState {
-    let mut text = io::buffer();
-    let n = os::arg(i, &mut text);
+pub fn put_unclear(page: &mut [u8], s: PageState, text: &[u8]) -> PageState {
     let a = put(page, s, b"refused: this argument is not understood: ");
-    let b = put_name(page, a, &text[..n]);
+    let b = put_name(page, a, text);
     put(page, b, b" (see lawendeb --help)\n")
 }
 
-// A line of the weights file that argument i names, which can't be read; 0 for a file that is too long.
-pub fn put_bad_line(page: &mut [u8], s: PageState, i: usize, line: usize) -> PageState {
-    let mut text = io::buffer();
-    let n = os::arg(i, &mut text);
+// A line of a weights file that can't be read; 0 for a file that is too long.
+pub fn put_bad_line(page: &mut [u8], s: PageState, name: &[u8], line: usize) -> PageState {
     let a = put(page, s, b"refused: ");
-    let b = put_name(page, a, &text[..n]);
+    let b = put_name(page, a, name);
     if line == 0 {
         return put(page, b, b": longer than 64 KiB (18)\n");
     }
