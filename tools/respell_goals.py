@@ -83,7 +83,8 @@ def turn(text, d):
                     text = re.sub(rf"\.{re.escape(spelled)}\.{re.escape('.'.join(path))}(?![\w\-])", f".{arm[0]}.{new}", text)
                 else:
                     text = re.sub(rf"\.{re.escape(spelled)}\.rest(?![\w\-])", f".{arm[0]}.{new}.rest", text)
-    text = text.replace(".pre.", ".requires.").replace(".pre ", ".requires ").replace(".pre)", ".requires)").replace(".pre;", ".requires;")
+    text = re.sub(r"\.pre(?![\w\-])", ".requires", text)
+    text = re.sub(r"(\.loop[\w\-]*)\.inv(?![\w\-])", r"\1.invariant", text)
     for p in d["places"]:
         names = d["params"].get(p[3] or "", [])
         for old in (p[2][0] if p[2] else None, p[2][1] if p[2] else None):

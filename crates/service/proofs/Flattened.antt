@@ -4,7 +4,6 @@ use Prim.Native.Nat.{ℕ}
 use mathlib.Core.Path.{◌≡◌, refl, ap}
 use native.Mathlib.Omega.{arith}
 use Rattle.service.specs.declared.distance.Nearest.{Nearest}
-use Rattle.service.specs.declared.distance.Nearest.TheVariants as Nearest
 use Rattle.service.specs.Flat.{flat_nearest}
 use Rattle.service.specs.Flattened.{Flattened}
 

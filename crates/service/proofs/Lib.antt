@@ -3,7 +3,7 @@ pub mod Near
 pub mod PairedWords
 pub mod Cross
 pub mod Outcome
-pub mod Nearest
+pub mod NearestService
 pub mod ListedWords
 pub mod Crossings
 pub mod Versions

@@ -19,7 +19,6 @@ use Rattle.graph.specs.Distance.{distance_of}
 use Rattle.graph.proofs.Distance.{distances}
 use Rattle.runs.specs.Script.{Script, Sound, graph_of}
 use Rattle.runs.specs.declared.longest.Run.{Run}
-use Rattle.runs.specs.declared.longest.Run.TheVariants as Run
 use Rattle.runs.specs.Run.{number_of, marks_after, lengths_after}
 use Rattle.runs.specs.Counted.{ones}
 use Rattle.runs.proofs.Laws.{laws}
@@ -28,7 +27,7 @@ use Rattle.service.specs.Pass.{answer_by}
 use Rattle.service.specs.Nearest.{AcceptedRun}
 use Rattle.service.specs.ListedWords.{IsWithin, WordsListed, ListWithin}
 use Rattle.service.proofs.Sizes.{run_many}
-use Rattle.service.proofs.Nearest.{fewest_words, fewest_one, reach_mark, mark_reach}
+use Rattle.service.proofs.NearestService.{fewest_words, fewest_one, reach_mark, mark_reach}
 use Rattle.service.proofs.Outcome.{Listed, within_many, within_short, listed-by}
 
 -- the number of a listed word

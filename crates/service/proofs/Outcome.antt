@@ -26,7 +26,6 @@ use Rattle.graph.proofs.Distance.{distances}
 use Rattle.fields.specs.declared.version.Version.{Version}
 use Rattle.runs.specs.Script.{Script, script_of, graph_of, weight_of}
 use Rattle.runs.specs.declared.longest.Run.{Run}
-use Rattle.runs.specs.declared.longest.Run.TheVariants as Run
 use Rattle.sweep.specs.Steps.{unit_weight}
 use Rattle.sweep.specs.Entries.{entries, entry_steps, graph_in, lowest_by}
 use Rattle.sweep.specs.PassInvariants.{FillAsks}
@@ -35,9 +34,7 @@ use Rattle.runs.specs.Run.{run_of, number_of, lowest_invalid, untouched, marks_a
 use Rattle.runs.specs.Counted.{ones}
 use Rattle.runs.proofs.Laws.{laws}
 use Rattle.service.specs.declared.distance.Nearest.{Nearest}
-use Rattle.service.specs.declared.distance.Nearest.TheVariants as Nearest
 use Rattle.service.specs.declared.crossing.Crossed.{Crossed}
-use Rattle.service.specs.declared.crossing.Crossed.TheVariants as Crossed
 use Rattle.service.specs.Questions.{fewest_of, nearest_by, nearest_of, crossed_by, crossed_of, listed_at}
 use Rattle.service.specs.Questions.{within_of, marks_within, lengths_within, list_by, list_within}
 use Rattle.service.specs.Pass.{Fits, noted, Holds, Notes, fewest_in, answer_by}

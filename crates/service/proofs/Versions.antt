@@ -5,7 +5,7 @@ use Rattle.fields.specs.declared.version.Version.{Version}
 use Rattle.runs.specs.Script.{script_of}
 use Rattle.runs.proofs.Laws.{laws}
 use Rattle.service.specs.Versions.{Questions}
-use Rattle.service.proofs.Nearest.{nearest_service}
+use Rattle.service.proofs.NearestService.{nearest_service}
 use Rattle.service.proofs.ListedWords.{list-within}
 use Rattle.service.proofs.Crossings.{crossing_count}
 

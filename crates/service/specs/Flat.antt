@@ -2,9 +2,7 @@
 -- number but its own and its place".
 -- Assumes nothing.
 use Rattle.service.specs.declared.distance.Nearest.{Nearest}
-use Rattle.service.specs.declared.distance.Nearest.TheVariants as Nearest
 use Rattle.service.specs.declared.crossing.Crossed.{Crossed}
-use Rattle.service.specs.declared.crossing.Crossed.TheVariants as Crossed
 use Rattle.service.specs.declared.c.FlatNearest.{FlatNearest}
 use Rattle.service.specs.declared.c.FlatCrossed.{FlatCrossed}
 

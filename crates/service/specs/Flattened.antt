@@ -3,7 +3,6 @@
 -- Assumes nothing.
 use Rattle.std.specs.Prelude.{ℕ, ◌≡◌, ◌↔◌}
 use Rattle.service.specs.declared.distance.Nearest.{Nearest}
-use Rattle.service.specs.declared.distance.Nearest.TheVariants as Nearest
 use Rattle.service.specs.declared.crossing.Crossed.TheVariants as Crossed
 use Rattle.service.specs.declared.c.FlatNearest.{FlatNearest}
 use Rattle.service.specs.declared.c.FlatCrossed.{FlatCrossed}

@@ -16,7 +16,6 @@ use Rattle.sweep.specs.Steps.{list_of}
 use Rattle.sweep.specs.Entries.{«ENTRIES», entry_at, entries, graph_in}
 use Rattle.runs.specs.Run.{number_of, place_of}
 use Rattle.service.specs.declared.distance.Nearest.{Nearest}
-use Rattle.service.specs.declared.distance.Nearest.TheVariants as Nearest
 
 -- n words, some and not too many, with a place for each in both slices
 pub record Fits (n marks lengths : ℕ) : Type 0 where

@@ -6,8 +6,8 @@ use Rattle.service.proofs.c.lawendeb_crossing_edges.Tie as tie
 
 returns : tie.Need-returns
 returns c =
-    let r = c.before.before.before.before.before.crossing-edges.ensures in
-    (rw r.0 at c.flat-crossed.ensures, (r.1.0, r.1.1))
+    let r = c.crossing_edges.ensures in
+    (rw r.0 at c.flat_crossed.ensures, (r.1.0, r.1.1))
 
 pub lawendeb_crossing_edges_spec : {M : Type 1} → statement M
 lawendeb_crossing_edges_spec =

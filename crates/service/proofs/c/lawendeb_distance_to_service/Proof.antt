@@ -6,8 +6,8 @@ use Rattle.service.proofs.c.lawendeb_distance_to_service.Tie as tie
 
 returns : tie.Need-returns
 returns c =
-    let r = c.before.before.before.before.before.distance-to-service.ensures in
-    (rw r.0 at c.flat-nearest.ensures, (r.1.0, r.1.1))
+    let r = c.distance_to_service.ensures in
+    (rw r.0 at c.flat_nearest.ensures, (r.1.0, r.1.1))
 
 pub lawendeb_distance_to_service_spec : {M : Type 1} → statement M
 lawendeb_distance_to_service_spec =

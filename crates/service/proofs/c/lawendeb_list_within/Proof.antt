@@ -6,8 +6,8 @@ use Rattle.service.proofs.c.lawendeb_list_within.Tie as tie
 
 returns : tie.Need-returns
 returns c =
-    let r = c.before.before.before.before.before.before.before.list-within.ensures in
-    (rw r.0 at c.flat-answer.ensures, (r.1.0, (r.1.1.0, r.1.1.1)))
+    let r = c.list_within.ensures in
+    (rw r.0 at c.flat_answer.ensures, (r.1.0, (r.1.1.0, r.1.1.1)))
 
 pub lawendeb_list_within_spec : {M : Type 1} → statement M
 lawendeb_list_within_spec =

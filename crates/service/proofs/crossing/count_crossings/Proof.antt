@@ -6,10 +6,10 @@ use Rattle.service.proofs.Cross.{Counting, counting_none, counting_more, countin
 use Rattle.service.proofs.crossing.count_crossings.Statement.{statement}
 use Rattle.service.proofs.crossing.count_crossings.Tie as tie
 
-abbrev invariant_loop : tie.invariant-loop
+abbrev invariant_loop : tie.invariant-loop-i
 invariant_loop w marks lengths n count₀ i₀ count i = Counting w marks lengths count i
 
-abbrev decreases_loop : tie.decreases-loop
+abbrev decreases_loop : tie.decreases-loop-i
 decreases_loop w marks lengths n count₀ i₀ count i = length lengths - i
 
 pub count_crossings_spec : {M : Type 1} → statement M
@@ -18,15 +18,14 @@ count_crossings_spec =
     (tie.spec
     invariant_loop
     decreases_loop
-    (λ c. counting_none _ _ _ c.before.before.requires)
-    (λ c. let v = c.before.before.loop.invariant in omega (arith, c.before.loop-test.true, marks_long _ _ v.asks))
-    (λ c. omega (arith, c.before.loop-test.true))
-    (λ c. c.before.before.loop-test.true)
+    (λ c. counting_none _ _ _ c.requires)
+    (λ c. let v = c.loop-i.invariant in omega (arith, c.loop-i-test.true, marks_long _ _ v.asks))
+    (λ c. omega (arith, c.loop-i-test.true))
+    (λ c. c.loop-i-test.true)
     (λ c κs. search rules)
-    (λ c. let v = c.before.before.before.before.loop.invariant in omega (arith, v.few, v.upto, words_few _ _ v.asks, c.crossings-from.ensures.few))
-    (λ c. let v = c.before.before.before.before.loop.invariant in omega (arith, c.before.before.before.loop-test.true, words_few _ _ v.asks))
-    (λ c. omega (arith, c.before.before.before.loop-test.true))
+    (λ c. let v = c.loop-i.invariant in omega (arith, v.few, v.upto, words_few _ _ v.asks, c.crossings_from-count.ensures.few))
+    (λ c. let v = c.loop-i.invariant in omega (arith, c.loop-i-test.true, words_few _ _ v.asks))
+    (λ c. omega (arith, c.loop-i-test.true))
     (λ c.
-    let turn = c.before.before.before.before in
-    counting_more _ _ _ turn.loop.invariant c.before.before.before.loop-test.true c.crossings-from.ensures)
-    (λ c. counting_done _ _ _ c.before.loop.invariant c.loop-test.false))
+    counting_more _ _ _ c.loop-i.invariant c.loop-i-test.true c.crossings_from-count.ensures)
+    (λ c. counting_done _ _ _ c.loop-i.invariant c.loop-i-test.false))

@@ -13,21 +13,20 @@ use Rattle.service.proofs.crossing.crossing_edges.Statement.{statement}
 use Rattle.service.proofs.crossing.crossing_edges.Tie as tie
 
 -- after the checks of the sizes: the script that is lent, and their number
-module _ (c : tie.After-size-refusal) where
+module _ (c : tie.After-size_refusal-number) where
   abbrev start : tie.Start
   start =
-      let at-smaller-size = c.before in
-      at-smaller-size.before.before.before.before
+      c.before.before.before.before.before
 
   abbrev script : Script
   script = script_of start.args.version start.args.words.now
 
-  number : c.size-refusal.result ≡ sizes_number script.size (min (length start.args.marks.now) (length start.args.lengths.now))
-  number = c.size-refusal.ensures ∙ ap (sizes_number script.size) c.before.smaller-size.ensures
+  number : c.size_refusal-number.result ≡ sizes_number script.size (min (length start.args.marks.now) (length start.args.lengths.now))
+  number = c.size_refusal-number.ensures ∙ ap (sizes_number script.size) c.smaller_size.ensures
 
 -- they are passed
-fits : (c : tie.Else1) → Fits (script c.before).size (length (start c.before).args.marks.now) (length (start c.before).args.lengths.now)
-fits c = sizes_fit (script c.before) _ _ (number c.before) c.if1.false
+fits : (c : tie.Else-number-ne-ACCEPTED) → Fits (script c.before).size (length (start c.before).args.marks.now) (length (start c.before).args.lengths.now)
+fits c = sizes_fit (script c.before) _ _ (number c.before) c.if-number-ne-ACCEPTED.false
 
 pub crossing_edges_spec : {M : Type 1} → statement M
 crossing_edges_spec =
@@ -35,7 +34,7 @@ crossing_edges_spec =
     (tie.spec
     (λ c κs. search rules)
     (λ c κs. search rules)
-    (λ c. crossed_early (script c.before) _ _ (number c.before) c.if1.true _)
+    (λ c. crossed_early (script c.before) _ _ (number c.before) c.if-number-ne-ACCEPTED.true _)
     (λ c. omega (arith, (fits c).marks_long))
     (λ c. sym (length-take-le _ _ (fits c.before).marks_long))
     (λ c. omega (arith, (fits c.before).lengths_long))
@@ -46,7 +45,5 @@ crossing_edges_spec =
     (λ c. search rules)
     (λ c. search rules)
     (λ c.
-    let at-crossed-of-words = c.before.before.before.before in
-    let e = at-crossed-of-words.before.before.before in
-    let r = at-crossed-of-words.crossed-of-words.ensures in
-    crossed_late (script e.before) _ _ (fits e) r.1 _ r.0))
+    let r = c.crossed_of_words.ensures in
+    crossed_late (script c.before.before.before.before.before.before.before.before) _ _ (fits c.before.before.before.before.before.before.before) r.1 _ r.0))

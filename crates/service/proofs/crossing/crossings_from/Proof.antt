@@ -7,8 +7,8 @@ pub crossings_from_spec : {M : Type 1} → statement M
 crossings_from_spec =
     tie.close
     (tie.spec
-    (λ c. unmarked _ _ _ _ c.if1.true)
-    (λ c. no_target _ _ _ _ c.before.if1.false c.if2.true)
+    (λ c. unmarked _ _ _ _ c.if-mark-ne1.true)
+    (λ c. no_target _ _ _ _ c.if-mark-ne1.false c.if-entry-lt-KIND_TARGET.true)
     (λ c. search rules)
     (λ c κs. search rules)
-    (λ c. by_target _ _ _ _ c.before.before.if1.false c.before.if2.false c.edge-crosses.ensures))
+    (λ c. by_target _ _ _ _ c.if-mark-ne1.false c.if-entry-lt-KIND_TARGET.false c.edge_crosses.ensures))

@@ -6,8 +6,8 @@ pub edge_crosses_spec : {M : Type 1} → statement M
 edge_crosses_spec =
     tie.close
     (tie.spec
-    (λ c. forward _ _ _ c.before.if1.true c.if2.true)
-    (λ c. not_past _ _ _ c.before.if1.true c.if2.false)
-    (λ c. back _ _ _ c.before.before.if1.false c.before.if3.true c.if4.true)
-    (λ c. from_itself _ _ _ c.before.before.if1.false c.if4.false)
-    (λ c. not_back _ _ _ c.before.if1.false c.if3.false))
+    (λ c. forward _ _ _ c.if-p-w.true c.if-w-q.true)
+    (λ c. not_past _ _ _ c.if-p-w.true c.if-w-q.false)
+    (λ c. back _ _ _ c.if-p-w.false c.if-q-w.true c.if-w-p.true)
+    (λ c. from_itself _ _ _ c.if-p-w.false c.if-w-p.false)
+    (λ c. not_back _ _ _ c.if-p-w.false c.if-q-w.false))

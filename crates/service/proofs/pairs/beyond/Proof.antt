@@ -8,5 +8,5 @@ beyond_spec =
     tie.close
     (tie.spec
     (λ c κs. search rules)
-    (λ c. rw (sym c.before.serves.ensures ∙ c.if1.true))
-    (λ c. rw (sym c.before.serves.ensures ∙ c.if1.false)))
+    (λ c. rw (sym c.serves.ensures ∙ c.if-serves.true))
+    (λ c. rw (sym c.serves.ensures ∙ c.if-serves.false)))

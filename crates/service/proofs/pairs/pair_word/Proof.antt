@@ -34,73 +34,68 @@ module _ (s : tie.Start) where
   kinds = entering.kinds entry p
 
   next_both : (s.args.above / «LENGTHS» ≤ most_words) × (s.args.above % «LENGTHS» ≤ most_words)
-  next_both = next_few m l p s.args.invalid s.pre
+  next_both = next_few m l p s.args.invalid s.requires
 
 -- the places of the tests
-abbrev enter : tie.Else1 → tie.Start
+abbrev enter : tie.Else-marks-p-eq0 → tie.Start
 enter c = c.before.before.before.before
 
-abbrev marked : tie.Else3 → tie.Else1
+abbrev marked : tie.Else-kind-eq-KIND_NONE → tie.Else-marks-p-eq0
 marked c = c.before.before.before
 
 -- a word with a target
-module _ (c : tie.Else3) where
+module _ (c : tie.Else-kind-eq-KIND_NONE) where
   abbrev start : tie.Start
   start = enter (marked c)
 
-  inside : target start < length (l start)
-  inside = target-in (l start) (p start) start.pre.steps c.if3.false c.before.if2.false
+  inside : target start < length start.args.lengths.now
+  inside = target-in start.args.lengths.now start.args.p start.requires.steps c.if-kind-eq-KIND_NONE.false c.if-kind-eq-KIND_NEXT.false
 
 -- whose pair is read
-module _ (c : tie.After-beyond) where
-  abbrev third : tie.Else3
+module _ (c : tie.After-beyond-x) where
+  abbrev third : tie.Else-kind-eq-KIND_NONE
   third = c.before.before
 
-  few : (c.beyond.result / «LENGTHS» ≤ most_words) × (c.beyond.result % «LENGTHS» ≤ most_words)
-  few = let s = start third in beyond_few (m s) (l s) (p s) s.args.invalid s.pre (target s) c.beyond.ensures
+  few : (c.beyond-x.result / «LENGTHS» ≤ most_words) × (c.beyond-x.result % «LENGTHS» ≤ most_words)
+  few = let s = start third in beyond_few s.args.marks.now s.args.lengths.now s.args.p s.args.invalid s.requires (target s) c.beyond-x.ensures
 
-returns_2 : tie.Need-returns-2
+returns_2 : tie.Need-returns-then-kind-eq-KIND_NEXT
 returns_2 c =
-    let d = c.before.before in
-    let s = enter d in
-    paired_by (m s) (l s) (p s) s.args.invalid d.if1.false ((kinds s).next c.if2.true) (pair_next (l s) (p s) s.pre.next) refl
+    let s = enter c.before.before in
+    paired_by s.args.marks.now s.args.lengths.now s.args.p s.args.invalid c.if-marks-p-eq0.false ((kinds s).next c.if-kind-eq-KIND_NEXT.true) (pair_next s.args.lengths.now s.args.p s.requires.next) refl
 
-returns_3 : tie.Need-returns-3
+returns_3 : tie.Need-returns-then-entry-eq-RETURNS
 returns_3 c =
-    let d = c.before.before.before.before in
-    let s = enter d in
-    paired_by (m s) (l s) (p s) s.args.invalid d.if1.false ((kinds s).returns c.before.if3.true c.if4.true) (λ es. refl) refl
+    let s = enter c.before.before.before.before in
+    paired_by s.args.marks.now s.args.lengths.now s.args.p s.args.invalid c.if-marks-p-eq0.false ((kinds s).returns c.if-kind-eq-KIND_NONE.true c.if-entry-eq-RETURNS.true) (λ es. refl) refl
 
-returns_4 : tie.Need-returns-4
+returns_4 : tie.Need-returns-then-kind-eq-KIND_NONE
 returns_4 c =
-    let d = c.before.before.before.before in
-    let s = enter d in
-    paired_by (m s) (l s) (p s) s.args.invalid d.if1.false ((kinds s).invalid c.before.if3.true c.if4.false) (λ es. refl) refl
+    let s = enter c.before.before.before.before in
+    paired_by s.args.marks.now s.args.lengths.now s.args.p s.args.invalid c.if-marks-p-eq0.false ((kinds s).invalid c.if-kind-eq-KIND_NONE.true c.if-entry-eq-RETURNS.false) (λ es. refl) refl
 
-returns_5 : tie.Need-returns-5
+returns_5 : tie.Need-returns-then-kind-eq-KIND_TARGET
 returns_5 c =
-    let b = c.before in
-    let e = third b in
+    let e = third c.before in
     let s = start e in
-    paired_by (m s) (l s) (p s) s.args.invalid (marked e).if1.left ((kinds s).target c.if5.true)
-    (pair_target (l s) (p s) (target s) b.beyond.ensures) refl
+    paired_by s.args.marks.now s.args.lengths.now s.args.p s.args.invalid (marked e).if-marks-p-eq0.false ((kinds s).target c.if-kind-eq-KIND_TARGET.true)
+    (pair_target s.args.lengths.now s.args.p (target s) c.beyond-x.ensures) refl
 
-returns_6 : tie.Need-returns-6
+returns_6 : tie.Need-returns
 returns_6 c =
-    let b = c.before.before in
-    let e = third b in
+    let e = third c.before.before in
     let s = start e in
     let j = c.join.ensures in
-    paired_by (m s) (l s) (p s) s.args.invalid (marked e).if1.left ((kinds s).both e.if3.left e.before.if2.left c.before.if5.false)
-    (pair_both (l s) (p s) s.pre.next (target s) b.beyond.result c.join.result b.beyond.ensures j.0 j.1)
-    (both_valid _ _ (p s) s.args.invalid)
+    paired_by s.args.marks.now s.args.lengths.now s.args.p s.args.invalid (marked e).if-marks-p-eq0.false ((kinds s).both e.if-kind-eq-KIND_NONE.false e.if-kind-eq-KIND_NEXT.false c.if-kind-eq-KIND_TARGET.false)
+    (pair_both s.args.lengths.now s.args.p s.requires.next (target s) c.beyond-x.result c.join.result c.beyond-x.ensures j.0 j.1)
+    (both_valid _ _ s.args.p s.args.invalid)
 
 pub pair_word_spec : {M : Type 1} → statement M
 pair_word_spec =
     tie.close
     (tie.spec
     (λ c. search rules)
-    (λ c. let s = c.before.before.before.before in paired_none (m s) (l s) (p s) s.args.invalid c.if1.true)
+    (λ c. paired_none c.args.marks.now c.args.lengths.now c.args.p c.args.invalid c.if-marks-p-eq0.true)
     (λ c. search rules)
     (λ c. search rules)
     (λ c. let k = next_both (enter c.before.before) in omega (arith, k.0, k.1))
@@ -115,9 +110,8 @@ pair_word_spec =
     returns_5
     (λ c κs. search rules)
     (λ c.
-    let b = c.before.before in
-    let k = few b in
-    let n = next_both (start (third b)) in
+    let k = few c.before.before in
+    let n = next_both (start (third c.before.before)) in
     let j = c.join.ensures in
     omega (arith, k.0, k.1, n.0, n.1, j.0, j.1))
     returns_6)

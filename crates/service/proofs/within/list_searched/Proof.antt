@@ -1,44 +1,24 @@
-use mathlib.Core.List.{List}
-use Prim.Native.Nat.{ℕ}
 use borrow.Author.Rules.{rules}
 use Rattle.service.proofs.Outcome.{listing_refused, listing_accepted}
 use Rattle.service.proofs.within.list_searched.Statement.{statement}
 use Rattle.service.proofs.within.list_searched.Tie as tie
 
--- what the function is lent
-module _ (s : tie.Start) where
-  abbrev m : List ℕ
-  m = s.args.marks.now
-
-  abbrev l : List ℕ
-  l = s.args.lengths.now
-
-  abbrev list : List ℕ
-  list = s.args.list.now
-
 -- where all words are paired
-abbrev start : tie.After-pair-words → tie.Start
+abbrev start : tie.After-pair_words-invalid → tie.Start
 start c = c.before.before.before.before.before
 
-returns : tie.Need-returns
+returns : tie.Need-returns-then-invalid-n
 returns c =
-    let k = c.before.before in
-    let t = k.before.before in
-    let w = t.before.before.before in
-    let s = start w in
-    listing_refused (m s) (l s) s.pre.0 s.args.d (list s) s.pre.1 w.pair-words.ensures
-    w.pair-words.auto.1.0 t.if1.true k.clear-lengths.ensures
+    let s = start c.before.before.before.before.before.before.before in
+    listing_refused s.args.marks.now s.args.lengths.now s.requires.0 s.args.d s.args.list.now s.requires.1 c.pair_words-invalid.ensures
+    c.pair_words-invalid.auto.lengths c.if-invalid-n.true c.clear_lengths.ensures
 
-returns_2 : tie.Need-returns-2
+returns_2 : tie.Need-returns
 returns_2 c =
-    let k = c.before.before.before.before in
-    let d = k.before.before.before in
-    let e = d.before in
-    let w = e.before.before.before in
-    let s = start w in
-    listing_accepted (m s) (l s) s.pre.0 s.args.d (list s) s.pre.1 w.pair-words.ensures
-    w.pair-words.auto.1.0 e.if1.false d.shorten.ensures k.write-list.ensures.0
-    k.write-list.ensures.1
+    let s = start c.before.before.before.before.before.before.before.before.before.before.before in
+    listing_accepted s.args.marks.now s.args.lengths.now s.requires.0 s.args.d s.args.list.now s.requires.1 c.pair_words-invalid.ensures
+    c.pair_words-invalid.auto.lengths c.if-invalid-n.false c.shorten.ensures c.write_list.ensures.0
+    c.write_list.ensures.1
 
 pub list_searched_spec : {M : Type 1} → statement M
 list_searched_spec =

@@ -13,11 +13,10 @@ use Rattle.service.proofs.within.list_within.Statement.{statement}
 use Rattle.service.proofs.within.list_within.Tie as tie
 
 -- after the checks of the sizes: the script that is lent, and their number
-module _ (c : tie.After-size-refusal) where
+module _ (c : tie.After-size_refusal-number) where
   abbrev start : tie.Start
   start =
-      let at-smaller-size = c.before.before in
-      at-smaller-size.before.before.before.before.before
+      c.before.before.before.before.before.before.before
 
   abbrev script : Script
   script = script_of start.args.version start.args.words.now
@@ -25,18 +24,18 @@ module _ (c : tie.After-size-refusal) where
   abbrev list : ℕ
   list = length start.args.list.now
 
-  number : c.size-refusal.result ≡ sizes_number script.size (min list (min (length start.args.marks.now) (length start.args.lengths.now)))
+  number : c.size_refusal-number.result ≡ sizes_number script.size (min list (min (length start.args.marks.now) (length start.args.lengths.now)))
   number =
-      c.size-refusal.ensures ∙ ap (sizes_number script.size) c.before.smaller-size2.ensures
-      ∙ ap (λ (room : ℕ). sizes_number script.size (min list room)) c.before.before.smaller-size.ensures
+      c.size_refusal-number.ensures ∙ ap (sizes_number script.size) c.smaller_size.ensures
+      ∙ ap (λ (room : ℕ). sizes_number script.size (min list room)) c.smaller_size-room.ensures
 
 -- they are passed
-module _ (c : tie.Else1) where
+module _ (c : tie.Else-number-ne-ACCEPTED) where
   abbrev ws : Script
   ws = script c.before
 
   passed : Fits ws.size (length (start c.before).args.marks.now) (length (start c.before).args.lengths.now) × (ws.size ≤ list c.before)
-  passed = sizes_within ws _ _ (list c.before) (number c.before) c.if1.false
+  passed = sizes_within ws _ _ (list c.before) (number c.before) c.if-number-ne-ACCEPTED.false
 
 pub list_within_spec : {M : Type 1} → statement M
 list_within_spec =
@@ -45,7 +44,7 @@ list_within_spec =
     (λ c κs. search rules)
     (λ c κs. search rules)
     (λ c κs. search rules)
-    (λ c. within_early (script c.before) _ _ _ _ (number c.before) c.if1.true)
+    (λ c. within_early (script c.before) _ _ _ _ (number c.before) c.if-number-ne-ACCEPTED.true)
     (λ c. omega (arith, (passed c).0.marks_long))
     (λ c. sym (length-take-le _ _ (passed c.before).0.marks_long))
     (λ c. omega (arith, (passed c.before).0.lengths_long))
@@ -65,8 +64,5 @@ list_within_spec =
     (λ c. search rules)
     (λ c. search rules)
     (λ c.
-    let at-lengths = c.before.before.before in
-    let at-list-of-words = at-lengths.before.before.before in
-    let e = at-list-of-words.before.before.before.before in
-    let r = at-list-of-words.list-of-words.ensures in
-    within_late (ws e) _ _ (passed e).0 r.1.0 _ _ (passed e).1 r.0 r.1.1))
+    let r = c.list_of_words.ensures in
+    within_late (ws c.before.before.before.before.before.before.before.before.before.before) _ _ (passed c.before.before.before.before.before.before.before.before.before.before).0 r.1.0 _ _ (passed c.before.before.before.before.before.before.before.before.before.before).1 r.0 r.1.1))

@@ -6,6 +6,6 @@ pub listed_spec : {M : Type 1} → statement M
 listed_spec =
     tie.close
     (tie.spec
-    (λ c. rw (eq-eqb _ _ c.if1.true))
-    (λ c. rw (ne_eqb _ _ c.before.if1.false, le-leb _ _ c.if2.true))
-    (λ c. rw (ne_eqb _ _ c.before.if1.false, lt-leb _ _ c.if2.false)))
+    (λ c. rw (eq-eqb _ _ c.if-distance-eq0.true))
+    (λ c. rw (ne_eqb _ _ c.if-distance-eq0.false, le-leb _ _ c.if-distance-d.true))
+    (λ c. rw (ne_eqb _ _ c.if-distance-eq0.false, lt-leb _ _ c.if-distance-d.false)))
