@@ -12,5 +12,5 @@ first_cell_spec =
     (λ c. search rules)
     (λ c. search rules)
     (λ c. search rules)
-    (λ c. rw c.before.s.given.1)
-    (λ c. rw c.before.s2.given.1))
+    (λ c. rw c.in-One.is)
+    (λ c. rw c.in-Two.is))

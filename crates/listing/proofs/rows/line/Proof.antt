@@ -6,9 +6,7 @@ use Rattle.listing.proofs.rows.line.Tie as tie
 returns : tie.Need-returns
 unfolding line_at
 returns c =
-    let a = c.before.before in
-    let s = a.before.before.before.before in
-    rw (a.before.before.opcode.ensures, a.before.first_Cell.ensures, a.second-cell.ensures, s.successors.ensures) at c.row.ensures
+    rw (c.opcode.ensures, c.first_cell.ensures, c.second_cell.ensures, c.successors-s.ensures) at c.row.ensures
 
 pub line_spec : {M : Type 1} → statement M
 line_spec =

@@ -11,41 +11,37 @@ use Rattle.listing.proofs.Lines.{one_line_more, last_line}
 use Rattle.listing.proofs.rows.put_listing.Statement.{statement}
 use Rattle.listing.proofs.rows.put_listing.Tie as tie
 
-abbrev invariant_loop : tie.invariant-loop
+abbrev invariant_loop : tie.invariant-loop-p
 invariant_loop words lengths longest first page₀ n p₀ page p =
     (p ≤ length words) × (length page ≡ length page₀) × (page ≡ put page₀ 0 (listing_lines words lengths p))
 
-abbrev decreases_loop : tie.decreases-loop
+abbrev decreases_loop : tie.decreases-loop-p
 decreases_loop words lengths longest first page₀ n p₀ page p = n - p
 
-loop_holds : tie.Need-loop-init invariant_loop decreases_loop
+loop_holds : tie.Need-loop-p-init invariant_loop decreases_loop
 unfolding listing_lines
-loop_holds c = (omega arith, refl, put_laws.none c.before.before.before.args.page.now 0)
+loop_holds c = (omega arith, refl, put_laws.none c.args.page.now 0)
 
-loop_again : tie.Need-loop-preserved invariant_loop decreases_loop
+loop_again : tie.Need-loop-p-preserved invariant_loop decreases_loop
 loop_again c =
-    let t = c.before.before in
-    let turn = t.before.before.before.before.before in
-    let l = turn.loop in
-    let s = turn.before.before.before.before.args in (
+    let l = c.loop-p in
+    let s = c.args in (
       omega arith,
       omega arith,
       one_line_more s.words.now s.lengths.now s.page.now l.page
-          t.put-text.new.0 l.p l.invariant.2 (omega arith)
-          (rw t.before.before.line.ensures at t.put-text.ensures),
+          c.put_text.new.page l.p l.invariant.2 (omega arith)
+          (rw c.line.ensures at c.put_text.ensures),
     )
 
 returns : tie.Need-returns invariant_loop decreases_loop
 returns c =
-    let t = c.before.before in
-    let turn = t.before.before.before.before.before in
-    let l = turn.loop in
-    let s = turn.before.before.before.before.args in
+    let l = c.loop-p in
+    let s = c.args in
     let e : l.p ≡ length s.words.now = omega arith in (
       refl,
-      last_line s.words.now s.lengths.now s.page.now l.page t.put-text2.new.0
+      last_line s.words.now s.lengths.now s.page.now l.page c.put_text-2.new.page
           s.longest s.first (rw e at l.invariant.2) (omega arith)
-          (rw t.before.before.last_line.ensures at t.put-text2.ensures),
+          (rw c.last_line.ensures at c.put_text-2.ensures),
     )
 
 pub put_listing_spec : {M : Type 1} → statement M

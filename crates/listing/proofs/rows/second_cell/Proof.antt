@@ -13,4 +13,4 @@ second_cell_spec =
     (λ c. search rules)
     (λ c. search rules)
     (λ c. search rules)
-    (λ c. rw c.before.s.given.1))
+    (λ c. rw c.in-Two.is))

@@ -5,16 +5,15 @@ use native.Mathlib.Omega.{arith}
 use Rattle.listing.proofs.tables.put_held.Statement.{statement}
 use Rattle.listing.proofs.tables.put_held.Tie as tie
 
-slice_aggregate_put_answer : tie.Need-slice-aggregate-put-answer
+slice_aggregate_put_answer : tie.Need-slice_bounds-put_answer-end
 slice_aggregate_put_answer c =
-    let s = c.before.before.before.before.args in
+    let s = c.args in
     sym (length-take-le s.n s.buffer.now (omega arith))
 
-returns_2 : tie.Need-returns-2
+returns_2 : tie.Need-returns
 returns_2 c =
-    let at-put-answer2 = c.before.before in
-    let s = at-put-answer2.before.before.before.before.before.args in
-    rw (take_all s.n s.buffer.now (omega arith)) at-put-answer2.put-answer2.ensures
+    let s = c.args in
+    rw (take_all s.n s.buffer.now (omega arith)) c.put_answer-2.ensures
 
 pub put_held_spec : {M : Type 1} → statement M
 put_held_spec =

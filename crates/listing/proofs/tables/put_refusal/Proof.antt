@@ -5,8 +5,7 @@ use Rattle.listing.proofs.tables.put_refusal.Tie as tie
 
 returns : tie.Need-returns
 returns c =
-    let at-refusal-line = c.before.before.before.before in
-    (refl, rw at-refusal-line.refusal-line.ensures at c.before.before.put-text.ensures)
+    (refl, rw c.refusal_line.ensures at c.put_text.ensures)
 
 pub put_refusal_spec : {M : Type 1} → statement M
 put_refusal_spec =
