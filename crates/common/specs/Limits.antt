@@ -56,7 +56,7 @@ abbrev pub levels_below : ℕ
 levels_below = 31
 
 -- llimits.h: MAX_SIZET of a 64-bit size_t, and limits.h's INT_MAX of a 32-bit int: the limits that
--- load_size and load_int pass on
+-- loadSize and loadInt pass on
 abbrev pub size_max : ℕ
 size_max = 18446744073709551615
 

@@ -39,7 +39,7 @@ pub const MOST_BYTES: usize = 4294967295;
 // Number 16: the reader goes down 32 levels, and the main function is the first (request C-11).
 pub const LEVELS_BELOW: u32 = 31;
 
-// Number 15: MAX_SIZET and INT_MAX, what load_size and load_int hand to load_unsigned.
+// Number 15: MAX_SIZET and INT_MAX, what loadSize and loadInt hand to loadUnsigned.
 pub const SIZE_MAX: usize = 18446744073709551615;
 
 pub const INT_MAX: usize = 2147483647;

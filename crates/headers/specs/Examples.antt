@@ -1,4 +1,4 @@
--- Why a file is refused, on bytes written by hand after lundump.c's check_header.
+-- Why a file is refused, on bytes written by hand after lundump.c's checkHeader.
 -- Assumes nothing.
 use Rattle.std.specs.Prelude.{◌≡◌, List, [], ◌∷◌, ◌++◌, ℕ}
 use Rattle.lundump.specs.Examples.{header}

@@ -1,4 +1,4 @@
--- Why a file is refused, in the order of its header's bytes: lundump.c's check_header says "not a binary
+-- Why a file is refused, in the order of its header's bytes: lundump.c's checkHeader says "not a binary
 -- chunk", "version mismatch", "format mismatch", "corrupted chunk", "Instruction size mismatch" and so on,
 -- of which request C-11 keeps one number, 14.
 -- Assumes nothing.
@@ -27,7 +27,7 @@ signed bytes =
     && (eqb (get_or bytes 2 0) 117
     && eqb (get_or bytes 3 0) 97)))
 
--- behind the version: a byte of check_header differs, or none does as far as there are bytes
+-- behind the version: a byte of checkHeader differs, or none does as far as there are bytes
 abbrev pub header_reason : Cursor → Why
 header_reason (At at v) = Damaged
 header_reason (Refused refusal.Header) = OtherNumbers

@@ -455,7 +455,7 @@ module _ (level : ℕ) (bytes : List ℕ) (start n outer first : ℕ) (pl₀ pa�
               (λ a b. (put_laws.none pl (first + total), put_laws.none pa (first + total)))),
         )
 
--- ---- load_protos
+-- ---- loadProtos
 module _ (bytes : List ℕ) (level : ℕ) (c count : Cursor) (e : count ≡ step same load_int bytes c) (outer first : ℕ) (pl pa : List ℕ) where
   abbrev Done : Cursor → List ℕ → List ℕ → Type 0
   Done r pl' pa' = (r ≡ step length (load_protos level) bytes c) × WroteAt (load_protos level) bytes c outer first pl pa pl' pa'

@@ -1,4 +1,4 @@
--- Whether a chunk ends early, on bytes written by hand after lundump.c's load_function.
+-- Whether a chunk ends early, on bytes written by hand after lundump.c's loadFunction.
 -- Assumes nothing.
 use Rattle.std.specs.Prelude.{◌≡◌, true, false, List, [], ◌∷◌, ◌++◌, ℕ, replicate}
 use Rattle.lundump.specs.Examples.{header}

@@ -131,7 +131,7 @@ fn past(i: usize, n: usize, room: usize) -> usize
     i
 }
 
-// load_function, with so many levels left below it: it has number i and stands in `parent`.
+// loadFunction, with so many levels left below it: it has number i and stands in `parent`.
 // How many functions it is with those within it.
 #[cycle(list_function_list_protos)]
 fn list_function(
@@ -166,7 +166,7 @@ fn list_function(
     with_count(last, value(inner) + 1)
 }
 
-// load_protos: the first function within has number `first`, and all stand in `parent`. How many functions
+// loadProtos: the first function within has number `first`, and all stand in `parent`. How many functions
 // they are with those within them.
 #[cycle(list_function_list_protos)]
 fn list_protos(

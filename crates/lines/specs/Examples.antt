@@ -1,4 +1,4 @@
--- Which number of a head is which, on bytes written by hand after lundump.c's load_function.
+-- Which number of a head is which, on bytes written by hand after lundump.c's loadFunction.
 -- Assumes nothing.
 use Rattle.std.specs.Prelude.{◌≡◌, List, [], ◌∷◌, ◌++◌, ℕ}
 use Rattle.lundump.specs.Examples.{header}
@@ -7,7 +7,7 @@ use Rattle.lines.specs.declared.choosing.Choice.TheVariants.{Number, Place}
 use Rattle.lines.specs.declared.heads.FlatHead.{FlatHead}
 use Rattle.lines.specs.Heads.{head_of, head_told}
 
--- Two functions, of which the second, from byte 48 on, stands in the first. load_function reads of each the
+-- Two functions, of which the second, from byte 48 on, stands in the first. loadFunction reads of each the
 -- source ("@a", which starts at byte 33, and none), linedefined, lastlinedefined, numparams, is_vararg and
 -- maxstacksize; then one word, no constant, no upvalue, the functions within it and no debug information.
 -- A number that is no byte has its last seven bits in a byte above 127: 300 is 2, 172

@@ -1,4 +1,4 @@
--- load_function's head with all that it reads, where load_head of lundump/specs/Lundump.antt keeps the last
+-- loadFunction's head with all that it reads, where load_head of lundump/specs/Lundump.antt keeps the last
 -- number only; and what is told of it.
 -- Assumes nothing.
 use Rattle.std.specs.Prelude.{◌≡◌, List, ℕ, leb, length}

@@ -38,7 +38,7 @@ unfoldable pub read_info : Reader Vector
 read_info bytes at = bind (load_int bytes at)
     (λ n at₁. bind (load_block n bytes at₁) (λ _ at₂. done (record { start = at₁; count = n }) at₂))
 
--- loadDebug: `f->abslineinfo[i].pc = load_int(S); f->abslineinfo[i].line = load_int(S)`
+-- loadDebug: `f->abslineinfo[i].pc = loadInt(S); f->abslineinfo[i].line = loadInt(S)`
 unfoldable pub read_abs : Reader AbsLine
 read_abs bytes at = bind (load_int bytes at)
     (λ pc at₁. bind (load_int bytes at₁) (λ line at₂. done (record { pc = pc; line = line }) at₂))

@@ -1,4 +1,4 @@
-// What load_function reads ahead of a function's parts: its source, lines, parameters and stack size.
+// What loadFunction reads ahead of a function's parts: its source, lines, parameters and stack size.
 ghost use Rattle.std.specs.Prelude.{◌≡◌};
 ghost use Rattle.loaders.specs.Cursors.{BytesBounded};
 ghost use Rattle.lines.specs.Heads.{read_head, head_told, head_refused, head_of, head_from};

@@ -46,7 +46,7 @@ pub block_inside : (size at : ℕ) (bytes : List ℕ) (next : ℕ) → load_bloc
 unfolding load_block
 block_inside size at bytes next h = in_bytes size at bytes (leb (at + size) (length bytes)) refl next h
 
--- ---- load_string_n
+-- ---- loadStringN
 module _ (bytes : List ℕ) (at : ℕ) (d : Cursor) (h : d ≡ cursor_of same (load_size bytes at)) where
   pub size_refused : (e x : Refusal) → d ≡ Refused e → x ≡ refusal_of d → read.Refused x ≡ string_read (load_string_n bytes at)
   unfolding load_string_n

@@ -1,4 +1,4 @@
--- The loop of load_unsigned, a byte at a time.
+-- The loop of loadUnsigned, a byte at a time.
 -- Assumes nothing.
 use mathlib.Core.Path.{◌≡◌}
 use mathlib.Core.List.{List}

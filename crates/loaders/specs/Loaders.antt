@@ -1,5 +1,6 @@
 -- lundump.c of Lua 5.4.8, "for 4-byte words, 8-byte integers and 8-byte floats, little-endian": a reader
--- for each of its functions up to load_string, under its name and in its order, and for load_constants' switch.
+-- for each of its functions up to loadString, under its name in snake case and in its order, and for
+-- loadConstants' switch.
 -- What the C refuses by `error` is 15 here. Document 02 adds the unknown tag (3).
 -- Assumes nothing.
 use Rattle.std.specs.Prelude.{cond, List, [], ◌∷◌, ℕ, zero, suc, ◌+◌, ◌*◌, ◌/◌, ◌%◌, ltb, leb, eqb, length, drop, get_or}
@@ -16,15 +17,15 @@ use Rattle.loaders.specs.declared.reading.Refusal.TheVariants.{Malformed, Unknow
 use Rattle.common.specs.Limits.{size_max, int_max}
 use Rattle.loaders.specs.Reading.{Result, done, refused, Reader, bind, only, little_end}
 
--- load_block: `size` bytes, or "truncated chunk". What they hold is looked up by position
+-- loadBlock: `size` bytes, or "truncated chunk". What they hold is looked up by position
 unfoldable pub load_block : ℕ → Reader (Unit {0})
 load_block size bytes at = only (leb (at + size) (length bytes)) (done tt (at + size))
 
--- load_byte
+-- loadByte
 unfoldable pub load_byte : Reader ℕ
 load_byte bytes at = only (ltb at (length bytes)) (done (get_or bytes at 0) (at + 1))
 
--- load_unsigned's loop, where x is read and `limit` was shifted: after load_byte `if (x >= limit) error`, then
+-- loadUnsigned's loop, where x is read and `limit` was shifted: after loadByte `if (x >= limit) error`, then
 -- `x = (x << 7) | (b & 0x7f)`, `while ((b & 0x80) == 0)`
 unfoldable pub unsigned_from : ℕ → ℕ → ℕ → List ℕ → Result ℕ
 unsigned_from limit x at [] = refused Malformed
@@ -33,23 +34,23 @@ unsigned_from limit x at (b ∷ rest) =
     let more = unsigned_from limit y (at + 1) rest in
     only (ltb x limit) (cond (leb 128 b) (done y (at + 1)) more)
 
--- load_unsigned: `limit >>= 7`, and the loop
+-- loadUnsigned: `limit >>= 7`, and the loop
 unfoldable pub load_unsigned : ℕ → Reader ℕ
 load_unsigned limit bytes at = unsigned_from (limit / 128) 0 at (drop at bytes)
 
--- load_size
+-- loadSize
 abbrev pub load_size : Reader ℕ
 load_size = load_unsigned size_max
 
--- load_int
+-- loadInt
 abbrev pub load_int : Reader ℕ
 load_int = load_unsigned int_max
 
--- load_number: a float's bits
+-- loadNumber: a float's bits
 unfoldable pub load_number : Reader ℕ
 load_number bytes at = bind (load_block 8 bytes at) (λ _ at₁. done (little_end 8 bytes at) at₁)
 
--- load_integer
+-- loadInteger
 unfoldable pub load_integer : Reader ℕ
 load_integer bytes at = bind (load_block 8 bytes at) (λ _ at₁. done (little_end 8 bytes at) at₁)
 
@@ -58,7 +59,7 @@ pub data Text : Type 0 where
   absent : Text
   text : ℕ → ℕ → Text
 
--- load_string_n: "no string?", or `--size` bytes
+-- loadStringN: "no string?", or `--size` bytes
 unfoldable pub string_of : ℕ → Reader Text
 string_of zero bytes at = done absent at
 string_of (suc size) bytes at = bind (load_block size bytes at) (λ _ at₁. done (text at size) at₁)
@@ -66,12 +67,12 @@ string_of (suc size) bytes at = bind (load_block size bytes at) (λ _ at₁. don
 unfoldable pub load_string_n : Reader Text
 load_string_n bytes at = bind (load_size bytes at) (λ size at₁. string_of size bytes at₁)
 
--- what load_constants makes of a constant: a tag with its payload, or a string's start and length
+-- what loadConstants makes of a constant: a tag with its payload, or a string's start and length
 pub data Constant : Type 0 where
   plain : ℕ → ℕ → Constant
   string : ℕ → ℕ → Constant
 
--- load_string, as it stands in a constant: "a constant string is absent" is 15
+-- loadString, as it stands in a constant: "a constant string is absent" is 15
 abbrev pub present : Text → ℕ → Result Constant
 present absent at = refused Malformed
 present (text start size) at = done (string start size) at
@@ -79,7 +80,7 @@ present (text start size) at = done (string start size) at
 unfoldable pub load_string : Reader Constant
 load_string bytes at = bind (load_string_n bytes at) present
 
--- load_constants: its `switch (t)`. "Payloads of nil, false and true are given as 0"; "An unknown constant tag
+-- loadConstants: its `switch (t)`. "Payloads of nil, false and true are given as 0"; "An unknown constant tag
 -- is number 3 with its index"
 unfoldable pub constant_by_tag : ℕ → ℕ → Reader Constant
 constant_by_tag i t bytes at =

@@ -18,7 +18,7 @@ pub enum Packed {
     Refused(Refusal),
 }
 
-// load_number and load_integer, behind a tag
+// loadNumber and loadInteger, behind a tag
 fn eight_bytes(chunk: &[u8], at: usize, tag: u8) -> Packed
     ensures { result ≡ packed_of (bind (load_integer chunk.now at) (λ x at₁. done (plain tag x) at₁)) }
 {
@@ -40,7 +40,7 @@ fn string_tag(length: usize) -> u8
     }
 }
 
-// load_string
+// loadString
 fn required_string(chunk: &[u8], at: usize) -> Packed
     requires { BytesBounded chunk.now }
     ensures { result ≡ packed_of (load_string chunk.now at) }
@@ -57,7 +57,7 @@ fn required_string(chunk: &[u8], at: usize) -> Packed
     }
 }
 
-// load_constants' switch: constant i as it is lent.
+// loadConstants' switch: constant i as it is lent.
 pub fn packed_at(chunk: &[u8], at: usize, i: usize) -> Packed
     requires { BytesBounded chunk.now }
     ensures { result ≡ packed_of (load_constant i chunk.now at) }
@@ -79,7 +79,7 @@ pub fn packed_at(chunk: &[u8], at: usize, i: usize) -> Packed
     }
 }
 
-// load_string, passed
+// loadString, passed
 fn passed_string(chunk: &[u8], at: usize) -> Cursor
     ensures { result ≡ cursor_of none (load_string chunk.now at) }
 {

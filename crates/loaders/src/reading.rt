@@ -38,7 +38,7 @@ pub enum Cursor {
     Refused(Refusal),
 }
 
-// load_byte
+// loadByte
 pub fn byte(chunk: &[u8], c: Cursor) -> Cursor
     ensures { result ≡ step same load_byte chunk.now c }
 {
@@ -51,7 +51,7 @@ pub fn byte(chunk: &[u8], c: Cursor) -> Cursor
     Cursor::Refused(Refusal::Malformed)
 }
 
-// load_unsigned: seven bits a byte, the highest first; the last byte has its top bit set.
+// loadUnsigned: seven bits a byte, the highest first; the last byte has its top bit set.
 // The limit is tried before the shift.
 pub(crate) fn unsigned_at(chunk: &[u8], from: usize, limit: usize) -> Cursor
     ensures { result ≡ cursor_of same (load_unsigned limit chunk.now from) }
@@ -73,7 +73,7 @@ pub(crate) fn unsigned_at(chunk: &[u8], from: usize, limit: usize) -> Cursor
     Cursor::Refused(Refusal::Malformed)
 }
 
-// load_int
+// loadInt
 pub fn int(chunk: &[u8], c: Cursor) -> Cursor
     ensures { result ≡ step same load_int chunk.now c }
 {
@@ -83,7 +83,7 @@ pub fn int(chunk: &[u8], c: Cursor) -> Cursor
     unsigned_at(chunk, at, INT_MAX)
 }
 
-// load_block, of so many bytes
+// loadBlock, of so many bytes
 pub fn block(chunk: &[u8], c: Cursor, size: usize) -> Cursor
     ensures { result ≡ step none (load_block size) chunk.now c }
 {

@@ -23,7 +23,7 @@ pub enum Placed {
     Refused(Refusal),
 }
 
-// load_string_n
+// loadStringN
 pub(crate) fn string_at(chunk: &[u8], at: usize) -> StringRead
     ensures { result ≡ string_read (load_string_n chunk.now at) }
 {

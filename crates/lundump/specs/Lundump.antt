@@ -1,8 +1,8 @@
 -- lundump.c of Lua 5.4.8, "for 4-byte words, 8-byte integers and 8-byte floats, little-endian": a reader
--- for each of its functions, under its name and in its order, but that load_protos stands after load_function
--- (which the C declares ahead of it), loadDebug is load_lines and then load_names, checkliteral and fchecksize
--- are both check_bytes, and luaU_undump is undump. Those up to load_string, and load_constants' switch, stand in
--- the crate `loaders`, in specs/Loaders.antt.
+-- for each of its functions, under its name in snake case and in its order, but that loadProtos stands after
+-- loadFunction (which the C declares ahead of it), loadDebug is load_lines and then load_names, checkliteral
+-- and fchecksize are both check_bytes, and luaU_undump is undump. Those up to loadString, and loadConstants'
+-- switch, stand in the crate `loaders`, in specs/Loaders.antt.
 -- What the C refuses by `error` is 15 here, a header byte that differs 14. Document 02 adds the limits on
 -- counts (15), the unknown tag (3)
 -- and the levels (16).
@@ -40,7 +40,7 @@ load_items most r bytes at =
     bind (load_int bytes at) (λ n at₁.
     only (leb n most) (repeat r 0 n bytes at₁))
 
--- load_code: the words, 4 bytes each
+-- loadCode: the words, 4 bytes each
 unfoldable pub words_from : ℕ → List ℕ → ℕ → List ℕ
 words_from zero bytes at = []
 words_from (suc n) bytes at = little_end 4 bytes at ∷ words_from n bytes (at + 4)
@@ -52,12 +52,12 @@ load_code bytes at =
 abbrev pub load_constants : Reader (List Constant)
 load_constants = load_items most_constants load_constant
 
--- load_upvalues: instack, idx and kind, a byte each, of which only the number of upvalues counts here
+-- loadUpvalues: instack, idx and kind, a byte each, of which only the number of upvalues counts here
 unfoldable pub load_upvalues : Reader ℕ
 load_upvalues bytes at = bind (load_vector most_names 3 bytes at) (λ v at₁. done v.count at₁)
 
 -- loadDebug: lineinfo, abslineinfo and locvars. Document 02 sets their counts no limit:
--- load_int's is the only one
+-- loadInt's is the only one
 unfoldable pub load_abs_line : ℕ → Reader ℕ
 load_abs_line i = and_then load_int load_int
 
@@ -95,12 +95,12 @@ pub record Function : Type 0 where
   pub names : List Text
   pub end_at : ℕ
 
--- load_function, ahead of its parts: source, linedefined, lastlinedefined, numparams, is_vararg, maxstacksize
+-- loadFunction, ahead of its parts: source, linedefined, lastlinedefined, numparams, is_vararg, maxstacksize
 unfoldable pub load_head : Reader ℕ
 load_head =
     and_then load_string_n (and_then load_int (and_then load_int (and_then load_byte (and_then load_byte load_byte))))
 
--- load_function, over a load_protos: the function, and then those within it, so that "Functions count
+-- loadFunction, over a loadProtos: the function, and then those within it, so that "Functions count
 -- from 0 by their first byte"
 unfoldable pub function_with : Reader (List Function) → Reader (List Function)
 function_with load_protos bytes at =
@@ -125,7 +125,7 @@ function_with load_protos bytes at =
       end_at = at₇;
     } ∷ inner) at₇)))))))
 
--- load_protos: n functions, each with those within it
+-- loadProtos: n functions, each with those within it
 unfoldable pub several : Reader (List Function) → ℕ → Reader (List Function)
 several r zero bytes at = done [] at
 several r (suc n) bytes at =
@@ -138,7 +138,7 @@ unfoldable pub none_of : ℕ → Reader (List Function)
 none_of zero bytes at = done [] at
 none_of (suc n) bytes at = refused TooDeep
 
--- load_protos, with so many levels left: "the remaining level allowance" falls by one at each function within
+-- loadProtos, with so many levels left: "the remaining level allowance" falls by one at each function within
 unfoldable pub load_protos : ℕ → Reader (List Function)
 load_protos zero bytes at = bind (load_int bytes at) (λ n at₁. none_of n bytes at₁)
 load_protos (suc level) bytes at =
@@ -147,14 +147,14 @@ load_protos (suc level) bytes at =
 abbrev pub load_function : ℕ → Reader (List Function)
 load_function level = function_with (load_protos level)
 
--- checkliteral, fchecksize and the comparisons of check_header, byte by byte: "14 a header byte that differs",
+-- checkliteral, fchecksize and the comparisons of checkHeader, byte by byte: "14 a header byte that differs",
 -- 15 where the bytes end before
 unfoldable pub check_bytes : List ℕ → Reader (Unit {0})
 check_bytes [] bytes at = done tt at
 check_bytes (h ∷ hs) bytes at = bind (load_byte bytes at)
     (λ b at₁. let more = check_bytes hs bytes at₁ in cond (eqb b h) more (refused Header))
 
--- check_header: LUA_SIGNATURE "\x1bLua"; LUAC_VERSION 0x54, LUAC_FORMAT 0; LUAC_DATA "\x19\x93\r\n\x1a\n";
+-- checkHeader: LUA_SIGNATURE "\x1bLua"; LUAC_VERSION 0x54, LUAC_FORMAT 0; LUAC_DATA "\x19\x93\r\n\x1a\n";
 -- the sizes of Instruction, lua_Integer and lua_Number; LUAC_INT 0x5678; LUAC_NUM 370.5, whose
 -- bits are 0x4077280000000000
 abbrev pub header_bytes : List ℕ

@@ -84,7 +84,7 @@ fn finish(s: Search, own: Layout, inner: Walk, last: Cursor) -> Walk
     Walk::Past(at, standing(inner))
 }
 
-// load_function, with so many levels left below it
+// loadFunction, with so many levels left below it
 #[cycle(function_protos)]
 pub fn function(chunk: &[u8], c: Cursor, level: u32, s: Search) -> Walk
     ensures { result ≡ walk (load_function level) chunk.now c s }
@@ -110,7 +110,7 @@ pub fn function(chunk: &[u8], c: Cursor, level: u32, s: Search) -> Walk
     finish(s, own, inner, last)
 }
 
-// load_protos: a level 33 is met at the count that needs it
+// loadProtos: a level 33 is met at the count that needs it
 #[cycle(function_protos)]
 fn protos(chunk: &[u8], c: Cursor, level: u32, s: Search) -> Walk
     ensures { result ≡ walk (load_protos level) chunk.now c s }

@@ -38,7 +38,7 @@ fn literal(chunk: &[u8], expected: &[u8]) -> Cursor
     Cursor::At(i, 0)
 }
 
-// check_header
+// checkHeader
 pub fn header(chunk: &[u8]) -> Cursor
     ensures { result ≡ cursor_of none (check_header chunk.now 0) }
 {

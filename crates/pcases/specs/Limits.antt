@@ -26,8 +26,8 @@ pub record Limits : Type 0 where
   pub levels : limit.levels_below ≡ 31
   -- request C-11: "A string's tag is 4 up to 40 bytes and 20 above"
   pub short : limit.short_length ≡ 40
-  -- request C-11: "a number overflows lundump.c's own limit": INT_MAX, 2^31 - 1, of load_int, and MAX_SIZET,
-  -- 2^64 - 1, of load_size
+  -- request C-11: "a number overflows lundump.c's own limit": INT_MAX, 2^31 - 1, of loadInt, and MAX_SIZET,
+  -- 2^64 - 1, of loadSize
   pub int : limit.int_max ≡ 2147483647
   pub size : limit.size_max ≡ 18446744073709551615
   -- request C-17: "Let the caller lend 128 weights of 1 to 255"

@@ -42,7 +42,7 @@ pub data Access : Type 0 where
   -- for (; n > 0; n--) { TValue *val = s2v(ra + n); .. }, where n = GETARG_B(i), or L->top.p - ra - 1
   elements : Access
   -- 5.3.6: ISK(GETARG_B(i)) ? k+INDEXK(GETARG_B(i)) : base+GETARG_B(i), and the same of C;
-  -- its RB(i) is v_rb's register
+  -- its RB(i) is vRB's register
   RKB-isk : Access
   RKC-isk : Access
   -- 5.3.6, "CONCAT [goes] by [its] formula": R(B).. ... ..R(C)

@@ -8,7 +8,7 @@ use lib.Bits.{and_high}
 use lib.Dec.{T, eqb, eqb→eq}
 use Rattle.fields.specs.Laws.{all}
 use Rattle.fields.proofs.Laws.{laws}
-use Rattle.touches.specs.Isk.{«ISK», «INDEXK», ResultKind}
+use Rattle.touches.specs.Isk.{«ISK», «INDEXK», RK}
 
 cleared : ℕ → Bool
 cleared x = eqb («INDEXK» x) (x - x / 256 % 2 * 256)
@@ -25,5 +25,5 @@ clears x h = eqb→eq _ _ (laws.each_below cleared 1024 all_cleared x h)
 pub bit : (x : ℕ) → «ISK» x ≡ x / 256 % 2 * 256
 bit x = and_high x 1 8
 
-pub rk : ResultKind
+pub rk : RK
 rk = record { isk = bit; indexk = λ x h. clears x (omega arith) ∙ omega arith }

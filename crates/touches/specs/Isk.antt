@@ -18,6 +18,6 @@ abbrev pub «INDEXK» : ℕ → ℕ
 «INDEXK» r = bit_and r (2 ^ 32 - 1 - «BITRK»)
 
 -- by number: the ninth bit of an argument, and the eight below it
-pub record ResultKind : Type 0 where
+pub record RK : Type 0 where
   pub isk : (x : ℕ) → «ISK» x ≡ x / 256 % 2 * 256
   pub indexk : (x : ℕ) → x < 512 → «INDEXK» x ≡ x % 256

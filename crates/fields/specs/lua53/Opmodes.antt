@@ -1,4 +1,4 @@
--- lua_p_opmodes of lopcodes.c, Lua 5.3.6, row for row, in the C's own shape. `Agreement` holds the opcode
+-- luaP_opmodes of lopcodes.c, Lua 5.3.6, row for row, in the C's own shape. `Agreement` holds the opcode
 -- table's modes, and the companion of a test, against it. Its columns A, B and C say what a word's arguments
 -- are, which the table of steps does not have.
 -- Assumes nothing.
@@ -83,11 +83,11 @@ lua_p_opmodes =
     ∷ opmode 0 0 «OpArgU» «OpArgU» i_ax op.OP_EXTRAARG
     ∷ []
 
--- get_op_mode
+-- getOpMode
 abbrev pub get_op_mode : Opmode → OpMode
 get_op_mode (opmode t a b c m name) = m
 
--- test_tmode, "operator is a test (next instruction must be a jump)"
+-- testTMode, "operator is a test (next instruction must be a jump)"
 abbrev pub test_tmode : Opmode → ℕ
 test_tmode (opmode t a b c m name) = t
 

@@ -1,4 +1,4 @@
--- lua_p_opmodes of lopcodes.c, Lua 5.4.8, row for row, in the C's own shape. `Agreement` holds the opcode
+-- luaP_opmodes of lopcodes.c, Lua 5.4.8, row for row, in the C's own shape. `Agreement` holds the opcode
 -- table's modes, and two of its companions, against it.
 -- Assumes nothing.
 use Rattle.std.specs.Prelude.{ℕ, ◌≡◌, List, [], ◌∷◌, map}
@@ -115,15 +115,15 @@ lua_p_opmodes =
     ∷ opmode 0 0 0 0 0 i_ax op.OP_EXTRAARG
     ∷ []
 
--- get_op_mode
+-- getOpMode
 abbrev pub get_op_mode : Opmode → OpMode54
 get_op_mode (opmode mm ot it t a m name) = m
 
--- test_tmode, "operator is a test (next instruction must be a jump)"
+-- testTMode, "operator is a test (next instruction must be a jump)"
 abbrev pub test_tmode : Opmode → ℕ
 test_tmode (opmode mm ot it t a m name) = t
 
--- test_mmmode, "instruction is an MM instruction (call a metamethod)"
+-- testMMMode, "instruction is an MM instruction (call a metamethod)"
 abbrev pub test_mmmode : Opmode → ℕ
 test_mmmode (opmode mm ot it t a m name) = mm
 

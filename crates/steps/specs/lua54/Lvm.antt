@@ -99,7 +99,7 @@ abbrev pub skipping : List Access → List Access → Body
 skipping reads stores = arm «pc++» (run reads stores ∷ []) ∷ []
 
 -- pc++ where the operands are numbers that the operation takes, else on to the metamethod word:
--- #define op_arith_i(L,iop,fop); SHRI and SHLI have it written out
+-- #define op_arithI(L,iop,fop); SHRI and SHLI have it written out
 abbrev op_arith_i : Body
 op_arith_i =
     arm «pc++» (run (v_rb ∷ []) («ra» ∷ []) ∷ [])
@@ -119,7 +119,7 @@ op_arith_aux v1 v2 =
 abbrev op_arith : Body
 op_arith = op_arith_aux v_rb v_rc
 
--- op_arith_k, op_arithfK, op_bitwiseK
+-- op_arithK, op_arithfK, op_bitwiseK
 abbrev op_arith_k : Body
 op_arith_k = op_arith_aux v_rb KC
 

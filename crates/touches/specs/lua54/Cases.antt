@@ -65,17 +65,17 @@ switch =
     ∷ vmcase op.OP_GETI (always («R[B]» ∷ []) («R[A]» ∷ []))
     -- R[A] := R[B][K[C]:shortstring]
     ∷ vmcase op.OP_GETFIELD (always («R[B]» ∷ «K[C]» ∷ []) («R[A]» ∷ []))
-    -- UpValue[A][K[B]:shortstring] := ResultKind(C)
+    -- UpValue[A][K[B]:shortstring] := RK(C)
     ∷ vmcase op.OP_SETTABUP (always («UpValue[A]» ∷ «K[B]» ∷ «RK[C]» ∷ []) [])
-    -- R[A][R[B]] := ResultKind(C)
+    -- R[A][R[B]] := RK(C)
     ∷ vmcase op.OP_SETTABLE (always («R[A]» ∷ «R[B]» ∷ «RK[C]» ∷ []) [])
-    -- R[A][B] := ResultKind(C)
+    -- R[A][B] := RK(C)
     ∷ vmcase op.OP_SETI (always («R[A]» ∷ «RK[C]» ∷ []) [])
-    -- R[A][K[B]:shortstring] := ResultKind(C)
+    -- R[A][K[B]:shortstring] := RK(C)
     ∷ vmcase op.OP_SETFIELD (always («R[A]» ∷ «K[B]» ∷ «RK[C]» ∷ []) [])
     -- R[A] := {}
     ∷ vmcase op.OP_NEWTABLE (always [] («R[A]» ∷ []))
-    -- R[A+1] := R[B]; R[A] := R[B][ResultKind(C):string]
+    -- R[A+1] := R[B]; R[A] := R[B][RK(C):string]
     ∷ vmcase op.OP_SELF (always («R[B]» ∷ «RK[C]» ∷ []) («R[A+1]» ∷ «R[A]» ∷ []))
     -- R[A] := R[B] + sC; pc++
     ∷ vmcase op.OP_ADDI (on_edge («R[B]» ∷ []) [] «p+2» («R[A]» ∷ []))
