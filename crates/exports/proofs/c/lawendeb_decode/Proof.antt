@@ -12,7 +12,7 @@ both : (m n : ℕ) (f g : RawInstruction54) → m ≡ n → f ≡ g → flat_fie
 both m n f g e e' = ap (λ (k : ℕ). flat_fields k f) e ∙ ap (flat_fields n) e'
 
 returns : tie.Need-returns
-returns c = c.flat-fields.ensures ∙ both _ _ _ _ c.before.before.mode.ensures c.before.decode.ensures
+returns c = c.flat_fields.ensures ∙ both _ _ _ _ c.mode.ensures c.decode.ensures
 
 pub lawendeb_decode_spec : {M : Type 1} → statement M
 lawendeb_decode_spec = tie.close (tie.spec (λ c κs. search rules) (λ c κs. search rules) (λ c κs. search rules) returns)

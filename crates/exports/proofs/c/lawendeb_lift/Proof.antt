@@ -13,25 +13,24 @@ use Rattle.lifted.proofs.Counted.{length_records}
 use Rattle.exports.proofs.c.lawendeb_lift.Statement.{statement}
 use Rattle.exports.proofs.c.lawendeb_lift.Tie as tie
 
-put_records_requires : tie.Need-put-records-requires
+put_records_requires : tie.Need-put_records-requires
 put_records_requires c κs =
-    let a = c.before.before.before.before.before.before.before.before.args in
+    let a = c.args in
     let words = a.words.now in
     let room = room_in a.numbers.now in
     let bytes = length a.bytes.now in
     let w = plan_laws (length words) a.tags.now a.payloads.now a.names.now bytes room in
-    rw c.before.planned.ensures
+    rw c.planned-plan.ensures
     (omega (arith, w.within_room), plan_recorded words a.tags.now a.payloads.now a.names.now bytes room)
 
 returns : tie.Need-returns
 returns c =
-    let t = c.before.before.before in
-    let a = t.before.before.before.before.before.before.before.before.before.args in (
-      rw t.before.before.planned.ensures,
-      rw (← t.before.before.planned.ensures) (rw (← length_records a.words.now
-          a.tags.now a.payloads.now a.names.now t.before.before.planned.result.count)
-          (t.put-records.ensures ∙ put_laws.start a.numbers.now (records_numbers a.words.now
-          a.tags.now a.payloads.now a.names.now t.before.before.planned.result.count))),
+    let a = c.args in (
+      rw c.planned-plan.ensures,
+      rw (← c.planned-plan.ensures) (rw (← length_records a.words.now
+          a.tags.now a.payloads.now a.names.now c.planned-plan.result.count)
+          (c.put_records.ensures ∙ put_laws.start a.numbers.now (records_numbers a.words.now
+          a.tags.now a.payloads.now a.names.now c.planned-plan.result.count))),
     )
 
 pub lawendeb_lift_spec : {M : Type 1} → statement M

@@ -6,8 +6,8 @@ use Rattle.exports.proofs.c.lawendeb_longest_run_3.Tie as tie
 
 returns : tie.Need-returns
 returns c =
-    let r = c.before.before.before.before.before.longest-run.ensures in
-    (rw r.0 at c.flat-run.ensures, (r.1.0, r.1.1))
+    let r = c.longest_run.ensures in
+    (rw r.0 at c.flat_run.ensures, (r.1.0, r.1.1))
 
 pub lawendeb_longest_run_3_spec : {M : Type 1} → statement M
 lawendeb_longest_run_3_spec =
