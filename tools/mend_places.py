@@ -29,6 +29,7 @@ P=re.compile(r"[\w\-'₀-₉]+(?:\.before)*")
 def run():
     r=subprocess.run(["rt","check"],cwd=f"crates/{crate}",capture_output=True,text=True)
     return r.stdout+r.stderr
+left=[]; L=[]
 for it in range(rounds):
     out=run()
     open(f"/tmp/mend-{crate}.log","w").write(out)
