@@ -9,6 +9,12 @@ for k,v in names.items():
     if not m: continue
     old={p[0]:n for p,n in zip(v["places"],v["places_by_name"])}
     parent={n:old.get(p[1]) for p,n in zip(v["places"],v["places_by_name"])}
+    # an arm is one record, `before` which stands the place before the match
+    for n in list(parent):
+        if n.startswith("In-"):
+            a=n
+            while parent.get(a) and re.fullmatch(re.escape(n)+r"-\d+",parent[a]): a=parent[a]
+            parent[n]=parent[a]
     step={n:(p[2][1] if p[2] else None) for p,n in zip(v["places"],v["places_by_name"])}
     info[m[1].replace("proofs.","",1)]=(parent,step)
 def base(n): return re.sub(r"-unread$","",n)
@@ -23,6 +29,7 @@ P=re.compile(r"[\w\-'₀-₉]+(?:\.before)*")
 def run():
     r=subprocess.run(["rt","check"],cwd=f"crates/{crate}",capture_output=True,text=True)
     return r.stdout+r.stderr
+left=[]; L=[]
 for it in range(rounds):
     out=run()
     open(f"/tmp/mend-{crate}.log","w").write(out)

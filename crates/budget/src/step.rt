@@ -34,7 +34,7 @@ const OVER_BUDGET: u64 = common::numbers::OVER_BUDGET as u64;
 
 // "Axis, focuser, dome and guider scripts": the meters of scripts 0 to 3, laid out as C lays them out.
 #[repr(C)]
-#[derive(Drop)]
+#[derive(Clone, Copy)]
 pub struct Meters {
     pub axis: Meter,
     pub focuser: Meter,

@@ -17,10 +17,10 @@ use Rattle.runs.proofs.Laws as runs
 use Rattle.meter.specs.declared.step.Meter.{Meter}
 use Rattle.meter.specs.declared.step.Fed.{Fed}
 use Rattle.meter.specs.Feed.{scale_of, follows, showing, moved_to, is_foreign, is_stray, begin_of, reset_of, feed_of}
-use Rattle.meter.specs.Model.{last_from, writes, serves_to, has_word, last_or0, any_serves}
+use Rattle.meter.specs.Model.{last_from, writes, has_word, last_or0, any_serves}
 use Rattle.meter.specs.Changing.{ChangingCall, begin, feed, reset, Entry, Book, empty, entry_words}
-use Rattle.meter.specs.Changing.{entries_sum, entries_since_service, weighed_since, written, book_fed}
-use Rattle.meter.specs.Changing.{book_called, book_after, book_answer, book_answers, changing_after}
+use Rattle.meter.specs.Changing.{entries_sum, entries_since_service, weighed_since, written}
+use Rattle.meter.specs.Changing.{book_called, book_after, book_answers, changing_after}
 use Rattle.meter.specs.Changing.{changing_answers, Bytes, FollowsBook}
 use Rattle.meter.proofs.Calls.{more_services}
 

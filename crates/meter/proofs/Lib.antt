@@ -8,5 +8,3 @@ pub mod Earlier
 pub mod Changing
 pub mod Order
 pub mod Laws
-pub mod FeedWalk
-pub mod ChangeWalk

@@ -10,7 +10,7 @@
 -- Tried in code and definition alike, it is refused at `next-fed` of proofs/Changing.antt, and by its shape
 -- at that of proofs/Calls.antt.
 -- Assumes nothing.
-use Rattle.std.specs.Prelude.{◌≡◌, Bool, cond, ◌||◌, List, [], ◌∷◌, ◌++◌, ℕ, ◌+◌, ◌≤◌, min, get_or}
+use Rattle.std.specs.Prelude.{◌≡◌, Bool, cond, List, [], ◌∷◌, ◌++◌, ℕ, ◌+◌, ◌≤◌, min, get_or}
 use Rattle.common.specs.Numbers.{«ACCEPTED», NO_STEP, WEIGHTS_REFUSED}
 use Rattle.common.specs.Limits.{heaviest_weight}
 use Rattle.graph.specs.Graph.{Graph}

@@ -3,7 +3,7 @@
 -- then 10; and what an accepted feed makes of the meter, field by field. proofs/Order.antt proves it for any
 -- scale, meter and word number.
 -- Assumes nothing.
-use Rattle.std.specs.Prelude.{◌≡◌, ◌↔◌, ◌⊎◌, true, false, ℕ, ◌+◌, ◌*◌, ◌≤◌, ◌<◌, min, max}
+use Rattle.std.specs.Prelude.{◌≡◌, ◌↔◌, true, false, ℕ, ◌+◌, ◌*◌, ◌≤◌, ◌<◌, min, max}
 use Rattle.graph.specs.Graph.{In}
 use Rattle.runs.specs.Weights.{refuses_weights, weights_place}
 use Rattle.meter.specs.declared.step.Meter.{Meter}

@@ -36,7 +36,7 @@ const WEIGHTS_REFUSED: u64 = common::numbers::WEIGHTS_REFUSED as u64;
 // A number for `begun`, not a bool: a bool of 2 from a C caller would have no meaning, while a number does:
 // 0 is not begun, any other is.
 #[repr(C)]
-#[derive(Drop)]
+#[derive(Clone, Copy)]
 pub struct Meter {
     pub begun: u32,
     pub last: u32,

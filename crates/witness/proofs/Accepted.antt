@@ -2,10 +2,10 @@
 use mathlib.Core.Path.{◌≡◌, refl, sym, ap, ◌∙◌}
 use mathlib.Core.Bool.{Bool, true, false, ◌||◌, false≢true}
 use mathlib.Core.List.{List}
-use Prim.Native.Nat.{ℕ, ◌≤◌, ◌<◌}
+use Prim.Native.Nat.{ℕ, ◌<◌}
 use native.Mathlib.Omega.{arith}
 use lib.Dec.{ltb, eqb}
-use lib.ListN.{length, get_or}
+use lib.ListN.{get_or}
 use borrow.Author.Tests.{eqb-false}
 use Rattle.common.specs.Limits.{most_words}
 use Rattle.common.specs.Numbers.{«ACCEPTED», TOO_MANY_WORDS, SHORT_SLICE, NO_WORDS, REACHES_INVALID, WEIGHTS_REFUSED}
@@ -13,13 +13,12 @@ use Rattle.common.specs.Chain.{refuse_if}
 use Rattle.common.specs.Lists.{over}
 use Rattle.common.proofs.Over.{over_laws}
 use Rattle.sweep.specs.PassInvariants.{at}
-use Rattle.graph.specs.Graph.{Reachable, Segment}
+use Rattle.graph.specs.Graph.{Reachable}
 use Rattle.graph.specs.Longest.{length_of, longest, first}
 use Rattle.graph.specs.Meaning.{Meaning}
 use Rattle.graph.proofs.Meaning.{meaning}
 use Rattle.graph.proofs.Laws as graph
 use Rattle.runs.specs.declared.longest.Run.{Run}
-use Rattle.runs.specs.declared.longest.Run.TheVariants as Run
 use Rattle.runs.specs.Script.{Script, Sound, graph_of, weight_of}
 use Rattle.runs.specs.Weights.{refuses_weights, weights_place}
 use Rattle.runs.specs.Run.{run_of, number_of, longest_of, first_of, number_is, lowest_invalid, lengths_after}

@@ -10,12 +10,10 @@ use Rattle.common.specs.Limits.{most_words}
 use Rattle.common.specs.Numbers.{TOO_MANY_WORDS, SHORT_SLICE}
 use Rattle.common.specs.Chain.{refuse_if}
 use Rattle.runs.specs.declared.longest.Run.{Run}
-use Rattle.runs.specs.declared.longest.Run.TheVariants as Run
 use Rattle.runs.specs.Script.{Script}
 use Rattle.runs.specs.Run.{run_of, marks_after, lengths_after}
 use Rattle.witness.specs.declared.longest.PathRun.{PathRun}
-use Rattle.witness.specs.declared.longest.PathRun.TheVariants as PathRun
-use Rattle.witness.specs.Witness.{path_of, path_answer_by, path_run_of, path_by, marks_witnessed, lengths_witnessed, path_witnessed}
+use Rattle.witness.specs.Witness.{path_of, path_run_of, marks_witnessed, lengths_witnessed, path_witnessed}
 
 -- the run of too many words
 pub run_many : (ws : Script) (weights : List ℕ) (a b : ℕ) → most_words < ws.size → run_of ws weights a b ≡ Run.Refused TOO_MANY_WORDS 0

@@ -1,8 +1,8 @@
 -- The path is a stretch from the first word on that weighs L. Assumes nothing.
-use mathlib.Core.Path.{◌≡◌, refl, sym, ap, subst, ◌∙◌}
+use mathlib.Core.Path.{◌≡◌, refl, sym, ap, ◌∙◌}
 use mathlib.Core.Logic.{⊎_elim}
 use mathlib.Core.Bool.{Bool, true, false}
-use mathlib.Core.List.{List, [], ◌∷◌, ◌++◌}
+use mathlib.Core.List.{List, [], ◌∷◌}
 use Prim.Native.Nat.{ℕ, suc, ◌-◌, ◌≤◌, ◌<◌}
 use native.Mathlib.Omega.{arith}
 use lib.Dec.{ltb}
@@ -12,12 +12,11 @@ use borrow.Author.Tests.{lt-ltb, le-ltb}
 use Rattle.common.specs.Limits.{most_words}
 use Rattle.common.specs.Chain.{refuse_if}
 use Rattle.common.proofs.Order.{split}
-use Rattle.graph.specs.Graph.{In, Lawful}
+use Rattle.graph.specs.Graph.{Lawful}
 use Rattle.graph.specs.Longest.{length_of, first}
 use Rattle.sweep.specs.declared.edges.Successors.{Successors}
 use Rattle.sweep.specs.declared.edges.Successors.TheVariants.{Invalid, Stop, One, Two}
 use Rattle.runs.specs.declared.longest.Run.{Run}
-use Rattle.runs.specs.declared.longest.Run.TheVariants as Run
 use Rattle.sweep.specs.Steps.{list_of, Below}
 use Rattle.runs.specs.Script.{Script, Sound, script_of, graph_of, weight_of}
 use Rattle.runs.specs.Run.{run_of, number_of, marks_after, lengths_after}
@@ -27,7 +26,7 @@ use Rattle.witness.specs.declared.longest.PathRun.TheVariants as PathRun
 use Rattle.witness.specs.Witness.{path_of, path_answer_by, path_run_of, marks_witnessed, lengths_witnessed, path_witnessed}
 use Rattle.witness.specs.Stretch.{FollowsLengths, LongestStretch, Witnessed, LongestPath, Paths}
 use Rattle.witness.proofs.Following.{Ascending, follow_few, rest_of, follows, segment_of, weighs}
-use Rattle.witness.proofs.Accepted.{longest_is, first_is, first_reached, first_inside, first_length}
+use Rattle.witness.proofs.Accepted.{first_is, first_reached, first_inside, first_length}
 use Rattle.witness.proofs.Outcome.{run_many, path_many, path_short, path_refused, path_accepted}
 
 -- steps are given lower first

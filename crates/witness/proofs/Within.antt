@@ -12,7 +12,6 @@ use Rattle.common.specs.Numbers.{«ACCEPTED», TOO_MANY_WORDS, SHORT_SLICE}
 use Rattle.common.specs.Chain.{refuse_if, room_number}
 use Rattle.common.proofs.Refusing.{room_each, room_pass}
 use Rattle.runs.specs.declared.longest.Run.{Run}
-use Rattle.runs.specs.declared.longest.Run.TheVariants as Run
 use Rattle.runs.specs.Script.{Script, Sound}
 use Rattle.runs.specs.Run.{run_of, number_of, marks_after, lengths_after}
 use Rattle.runs.proofs.Laws.{laws}

@@ -1,12 +1,11 @@
 -- Inner: no promise and no law between crates rests on what stands here.
 -- What the private functions ask and leave. No exported contract cites it.
 -- Assumes nothing.
-use Rattle.std.specs.Prelude.{◌≡◌, List, ◌++◌, ℕ, ◌≤◌, ◌<◌, ltb, length, get_or, drop}
+use Rattle.std.specs.Prelude.{◌≡◌, List, ◌++◌, ℕ, ◌≤◌, ◌<◌, ltb, length, drop}
 use Rattle.common.specs.Limits.{most_words}
 use Rattle.common.specs.Chain.{refuse_if, refuse_room}
 use Rattle.sweep.specs.PassInvariants.{at}
 use Rattle.runs.specs.declared.longest.Run.{Run}
-use Rattle.runs.specs.declared.longest.Run.TheVariants as Run
 use Rattle.runs.specs.Script.{Script, graph_of}
 use Rattle.runs.specs.Run.{run_of}
 use Rattle.witness.specs.Following.{follow}

@@ -4,11 +4,9 @@ use Rattle.std.specs.Prelude.{List, ◌++◌, ℕ, ltb, length, drop}
 use Rattle.common.specs.Chain.{refuse_if, refuse_room}
 use Rattle.graph.specs.Longest.{length_of, first}
 use Rattle.runs.specs.declared.longest.Run.{Run}
-use Rattle.runs.specs.declared.longest.Run.TheVariants as Run
 use Rattle.runs.specs.Script.{Script, graph_of, weight_of}
 use Rattle.runs.specs.Run.{run_of, marks_after, lengths_after}
 use Rattle.witness.specs.declared.longest.PathRun.{PathRun}
-use Rattle.witness.specs.declared.longest.PathRun.TheVariants as PathRun
 use Rattle.witness.specs.Following.{follow}
 
 -- the words of one longest stretch: from the first word on, where lengths are greatest. A stretch has no

@@ -4,82 +4,71 @@ use Rattle.meter.specs.Feed.{is_foreign}
 use Rattle.meter.proofs.step.is_foreign.Statement.{statement}
 use Rattle.meter.proofs.step.is_foreign.Tie as tie
 
-returns : tie.Need-returns
+returns : tie.Need-returns-then-wide-count
 unfolding is_foreign
 returns c =
-    let read = c.before in
-    rw (← read.wide3.ensures, ← read.before.wide2.ensures, lt-ltb _ _ c.if1.true)
+    rw (← c.wide.ensures, ← c.wide-count.ensures, lt-ltb _ _ c.if-wide-count.true)
 
-returns_2 : tie.Need-returns-2
+returns_2 : tie.Need-returns-then-last-eq0
 unfolding is_foreign
 returns_2 c =
-    let covered = c.before.before.before in
-    let read = covered.before in
     rw (
-      ← read.wide3.ensures,
-      ← read.before.wide2.ensures,
-      ← read.before.before.wide.ensures,
-      le-ltb _ _ covered.if1.false,
-      eq-eqb _ 0 c.before.if2.true,
-      eq-eqb _ 0 c.if3.true,
+      ← c.wide.ensures,
+      ← c.wide-count.ensures,
+      ← c.wide-last.ensures,
+      le-ltb _ _ c.if-wide-count.false,
+      eq-eqb _ 0 c.if-m-eq0.true,
+      eq-eqb _ 0 c.if-last-eq0.true,
     )
 
-returns_3 : tie.Need-returns-3
+returns_3 : tie.Need-returns-then-m-eq0
 unfolding is_foreign
 returns_3 c =
-    let covered = c.before.before.before in
-    let read = covered.before in
     rw (
-      ← read.wide3.ensures,
-      ← read.before.wide2.ensures,
-      ← read.before.before.wide.ensures,
-      le-ltb _ _ covered.if1.false,
-      eq-eqb _ 0 c.before.if2.true,
-      ne_eqb _ 0 c.if3.false,
+      ← c.wide.ensures,
+      ← c.wide-count.ensures,
+      ← c.wide-last.ensures,
+      le-ltb _ _ c.if-wide-count.false,
+      eq-eqb _ 0 c.if-m-eq0.true,
+      ne_eqb _ 0 c.if-last-eq0.false,
     )
 
-returns_4 : tie.Need-returns-4
+returns_4 : tie.Need-returns-then-n-last
 unfolding is_foreign
 returns_4 c =
-    let covered = c.before.before.before in
-    let read = covered.before in
     rw (
-      ← read.wide3.ensures,
-      ← read.before.wide2.ensures,
-      ← read.before.before.wide.ensures,
-      le-ltb _ _ covered.if1.false,
-      ne_eqb _ 0 c.before.if2.false,
-      le-leb _ _ c.if4.true,
+      ← c.wide.ensures,
+      ← c.wide-count.ensures,
+      ← c.wide-last.ensures,
+      le-ltb _ _ c.if-wide-count.false,
+      ne_eqb _ 0 c.if-m-eq0.false,
+      le-leb _ _ c.if-n-last.true,
     )
 
-returns_5 : tie.Need-returns-5
+returns_5 : tie.Need-returns-then-count-eq0
 unfolding is_foreign
 returns_5 c =
-    let covered = c.before.before.before.before in
-    let read = covered.before in
     rw (
-      ← read.wide3.ensures,
-      ← read.before.wide2.ensures,
-      ← read.before.before.wide.ensures,
-      le-ltb _ _ covered.if1.false,
-      ne_eqb _ 0 c.before.before.if2.false,
-      lt-leb _ _ c.before.if4.false,
-      eq-eqb _ 0 c.if5.true,
+      ← c.wide.ensures,
+      ← c.wide-count.ensures,
+      ← c.wide-last.ensures,
+      le-ltb _ _ c.if-wide-count.false,
+      ne_eqb _ 0 c.if-m-eq0.false,
+      lt-leb _ _ c.if-n-last.false,
+      eq-eqb _ 0 c.if-count-eq0.true,
     )
 
-returns_6 : tie.Need-returns-6
+returns_6 : tie.Need-returns
 unfolding is_foreign
 returns_6 c =
-    let covered = c.before.before.before.before in
-    let read = covered.before in
     rw (
-      ← read.wide3.ensures,
-      ← read.before.wide2.ensures,
-      ← read.before.before.wide.ensures,
-      le-ltb _ _ covered.if1.false,
-      ne_eqb _ 0 c.before.before.if2.false,
-      lt-leb _ _ c.before.if4.false,
-      ne_eqb _ 0 c.if5.false,
+      ← c.wide.ensures,
+      ← c.wide-count.ensures,
+      ← c.wide-last.ensures,
+      le-ltb _ _ c.if-wide-count.false,
+      ne_eqb _ 0 c.if-m-eq0.false,
+      lt-leb _ _ c.if-n-last.false,
+      ne_eqb _ 0 c.if-count-eq0.false,
     )
 
 pub is_foreign_spec : {M : Type 1} → statement M

@@ -1,5 +1,5 @@
 use mathlib.Core.Path.{◌≡◌, refl, sym, ◌∙◌}
-use mathlib.Core.Bool.{true, false}
+use mathlib.Core.Bool.{false}
 use mathlib.Core.List.{List}
 use Prim.Native.Nat.{ℕ, ◌<◌}
 use native.Mathlib.Omega.{arith}
@@ -11,112 +11,93 @@ use Rattle.witness.proofs.walking.go_on.Statement.{statement}
 use Rattle.witness.proofs.walking.go_on.Tie as tie
 
 -- a word with one step
-module _ (c : tie.After-known-told) where
+module _ (c : tie.In-One) where
   abbrev start_1 : tie.Start
-  start_1 = c.before.before.before.before
-
-  abbrev l_1 : List ℕ
-  l_1 = start_1.args.lengths.now
-
-  abbrev p_1 : ℕ
-  p_1 = start_1.args.p
+  start_1 = c.before.before
 
   abbrev only : ℕ
-  only = c.before.steps.given.0.0
+  only = c.in-One.a
 
-returns_3 : tie.Need-returns-3
+returns_3 : tie.Need-returns-then-serves
 returns_3 c =
-    let k = c.before.before in
-    by_steps (l_1 k) (p_1 k)
-    (one_serves (l_1 k) (p_1 k) (only k) (sym c.before.serves.ensures ∙ c.if1.true))
-    k.before.steps.given.1
+    by_steps c.args.lengths.now c.args.p
+    (one_serves c.args.lengths.now c.args.p (only c.before.before) (sym c.serves.ensures ∙ c.if-serves.true))
+    c.in-One.is
 
-returns_4 : tie.Need-returns-4
+returns_4 : tie.Need-returns-in-One
 returns_4 c =
-    let k = c.before.before in
-    by_steps (l_1 k) (p_1 k)
-    (one_on (l_1 k) (p_1 k) (only k) (sym c.before.serves.ensures ∙ c.if1.false))
-    k.before.steps.given.1
+    by_steps c.args.lengths.now c.args.p
+    (one_on c.args.lengths.now c.args.p (only c.before.before) (sym c.serves.ensures ∙ c.if-serves.false))
+    c.in-One.is
 
 -- a word with two
-module _ (c : tie.After-known-told2) where
+module _ (c : tie.In-Two) where
   abbrev start_2 : tie.Start
-  start_2 = c.before.before.before.before
+  start_2 = c.before.before
 
   abbrev l_2 : List ℕ
   l_2 = start_2.args.lengths.now
 
-  abbrev p_2 : ℕ
-  p_2 = start_2.args.p
-
   abbrev lower : ℕ
-  lower = c.before.steps2.given.0.0
+  lower = c.in-Two.a
 
   abbrev upper : ℕ
-  upper = c.before.steps2.given.0.1.0
+  upper = c.in-Two.b
 
   both_in : (lower < length l_2) × (upper < length l_2)
-  both_in = two_in (length l_2) lower upper start_2.pre c.before.steps2.given.1
+  both_in = two_in (length l_2) lower upper start_2.requires c.in-Two.is
 
-returns_5 : tie.Need-returns-5
+returns_5 : tie.Need-returns-then-serves-3
 returns_5 c =
-    let e = c.before.before in
-    let k = e.before.before in
-    by_steps (l_2 k) (p_2 k)
-    (both_serve (l_2 k) (p_2 k) (lower k) (upper k)
-    (sym e.before.serves2.ensures ∙ e.if2.true)
-    (sym c.before.serves3.ensures ∙ c.if3.true))
-    k.before.steps2.given.1
+    by_steps c.args.lengths.now c.args.p
+    (both_serve c.args.lengths.now c.args.p (lower c.before.before.before.before) (upper c.before.before.before.before)
+    (sym c.serves-in-Two.ensures ∙ c.if-serves-2.true)
+    (sym c.serves-then-serves-2.ensures ∙ c.if-serves-3.true))
+    c.in-Two.is
 
-returns_6 : tie.Need-returns-6
+returns_6 : tie.Need-returns-then-serves-2
 returns_6 c =
-    let e = c.before.before in
-    let k = e.before.before in
-    by_steps (l_2 k) (p_2 k)
-    (second_on (l_2 k) (p_2 k) (lower k) (upper k) (sym e.before.serves2.ensures ∙ e.if2.true)
-    (sym c.before.serves3.ensures ∙ c.if3.false))
-    k.before.steps2.given.1
+    by_steps c.args.lengths.now c.args.p
+    (second_on c.args.lengths.now c.args.p (lower c.before.before.before.before) (upper c.before.before.before.before) (sym c.serves-in-Two.ensures ∙ c.if-serves-2.true)
+    (sym c.serves-then-serves-2.ensures ∙ c.if-serves-3.false))
+    c.in-Two.is
 
-returns_7 : tie.Need-returns-7
+returns_7 : tie.Need-returns-then-serves-4
 returns_7 c =
-    let e = c.before.before in
-    let k = e.before.before in
-    by_steps (l_2 k) (p_2 k)
-    (first_on (l_2 k) (p_2 k) (lower k) (upper k) (sym e.before.serves2.ensures ∙ e.if2.false)
-    (sym c.before.serves4.ensures ∙ c.if4.true))
-    k.before.steps2.given.1
+    by_steps c.args.lengths.now c.args.p
+    (first_on c.args.lengths.now c.args.p (lower c.before.before.before.before) (upper c.before.before.before.before) (sym c.serves-in-Two.ensures ∙ c.if-serves-2.false)
+    (sym c.serves-in-Two-2.ensures ∙ c.if-serves-4.true))
+    c.in-Two.is
 
 -- of which none serves
-module _ (c : tie.Else4) where
-  abbrev two_at : tie.After-known-told2
+module _ (c : tie.Else-serves-4) where
+  abbrev two_at : tie.In-Two
   two_at = c.before.before.before.before
 
-  lower_on : serves_of (p_2 two_at) (lower two_at) ≡ false
-  lower_on = sym c.before.before.before.serves2.ensures ∙ c.before.before.if2.false
+  lower_on : serves_of two_at.args.p (lower two_at) ≡ false
+  lower_on = sym c.serves-in-Two.ensures ∙ c.if-serves-2.false
 
-  upper_on : serves_of (p_2 two_at) (upper two_at) ≡ false
-  upper_on = sym c.before.serves4.ensures ∙ c.if4.false
+  upper_on : serves_of two_at.args.p (upper two_at) ≡ false
+  upper_on = sym c.serves-in-Two-2.ensures ∙ c.if-serves-4.false
 
-returns_8 : tie.Need-returns-8
+returns_8 : tie.Need-returns-then-x-y
 returns_8 c =
-    let d = c.before.before.before in
-    let k = two_at d in
-    by_steps (l_2 k) (p_2 k) (second_greater (l_2 k) (p_2 k) (lower k) (upper k) (lower_on d) (upper_on d) c.if5.true) k.before.steps2.given.1
+    let k = two_at c.before.before.before in
+    by_steps k.args.lengths.now k.args.p (second_greater k.args.lengths.now k.args.p (lower k) (upper k) (lower_on c.before.before.before) (upper_on c.before.before.before) c.if-x-y.true) k.in-Two.is
 
-returns_9 : tie.Need-returns-9
+returns_9 : tie.Need-returns-in-Two
 returns_9 c =
-    let d = c.before.before.before in
-    let k = two_at d in
-    by_steps (l_2 k) (p_2 k) (first_greater (l_2 k) (p_2 k) (lower k) (upper k) (lower_on d) (upper_on d) c.if5.false) k.before.steps2.given.1
+    let k = two_at c.before.before.before in
+    by_steps k.args.lengths.now k.args.p (first_greater k.args.lengths.now k.args.p (lower k) (upper k) (lower_on c.before.before.before) (upper_on c.before.before.before) c.if-x-y.false) k.in-Two.is
 
 pub go_on_spec : {M : Type 1} → statement M
 go_on_spec =
     tie.close
     (tie.spec
     (λ c. search rules)
-    (λ c. let s = c.before.before.before.args in by_steps s.lengths.now s.p refl c.enum_told.given.1)
+    (λ c. let s = c.args in by_steps s.lengths.now s.p refl c.in-Invalid.is)
     (λ c. search rules)
-    (λ c. let s = c.before.before.before.args in by_steps s.lengths.now s.p refl c.enum-told2.given.1)
+    (λ c. let s = c.args in by_steps s.lengths.now s.p refl c.in-Stop.is)
     (λ c. search rules)
     (λ c κs. search rules)
     returns_3
