@@ -2,10 +2,10 @@
 -- Assumes nothing.
 use mathlib.Core.Path.{refl}
 use Rattle.fields.specs.lua54.Table.{class_of, companion_of, fallback_of}
-use Rattle.fields.specs.lua53.Table.{class_of as classOf53, companion_of as companionOf53}
+use Rattle.fields.specs.lua53.Table.{class_of as class_of_53, companion_of as companion_of_53}
 use Rattle.sweep.specs.Steps.{unless, one, ordered, two, serves_of}
 use Rattle.steps.specs.lua54.Successors.{opcode_at, is_between, companion_present, successors_of}
-use Rattle.steps.specs.lua53.Successors.{opcode_at as opcodeAt53, companion_present as companionPresent53, successors_of as successorsOf53}
+use Rattle.steps.specs.lua53.Successors.{opcode_at as opcode_at_53, companion_present as companion_present_53, successors_of as successors_of_53}
 use Rattle.graph.specs.Marks.{leads, mark_of}
 use Rattle.common.specs.Lowest.{lowest_from}
 use Rattle.graph.specs.Longest.{within, heaviest, length_of, most, longest, first}
@@ -92,7 +92,7 @@ record_tests_hold =
     ((refl, refl), ((refl, refl), ((refl, refl), ((refl, refl), ((refl, refl), ((refl, refl), ((refl, refl), ((refl, refl), ((refl, refl), ((refl, refl), ((refl, refl), ((refl, refl), tt))))))))))))
 
 pub cases53_hold : Hold cases53
-unfolding unless one ordered two opcodeAt53 companionPresent53 successorsOf53 serves_of classOf53 companionOf53
+unfolding unless one ordered two opcode_at_53 companion_present_53 successors_of_53 serves_of class_of_53 companion_of_53
     leads mark_of within heaviest length_of most lowest_from longest first lowest_zero refuses_weights
     weights_place lowest_invalid run_of
 cases53_hold =

@@ -14,7 +14,7 @@ use Rattle.runs.specs.declared.longest.Run.TheVariants.{Accepted, Refused}
 use Rattle.runs.specs.Script.{lua54, script_of}
 use Rattle.sweep.specs.Steps.{serves_of}
 use Rattle.steps.specs.lua54.Successors.{successors_of}
-use Rattle.steps.specs.lua53.Successors.{successors_of as successorsOf53}
+use Rattle.steps.specs.lua53.Successors.{successors_of as successors_of_53}
 use Rattle.runs.specs.Run.{run_of}
 use Rattle.runs.specs.Counted.{ones}
 use Rattle.values.specs.declared.ir.TypedOperand.{TypedOperand}
@@ -90,7 +90,7 @@ HoldsOf (run words longest first) =
     run_of (lua54 words) ones (length words) (length words) ≡ Accepted longest first
 HoldsOf (weighed words weights longest first) =
     run_of (lua54 words) weights (length words) (length words) ≡ Accepted longest first
-HoldsOf (steps53 words p s) = successorsOf53 words p ≡ s
+HoldsOf (steps53 words p s) = successors_of_53 words p ≡ s
 HoldsOf (run53 words longest first) =
     run_of (script_of Lua53 words) ones (length words) (length words) ≡ Accepted longest first
 HoldsOf (weighed53 words weights longest first) =

@@ -13,7 +13,6 @@ use Rattle.runs.specs.declared.c.FlatSuccessors.{FlatSuccessors}
 use Rattle.runs.specs.declared.c.FlatRun.{FlatRun}
 use Rattle.runs.specs.Run.{number_of, place_of, longest_of, first_of}
 use Rattle.runs.specs.Flat.{flat_successors, flat_run}
-use Rattle.exports.specs.declared.c.FlatFields.{FlatFields}
 use Rattle.exports.specs.Flat.{flat_fields}
 
 -- a run's four numbers

@@ -3,7 +3,7 @@
 -- C-21, and a chunk's bytes, in the statements of budget, rehearsal and chunk, the services in meter's, and
 -- the largest word in sheet's. The last two fields are no document's numbers.
 -- Assumes nothing.
-use Rattle.std.specs.Prelude.{ℕ, ◌≡◌}
+use Rattle.std.specs.Prelude.{◌≡◌}
 use Rattle.common.specs.Limits as limit
 use Rattle.runs.specs.Weights.{weight_count}
 
