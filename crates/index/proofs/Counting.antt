@@ -1,19 +1,17 @@
 -- All functions of a chunk: how many there are, and what is told and stored of them. Assumes nothing.
 use mathlib.Core.Path.{◌≡◌, refl, sym, ap, subst, ◌∙◌}
 use mathlib.Core.Bool.{Bool, true, false, cond, ◌&&◌, true≢false}
-use mathlib.Core.List.{List, [], ◌∷◌, ◌++◌}
-use Prim.Native.Nat.{ℕ, zero, suc, ◌+◌, ◌-◌, ◌≤◌, ◌<◌}
+use mathlib.Core.List.{List, [], ◌∷◌}
+use Prim.Native.Nat.{ℕ, zero, suc, ◌-◌, ◌≤◌, ◌<◌}
 use native.Mathlib.Omega.{arith}
 use lib.Dec.{leb}
-use lib.ListN.{length, drop, set, length-set}
+use lib.ListN.{length}
 use borrow.Author.Tests.{leb-true, le-leb, lt-leb}
-use Rattle.common.specs.Lists.{put}
 use Rattle.common.proofs.Put.{put_laws}
 use Rattle.common.specs.Limits.{most_bytes, levels_below}
 use Rattle.loaders.specs.declared.reading.Refusal.{Refusal}
 use Rattle.loaders.specs.declared.reading.Refusal.TheVariants.{Malformed, Short}
 use Rattle.loaders.specs.declared.reading.Cursor.{Cursor}
-use Rattle.loaders.specs.declared.reading.Cursor.TheVariants.{At, Refused}
 use Rattle.lundump.specs.declared.functions.Layout.{Layout}
 use Rattle.lundump.specs.declared.functions.Search.{Search}
 use Rattle.lundump.specs.declared.functions.Search.TheVariants.{Left, Found}
@@ -28,7 +26,7 @@ use Rattle.chunk.proofs.Laws.{laws}
 use Rattle.index.specs.declared.listing.Listed.{Listed}
 use Rattle.index.specs.declared.listing.FunctionTally.{FunctionTally}
 use Rattle.index.specs.declared.listing.FunctionTally.TheVariants as tally
-use Rattle.index.specs.Listing.{functions_of, places_of, parents_from, parents_of, no_function, listed_of, room_for_all, listed_in, after_all}
+use Rattle.index.specs.Listing.{functions_of, places_of, parents_of, no_function, listed_of, room_for_all, listed_in, after_all}
 use Rattle.index.specs.Noting.{tallied, told, roomy, Wrote, WroteBy, WroteAt}
 
 -- ---- a search for more functions than there are says how many are missing

@@ -21,13 +21,13 @@ use Rattle.lundump.specs.Chunk.{pick, chosen, values_of, counts_of, Rooms, fits,
 use Rattle.lundump.specs.Stands.{Stands, OneRead, StandBetween, ReadBetween}
 use Rattle.chunk.proofs.Laws as chunk
 use Rattle.lines.specs.declared.choosing.Choice.TheVariants.{Number, Place}
-use Rattle.lines.specs.Choices.{function_at, chosen_by, filled_by}
-use Rattle.lines.specs.Heads.{read_head, head_of, head_from}
+use Rattle.lines.specs.Choices.{function_at, filled_by}
+use Rattle.lines.specs.Heads.{head_of, head_from}
 use Rattle.index.specs.Listing.{functions_of, places_of, stands_in, parents_from, parents_of, no_function}
 use Rattle.index.specs.Laws.{AtItsPlace, Inner, Listing, Laws}
 use Rattle.index.proofs.Levels.{levels_grow}
 use Rattle.index.proofs.Parents.{places_count, parents_count, ends}
-use Rattle.index.proofs.Notes.{FunctionRead, function_read}
+use Rattle.index.proofs.Notes.{function_read}
 
 -- ---- by its place
 module _ (bytes : List ℕ) (short : length bytes ≤ most_bytes) (k : ℕ) (f : Function) (at : ℕ) (e : chosen k bytes ≡ done f at) where

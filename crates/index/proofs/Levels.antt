@@ -1,13 +1,13 @@
 -- A function that is read with some levels left is read the same with more. Assumes nothing.
-use mathlib.Core.Path.{◌≡◌, refl, sym, ap, ◌∙◌}
+use mathlib.Core.Path.{◌≡◌, refl}
 use mathlib.Core.Bool.{true≢false}
-use mathlib.Core.List.{List, [], ◌∷◌, ◌++◌}
+use mathlib.Core.List.{List}
 use Prim.Native.Nat.{ℕ, zero, suc, ◌≤◌}
 use native.Mathlib.Omega.{arith}
 use Rattle.loaders.specs.Reading.{Result, done, refused, Reader, bind}
 use Rattle.loaders.specs.Loaders.{load_int}
-use Rattle.lundump.specs.Lundump.{Function, load_head, load_code, load_constants, load_upvalues, load_lines}
-use Rattle.lundump.specs.Lundump.{load_names, function_with, several, none_of, load_protos, load_function}
+use Rattle.lundump.specs.Lundump.{Function, load_head, load_code, load_constants, load_upvalues}
+use Rattle.lundump.specs.Lundump.{function_with, several, none_of, load_protos, load_function}
 use Rattle.index.proofs.Thens.{then1, then2, then3, then4, then5}
 
 bind_same : {A B : Type 0} (X : Result A) (f g : A → ℕ → Result B) (b : B) (p : ℕ) → ((a : A) (at : ℕ) → f a at ≡ done b p → g a at ≡ done b p)

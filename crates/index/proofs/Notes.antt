@@ -1,11 +1,11 @@
 -- What is stored of the functions that are read. Assumes nothing.
 use mathlib.Core.Path.{◌≡◌, refl, sym, ap, subst, ◌∙◌}
-use mathlib.Core.Bool.{Bool, true, false, true≢false}
+use mathlib.Core.Bool.{true≢false}
 use mathlib.Core.List.{List, [], ◌∷◌, ◌++◌}
 use Prim.Native.Nat.{ℕ, zero, suc, ◌+◌, ◌-◌, ◌≤◌, ◌<◌}
 use native.Mathlib.Omega.{arith}
 use native.Mathlib.Numerals.{add-one}
-use lib.ListN.{length, set, length-append, length-set}
+use lib.ListN.{length, length-append}
 use Rattle.common.specs.Lists.{put}
 use Rattle.common.proofs.Put.{put_laws}
 use Rattle.loaders.specs.declared.reading.Refusal.{Refusal}

@@ -1,7 +1,7 @@
 -- What callers go by beside the contracts: all functions of a chunk, by number and by place.
 -- proofs/Laws.antt proves it.
 -- Assumes nothing.
-use Rattle.std.specs.Prelude.{◌≡◌, List, ◌∷◌, ℕ, ◌≤◌, ◌<◌, length, get_or}
+use Rattle.std.specs.Prelude.{◌≡◌, List, ℕ, ◌≤◌, ◌<◌, length, get_or}
 use Rattle.loaders.specs.declared.reading.Refusal.{Refusal}
 use Rattle.loaders.specs.declared.reading.Refusal.TheVariants.{Malformed}
 use Rattle.loaders.specs.Reading.{done, refused}

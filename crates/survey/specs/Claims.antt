@@ -1,6 +1,6 @@
 -- What holds of the lines, whatever the chunk. The proof of `Claims` is proofs/Claims.antt.
 -- Assumes nothing.
-use Rattle.std.specs.Prelude.{◌≡◌, List, [], ℕ, suc, ◌≤◌, ◌<◌, length, take, get_or}
+use Rattle.std.specs.Prelude.{◌≡◌, List, [], ℕ, suc, ◌≤◌, ◌<◌, length, get_or}
 use Rattle.common.specs.Numbers.{MALFORMED_CHUNK}
 use Rattle.common.specs.Limits.{most_bytes}
 use Rattle.sheet.specs.Rows.{refusal_line_of}

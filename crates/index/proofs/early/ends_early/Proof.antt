@@ -7,8 +7,7 @@ use Rattle.index.proofs.early.ends_early.Tie as tie
 returns : tie.Need-returns
 unfolding ends_early
 returns c =
-    let at-put-behind = c.before.before.before.before in
-    (c.goes-on.ensures ∙ ap reads_on at-put-behind.put-behind.ensures, at-put-behind.put-behind.ensures)
+    (c.goes_on.ensures ∙ ap reads_on c.put_behind.ensures, c.put_behind.ensures)
 
 pub ends_early_spec : {M : Type 1} → statement M
 ends_early_spec = tie.close (tie.spec (λ c κs. search rules) (λ c κs. search rules) (λ c. search rules) returns)

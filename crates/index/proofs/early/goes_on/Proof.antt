@@ -9,7 +9,7 @@ use Rattle.index.proofs.early.goes_on.Tie as tie
 
 returns : tie.Need-returns
 unfolding reads_on
-returns c = ap (λ (x : Listed). not (eqb x.number 15)) c.before.count-functions.ensures
+returns c = ap (λ (x : Listed). not (eqb x.number 15)) c.count_functions.ensures
 
 pub goes_on_spec : {M : Type 1} → statement M
 goes_on_spec = tie.close (tie.spec (λ c κs. search rules) (λ c. search rules) returns)

@@ -12,4 +12,4 @@ count_functions_spec =
     (tie.spec
     (λ c κs. search rules)
     (λ c κs. search rules)
-    (λ c. counted_is (functions_of c.before.before.before.args.chunk.now) _ _ c.before.take-tally.ensures c.tell.ensures))
+    (λ c. counted_is (functions_of c.args.chunk.now) _ _ c.take_tally.ensures c.tell.ensures))

@@ -4,8 +4,7 @@ use Rattle.survey.proofs.lines.put_cell.Tie as tie
 
 returns : tie.Need-returns
 returns c =
-    let at-column = c.before.before.before.before in
-    rw at-column.column.ensures at c.before.before.put-text.ensures
+    rw c.column.ensures at c.put_text.ensures
 
 pub put_cell_spec : {M : Type 1} → statement M
 put_cell_spec =

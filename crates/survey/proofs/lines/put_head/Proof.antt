@@ -5,12 +5,7 @@ use Rattle.survey.proofs.lines.put_head.Tie as tie
 
 returns : tie.Need-returns
 returns c =
-    let c₄ = c.before.before in
-    let c₃ = c₄.before.before.before.before in
-    let c₂ = c₃.before.before.before.before in
-    let c₁ = c₂.before.before.before.before in
-    let s = c₁.before.before.before in
-    head_put _ _ _ _ _ s.args.k s.args.c s.requires c₁.put-cell.ensures c₂.put-cell2.ensures c₃.put-cell3.ensures c₄.put-cell4.ensures
+    head_put _ _ _ _ _ c.args.k c.args.c c.requires c.put_cell.ensures c.put_cell-2.ensures c.put_cell-3.ensures c.put_cell-4.ensures
 
 pub put_head_spec : {M : Type 1} → statement M
 put_head_spec =

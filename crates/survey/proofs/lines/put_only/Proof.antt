@@ -9,19 +9,17 @@ use Rattle.survey.proofs.Columns.{only_first, only_later}
 use Rattle.survey.proofs.lines.put_only.Statement.{statement}
 use Rattle.survey.proofs.lines.put_only.Tie as tie
 
-returns : tie.Need-returns
+returns : tie.Need-returns-then-k-ne0
 returns c =
-    let s = c.before.before.args in
-    let e = only_later s.k s.c.number s.c.place c.if1.true in
+    let s = c.args in
+    let e = only_later s.k s.c.number s.c.place c.if-k-ne0.true in
     (sym (ap length e), put_laws.none s.page.now 0 ∙ ap (λ (t : List _). put s.page.now 0 t) (sym e))
 
-returns_2 : tie.Need-returns-2
+returns_2 : tie.Need-returns
 returns_2 c =
-    let a = c.before.before in
-    let at-if1 = a.before.before.before.before.before in
-    let s = at-if1.before.before.args in
-    let e = only_first s.k s.c.number s.c.place at-if1.if1.false in
-    (sym (ap length e ∙ sheet-laws.pair s.c.number s.c.place), rw (a.before.before.refusal-line.ensures, ← e) at a.put-text.ensures)
+    let s = c.args in
+    let e = only_first s.k s.c.number s.c.place c.if-k-ne0.false in
+    (sym (ap length e ∙ sheet-laws.pair s.c.number s.c.place), rw (c.refusal_line.ensures, ← e) at c.put_text.ensures)
 
 pub put_only_spec : {M : Type 1} → statement M
 put_only_spec =

@@ -5,31 +5,20 @@ use Rattle.survey.proofs.Columns.{length_accepted, length_refused, tail_accepted
 use Rattle.survey.proofs.lines.put_tail.Statement.{statement}
 use Rattle.survey.proofs.lines.put_tail.Tie as tie
 
-returns : tie.Need-returns
+returns : tie.Need-returns-in-Accepted
 returns c =
-    let a = c.before.before in
-    let at-run = a.before.before.before.before.before in
-    let s = at-run.before.before.before in
-    let given = at-run.run.given in
-    rw given.1 (
-      sym (ap (λ (n : ℕ). 24 + n) (length_accepted given.0.0 given.0.1.0)),
-      tail_accepted s.args.page.now _ given.0.0 given.0.1.0 (rw a.before.before.last_line.ensures at a.put-text.ensures),
+    rw c.in-Accepted.is (
+      sym (ap (λ (n : ℕ). 24 + n) (length_accepted c.in-Accepted.longest c.in-Accepted.first)),
+      tail_accepted c.args.page.now _ c.in-Accepted.longest c.in-Accepted.first (rw c.last_line.ensures at c.put_text.ensures),
     )
 
-returns_2 : tie.Need-returns-2
+returns_2 : tie.Need-returns-in-Refused
 returns_2 c =
-    let a = c.before.before in
-    let at-refusal-line = a.before.before in
-    let second = at-refusal-line.before.before.before.before in
-    let first = second.before.before.before.before in
-    let at-run2 = first.before.before.before in
-    let s = at-run2.before.before.before in
-    let given = at-run2.run2.given in
-    rw given.1 (
-      sym (ap (λ (n : ℕ). 24 + n) (length_refused given.0.0 given.0.1.0)),
-      tail_refused s.args.page.now _ _ _ given.0.0 given.0.1.0 s.requires
-          first.put-cell.ensures second.put-cell2.ensures
-          (rw at-refusal-line.refusal-line.ensures at a.put-text2.ensures),
+    rw c.in-Refused.is (
+      sym (ap (λ (n : ℕ). 24 + n) (length_refused c.in-Refused.number c.in-Refused.place)),
+      tail_refused c.args.page.now _ _ _ c.in-Refused.number c.in-Refused.place c.requires
+          c.put_cell.ensures c.put_cell-in-Refused.ensures
+          (rw c.refusal_line.ensures at c.put_text-in-Refused.ensures),
     )
 
 pub put_tail_spec : {M : Type 1} → statement M

@@ -4,10 +4,7 @@ use Rattle.survey.proofs.run.run_of.Tie as tie
 
 returns : tie.Need-returns
 returns c =
-    let a = c.before.before in
-    let at_words = a.before.before.before.before in
-    let at-marks = at_words.before in
-    rw (← at-marks.marks.ensures, ← at_words.words.ensures) at a.longest-run.ensures.0
+    rw (← c.marks-marks.ensures, ← c.words-lengths.ensures) at c.longest_run.ensures.0
 
 pub run_of_spec : {M : Type 1} → statement M
 run_of_spec =
