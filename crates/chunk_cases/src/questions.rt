@@ -1,6 +1,6 @@
 // The questions. A line has what each is lent, in the order of its parameters.
 use crate::print;
-use chunk::{lawendeb_chunk_count, lawendeb_chunk_fill, lawendeb_upvalue_name, lent_name};
+use chunk::{count_function, fill_function, lent_name, shown_name};
 use pages::first;
 use vectors::{bytes_of, number_of, numbers_of, words_of};
 use std::io::Stdout;
@@ -11,7 +11,7 @@ fn chunk_bytes() -> [u8; 131124] {
 }
 
 fn count_of(out: Stdout, bytes: &mut [u8], k: usize) {
-    print::counts(out, lawendeb_chunk_count(bytes, k));
+    print::counts(out, count_function(bytes, k));
 }
 
 // bytes | k
@@ -29,7 +29,7 @@ fn fill_lent(
     payloads: &mut [u64],
     names: &mut [u64],
 ) {
-    print::counts(out, lawendeb_chunk_fill(bytes, k, words, tags, payloads, names));
+    print::counts(out, fill_function(bytes, k, words, tags, payloads, names));
     print::slices(out, words, tags, payloads, names);
 }
 
@@ -53,7 +53,7 @@ pub fn fill(out: Stdout, line: &[u8]) {
 
 // Number, place, in the chunk (1) or the list (0), start, size.
 fn shown(out: Stdout, bytes: &[u8], own: &[u64], list: &[u8], other: &[u64], i: usize) {
-    let s = lawendeb_upvalue_name(bytes, own, list, other, i);
+    let s = shown_name(bytes, own, list, other, i);
     print::number(out, s.number);
     print::number(out, s.place);
     print::number(out, s.in_chunk);

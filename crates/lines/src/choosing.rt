@@ -8,7 +8,7 @@ use loaders::{Cursor, Refusal};
 use lundump::inner::{function, locate, located_counts};
 use lundump::{Located, Search};
 
-#[derive(Drop)]
+#[derive(Clone, Copy)]
 pub enum Choice {
     // Counted from 0 by first byte.
     Number(usize),
