@@ -18,9 +18,9 @@ low-longest : (r : RunRange) → (flat_range r).low_longest ≡ longest_of (low_
 low-longest (Accepted l f l' f') = refl
 low-longest (Refused k p) = refl
 
-low_first : (r : RunRange) → (flat_range r).low_first ≡ first_of (low_run r)
-low_first (Accepted l f l' f') = refl
-low_first (Refused k p) = refl
+low-first : (r : RunRange) → (flat_range r).low_first ≡ first_of (low_run r)
+low-first (Accepted l f l' f') = refl
+low-first (Refused k p) = refl
 
 high-longest : (r : RunRange) → (flat_range r).high_longest ≡ longest_of (high_run r)
 high-longest (Accepted l f l' f') = refl
@@ -36,7 +36,7 @@ flat_reports =
       number = number;
       place = place;
       low-longest = low-longest;
-      low_first = low_first;
+      low-first = low-first;
       high-longest = high-longest;
       high-first = high-first;
     }

@@ -1,7 +1,7 @@
 -- Request C-18, "Weights measured as low and high": the whole outcome of `longest_runs`, its answer and the
 -- two lent slices, refusals included.
 -- Assumes nothing.
-use Rattle.std.specs.Prelude.{Bool, cond, ◌||◌, List, ℕ, ltb, eqb, length, get_or}
+use Rattle.std.specs.Prelude.{Bool, cond, ◌||◌, List, ℕ, ltb, eqb, get_or}
 use Rattle.runs.specs.Weights.{weight_count, refuses_weights, weights_place}
 use Rattle.common.specs.Numbers.{NO_WORDS, REACHES_INVALID, WEIGHTS_REFUSED, LOW_ABOVE_HIGH}
 use Rattle.common.specs.Chain.{refuse_if, refuse_room, answer, accepted}

@@ -1,8 +1,6 @@
 -- Which of the plain numbers is which.
 -- Assumes nothing.
-use mathlib.Core.Path.{◌≡◌, refl}
-use Prim.Native.Nat.{ℕ}
-use Rattle.rehearsal.specs.declared.answer.Rehearsal.TheVariants.{Rehearsed, Refused}
+use mathlib.Core.Path.{refl}
 use Rattle.rehearsal.specs.Flat.{flat_rehearsal, FlatParts}
 
 pub flat_parts : FlatParts

@@ -2,7 +2,7 @@
 // to, and the running numbers.
 
 // A script that has not returned, and the word it is at.
-#[derive(Drop)]
+#[derive(Clone, Copy)]
 pub struct Task {
     pub script: usize,
     pub word: usize,
@@ -33,14 +33,14 @@ pub enum Turn {
 // The running numbers of a script: 1 if it had a turn, else 0; the words that were left when its last one
 // ended; and its longest wait. A wait is then the difference of two numbers of words left, so that a turn
 // touches its own script's numbers only.
-#[derive(Drop)]
+#[derive(Clone, Copy)]
 pub struct Tally {
     pub turned: u32,
     pub ended: u32,
     pub longest: u32,
 }
 
-#[derive(Drop)]
+#[derive(Clone, Copy)]
 pub struct Tallies {
     pub first: Tally,
     pub second: Tally,
@@ -49,7 +49,7 @@ pub struct Tallies {
 }
 
 // The ready queue: the scripts that have not returned, `size` of them. The first has the turn.
-#[derive(Drop)]
+#[derive(Clone, Copy)]
 pub struct Queue {
     pub size: usize,
     pub a: Task,

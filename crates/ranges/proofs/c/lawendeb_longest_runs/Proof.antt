@@ -6,8 +6,8 @@ use Rattle.ranges.proofs.c.lawendeb_longest_runs.Tie as tie
 
 returns : tie.Need-returns
 returns c =
-    let r = c.before.before.before.before.before.longest-runs.ensures in
-    (rw r.0 at c.flat-range.ensures, (r.1.0, r.1.1))
+    let r = c.longest_runs.ensures in
+    (rw r.0 at c.flat_range.ensures, (r.1.0, r.1.1))
 
 pub lawendeb_longest_runs_spec : {M : Type 1} → statement M
 lawendeb_longest_runs_spec =

@@ -18,7 +18,7 @@ use Rattle.ranges.proofs.range.longest_runs.Statement.{statement}
 use Rattle.ranges.proofs.range.longest_runs.Tie as tie
 
 -- after the checks of the sizes: the script that is lent, and their number
-module _ (c : tie.After-room-refusal) where
+module _ (c : tie.After-room_refusal-number) where
   abbrev start : tie.Start
   start =
       let at-smaller-size = c.before in
@@ -27,11 +27,11 @@ module _ (c : tie.After-room-refusal) where
   abbrev script : Script
   script = script_of start.args.version start.args.words.now
 
-  number : c.room-refusal.result ≡ room_number script.size (min (length start.args.marks.now) (length start.args.lengths.now))
-  number = c.room-refusal.ensures ∙ ap (room_number script.size) c.before.smaller-size.ensures
+  number : c.room_refusal-number.result ≡ room_number script.size (min (length start.args.marks.now) (length start.args.lengths.now))
+  number = c.room_refusal-number.ensures ∙ ap (room_number script.size) c.smaller_size.ensures
 
 -- they are passed
-module _ (c : tie.Else1) where
+module _ (c : tie.Else-number-ne-ACCEPTED) where
   abbrev ws : Script
   ws = script c.before
 
@@ -39,7 +39,7 @@ module _ (c : tie.Else1) where
   entry = start c.before
 
   room : (ws.size ≤ most_words) × (ws.size ≤ min (length entry.args.marks.now) (length entry.args.lengths.now))
-  room = room_pass _ _ (sym (number c.before) ∙ c.if1.left)
+  room = room_pass _ _ (sym (number c.before) ∙ c.if-number-ne-ACCEPTED.false)
 
   marks_long : ws.size ≤ length entry.args.marks.now
   marks_long = omega (arith, room.1)
@@ -48,36 +48,34 @@ module _ (c : tie.Else1) where
   lengths_long = omega (arith, room.1)
 
 -- and so are those of the tables
-module _ (c : tie.Else2) where
-  abbrev sizes : tie.Else1
+module _ (c : tie.Else-range-ne-ACCEPTED) where
+  abbrev sizes : tie.Else-number-ne-ACCEPTED
   sizes = c.before.before.before
 
   ranges : Ranges (entry sizes).args.low.now (entry sizes).args.high.now
-  ranges = ranges_passed _ _ (sym (ap (λ (x : Answer). x.number) c.before.before.range-refusal.ensures) ∙ c.if2.left)
+  ranges = ranges_passed _ _ (sym (ap (λ (x : Answer). x.number) c.range_refusal-range.ensures) ∙ c.if-range-ne-ACCEPTED.false)
 
-returns : tie.Need-returns
-returns c = outcomes_sizes (script c.before) _ _ _ _ (number c.before) c.if1.taken
+returns : tie.Need-returns-then-number-ne-ACCEPTED
+returns c = outcomes_sizes (script c.before) _ _ _ _ (number c.before) c.if-number-ne-ACCEPTED.true
 
-returns_2 : tie.Need-returns-2
+returns_2 : tie.Need-returns-then-range-ne-ACCEPTED
 returns_2 c =
-    let r = c.before.before in
-    let d = r.before in
-    outcomes_refused (ws d) _ _ _ _ r.range-refusal.ensures c.if2.taken (room d).0 (marks_long d) (lengths_long d)
+    let d = c.before.before.before in
+    outcomes_refused (ws d) _ _ _ _ c.range_refusal-range.ensures c.if-range-ne-ACCEPTED.true (room d).0 (marks_long d) (lengths_long d)
 
-returns_3 : tie.Need-returns-3
+returns_3 : tie.Need-returns-then-n-eq0
 returns_3 c =
     let e = c.before in
     let d = sizes e in
-    outcomes_kept (ws d) _ _ _ _ NO_WORDS (runs_none (ws d) _ _ _ _ (room d).0 (marks_long d) (lengths_long d) (ranges e) c.if3.taken)
-    (run_none (ws d) _ _ _ (room d).0 (marks_long d) (lengths_long d) (ranges e).high_weighs c.if3.taken) refl
+    outcomes_kept (ws d) _ _ _ _ NO_WORDS (runs_none (ws d) _ _ _ _ (room d).0 (marks_long d) (lengths_long d) (ranges e) c.if-n-eq0.true)
+    (run_none (ws d) _ _ _ (room d).0 (marks_long d) (lengths_long d) (ranges e).high_weighs c.if-n-eq0.true) refl
 
-runs_of_words_requires : tie.Need-runs-of-words-requires
+runs_of_words_requires : tie.Need-runs_of_words-requires
 runs_of_words_requires c κs =
-    let n = c.before.before in
-    let e = n.before in
+    let e = c.before.before.before in
     let d = sizes e in (
       record {
-        some = pos_of_ne-zero n.if3.left;
+        some = pos_of_ne-zero c.if-n-eq0.false;
         few = (room d).0;
         m_same = length-take-le _ _ (marks_long d);
         l_same = length-take-le _ _ (lengths_long d);
@@ -103,9 +101,7 @@ longest_runs_spec =
     (λ c. search rules)
     (λ c. search rules)
     (λ c.
-    let v = c.before.before.before.before in
-    let n = v.before.before.before in
-    let e = n.before in
+    let e = c.before.before.before.before.before.before.before.before in
     let d = sizes e in
     outcomes_words (ws d) _ _ _ _ (ranges e) (room d).0 (marks_long d)
-    (lengths_long d) (pos_of_ne-zero n.if3.left) v.runs-of-words.ensures))
+    (lengths_long d) (pos_of_ne-zero c.if-n-eq0.false) c.runs_of_words.ensures))

@@ -25,52 +25,46 @@ module _ (s : tie.Start) where
   high = s.args.high.now
 
 -- after both passes
-module _ (c : tie.After-fill-twice) where
+module _ (c : tie.After-fill_twice-lows) where
   abbrev start : tie.Start
   start = c.before.before.before.before.before.before.before.before.before
 
   abbrev marks : List ℕ
-  marks = c.fill-twice.last.1.1.1.1.0
+  marks = c.fill_twice-lows.new.marks
 
   abbrev lengths : List ℕ
-  lengths = c.fill-twice.last.1.1.1.1.1.0
+  lengths = c.fill_twice-lows.new.lengths
 
   long : length lengths ≡ length (words start)
   long =
-      twice_length (version start) (words start) start.pre.0 (low start) (high start)
-      c.before.before.before.slot-mask.ensures marks lengths c.fill-twice.ensures
-      c.fill-twice.kept.1.1.1.1.0 c.fill-twice.kept.1.1.1.1.1.0
+      twice_length (version start) (words start) start.requires.0 (low start) (high start)
+      c.slot_mask.ensures marks lengths c.fill_twice-lows.ensures
+      c.fill_twice-lows.auto.marks c.fill_twice-lows.auto.lengths
 
-fill_twice_requires : tie.Need-fill-twice-requires
+fill_twice_requires : tie.Need-fill_twice-lows-requires
 fill_twice_requires c κs =
     let s = c.before.before.before.before.before.before.before.before in
-    let m = c.before.before.slot-mask.ensures in (
-      fill_asks (version s) (words s) s.pre.0,
-      sym s.pre.0.lent.l_same,
-      (omega (arith, m, mask_small (version s), s.pre.1.0), omega (arith, m, mask_small (version s), s.pre.1.1)),
+    let m = c.slot_mask.ensures in (
+      fill_asks (version s) (words s) s.requires.0,
+      sym s.requires.0.lent.l_same,
+      (omega (arith, m, mask_small (version s), s.requires.1.0), omega (arith, m, mask_small (version s), s.requires.1.1)),
     )
 
-returns : tie.Need-returns
+returns : tie.Need-returns-then-lows-n
 returns c =
-    let k = c.before.before in
-    let h = k.before.before in
-    let at-lengths = h.before.before.before in
-    let f = at-lengths.before.before.before in
+    let f = c.before.before.before.before.before.before.before.before.before.before in
     let s = start f in
-    twice_invalid (version s) (words s) s.pre.0 (low s) (high s)
-    f.before.before.before.slot-mask.ensures (marks f) (lengths f) f.fill-twice.ensures
-    f.fill-twice.kept.1.1.1.1.0 f.fill-twice.kept.1.1.1.1.1.0 h.if1.taken k.clear-lengths.ensures
+    twice_invalid (version s) (words s) s.requires.0 (low s) (high s)
+    f.slot_mask.ensures (marks f) (lengths f) f.fill_twice-lows.ensures
+    f.fill_twice-lows.auto.marks f.fill_twice-lows.auto.lengths c.if-lows-n.true c.clear_lengths.ensures
 
-returns_2 : tie.Need-returns-2
+returns_2 : tie.Need-returns
 returns_2 c =
-    let v = c.before.before in
-    let h = v.before.before in
-    let at-lengths = h.before.before.before in
-    let f = at-lengths.before.before.before in
+    let f = c.before.before.before.before.before.before.before.before in
     let s = start f in
-    twice_accepted (version s) (words s) s.pre.0 (low s) (high s)
-    f.before.before.before.slot-mask.ensures (marks f) (lengths f) f.fill-twice.ensures
-    f.fill-twice.kept.1.1.1.1.0 f.fill-twice.kept.1.1.1.1.1.0 h.if1.left v.find-longest.ensures c.find_first.ensures
+    twice_accepted (version s) (words s) s.requires.0 (low s) (high s)
+    f.slot_mask.ensures (marks f) (lengths f) f.fill_twice-lows.ensures
+    f.fill_twice-lows.auto.marks f.fill_twice-lows.auto.lengths c.if-lows-n.false c.find_longest-longest.ensures c.find_first-first.ensures
 
 pub measure_runs_spec : {M : Type 1} → statement M
 measure_runs_spec =
@@ -87,12 +81,11 @@ measure_runs_spec =
     returns
     (λ c κs.
     let at-lengths = c.before.before.before.before in
-    let f = at-lengths.before.before.before in
+    let f = at-lengths.before.before in
     omega (arith, long f))
     (λ c κs.
-    let at-find-longest = c.before in
-    let at-lengths = at-find-longest.before.before.before.before.before in
-    let f = at-lengths.before.before.before in
+    let at-lengths = c.before.before.before.before.before in
+    let f = at-lengths.before.before in
     omega (arith, long f))
     (λ c. search rules)
     (λ c. search rules)

@@ -6,7 +6,7 @@ pub refuses_range_spec : {M : Type 1} → statement M
 refuses_range_spec =
     tie.close
     (tie.spec
-    (λ c. refusing_low _ _ c.if1.taken)
-    (λ c. refusing_high _ _ c.if2.taken)
-    (λ c κs. (c.before.if1.left, c.if2.left))
-    (λ c. c.has-refused.ensures))
+    (λ c. refusing_low _ _ c.if-low-ne-WEIGHTS.true)
+    (λ c. refusing_high _ _ c.if-high-ne-WEIGHTS.true)
+    (λ c κs. (c.if-low-ne-WEIGHTS.false, c.if-high-ne-WEIGHTS.false))
+    (λ c. c.has_refused.ensures))

@@ -6,13 +6,13 @@ use Rattle.rehearsal.specs.Flat.{flat_rehearsal}
 use Rattle.rehearsal.proofs.c.flat_rehearsal.Statement.{statement}
 use Rattle.rehearsal.proofs.c.flat_rehearsal.Tie as tie
 
-returns : tie.Need-returns
+returns : tie.Need-returns-in-Rehearsed
 unfolding flat_rehearsal
-returns c = sym (ap flat_rehearsal c.before.r.given.1)
+returns c = sym (ap flat_rehearsal c.in-Rehearsed.is)
 
-returns_2 : tie.Need-returns-2
+returns_2 : tie.Need-returns-in-Refused
 unfolding flat_rehearsal
-returns_2 c = sym (ap flat_rehearsal c.before.r2.given.1)
+returns_2 c = sym (ap flat_rehearsal c.in-Refused.is)
 
 pub flat_rehearsal_spec : {M : Type 1} → statement M
 flat_rehearsal_spec =

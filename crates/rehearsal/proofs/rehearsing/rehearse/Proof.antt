@@ -9,54 +9,49 @@ use Rattle.rehearsal.proofs.Ranges.{in-range, out, turned-away, rehearsed_to}
 use Rattle.rehearsal.proofs.rehearsing.rehearse.Statement.{statement}
 use Rattle.rehearsal.proofs.rehearsing.rehearse.Tie as tie
 
-abbrev enter : tie.After-accept → tie.Start
+abbrev enter : tie.After-accept-a → tie.Start
 enter a =
     let at-out-of-range = a.before.before.before.before in
     at-out-of-range.before.before.before.before.before.before.before.before
 
-inside : (a : tie.After-accept)
+inside : (a : tie.After-accept-a)
     → let s = enter a in out_of_range s.args.count s.args.quantum s.args.choices.now ≡ false
 inside a =
-    let at-out-of-range = a.before.before.before.before in
-    sym at-out-of-range.out-of-range.ensures ∙ a.before.before.before.if1.false
+    sym a.out_of_range.ensures ∙ a.if-out_of_range.false
 
-returns : tie.Need-returns
+returns : tie.Need-returns-then-out_of_range
 returns c =
-    let s = c.before.before.before.before.before.before.before.before.before in
-    out s.args.w0.now
-    s.args.w1.now s.args.w2.now s.args.w3.now s.args.count s.args.quantum
-    s.args.choices.now s.args.limit s.args.marks.now s.args.lengths.now
-    (sym c.before.out-of-range.ensures ∙ c.if1.true)
+    out c.args.w0.now
+    c.args.w1.now c.args.w2.now c.args.w3.now c.args.count c.args.quantum
+    c.args.choices.now c.args.limit c.args.marks.now c.args.lengths.now
+    (sym c.out_of_range.ensures ∙ c.if-out_of_range.true)
 
-returns_2 : tie.Need-returns-2
+returns_2 : tie.Need-returns-then-a-ne-ACCEPTED
 returns_2 c =
-    let at-lengths = c.before.before.before in
-    let a = at-lengths.before.before.before in
+    let a = c.before.before.before.before.before.before in
     let s = enter a in
     turned-away s.args.w0.now s.args.w1.now s.args.w2.now s.args.w3.now s.args.count
     s.args.quantum s.args.choices.now s.args.limit s.args.marks.now s.args.lengths.now
-    (inside a) a.accept.result a.accept.new.1.1.1.1.1.0 a.accept.new.1.1.1.1.1.1.0
-    a.accept.ensures c.if2.true
+    (inside a) a.accept-a.result a.accept-a.new.marks a.accept-a.new.lengths
+    a.accept-a.ensures c.if-a-ne-ACCEPTED.true
 
-play_requires : tie.Need-play-requires
+play_requires : tie.Need-play-b-requires
 play_requires c κs =
-    let at-lengths = c.before.before.before in
-    let a = at-lengths.before.before.before in
+    let a = c.before.before.before.before.before.before in
     let s = enter a in
     in-range s.args.count s.args.quantum s.args.choices.now (inside a)
 
-returns_3 : tie.Need-returns-3
+returns_3 : tie.Need-returns
 returns_3 c =
-    let at-lengths = c.before.before.before.before in
-    let a = at-lengths.before.before.before in
+    let a = c.before.before.before.before.before.before.before in
     let s = enter a in
-    let p = c.play.ensures in
+    let p = c.play-b.ensures in
     rehearsed_to s.args.w0.now s.args.w1.now s.args.w2.now s.args.w3.now s.args.count
     s.args.quantum s.args.choices.now s.args.limit s.args.marks.now s.args.lengths.now
-    (inside a) a.accept.result a.accept.new.1.1.1.1.1.0 a.accept.new.1.1.1.1.1.1.0
-    a.accept.ensures c.before.if2.false
-    c.play.result.first.longest c.play.result.second.longest c.play.result.third.longest
-    c.play.result.fourth.longest
+    (inside a) a.accept-a.result a.accept-a.new.marks a.accept-a.new.lengths
+    a.accept-a.ensures c.if-a-ne-ACCEPTED.false
+    c.play-b.result.first.longest c.play-b.result.second.longest c.play-b.result.third.longest
+    c.play-b.result.fourth.longest
     (cc (p 0 (omega arith), p 1 (omega arith), p 2 (omega arith), p 3 (omega arith)))
 
 pub rehearse_spec : {M : Type 1} → statement M

@@ -13,7 +13,7 @@ use Rattle.rehearsal.proofs.Stages.{first_ended, turn_fits, first-turn, next_sta
 use Rattle.rehearsal.proofs.rotation.next_turn.Statement.{statement}
 use Rattle.rehearsal.proofs.rotation.next_turn.Tie as tie
 
-abbrev enter : tie.After-turn-of → tie.Start
+abbrev enter : tie.After-turn_of-t → tie.Start
 enter c =
     let at-queue = c.before.before.before.before in
     at-queue.before.before.before.before.before.before
@@ -21,99 +21,96 @@ enter c =
 abbrev graphs : tie.Start → ℕ → Graph
 graphs s = graphs_of s.args.w0.now s.args.w1.now s.args.w2.now s.args.w3.now
 
-module _ (c : tie.After-turn-of) where
+module _ (c : tie.After-turn_of-t) where
   -- the turn that was taken
-  came : let s = enter c in c.turn-of.result
+  came : let s = enter c in c.turn_of-t.result
       ≡ first_turn (graphs s) s.args.quantum s.args.choices.now s.args.st
   came = let s = enter c in first-turn (graphs s) s.args.quantum s.args.choices.now s.args.st
-      c.before.smaller.result c.turn-of.result c.before.smaller.ensures c.turn-of.ensures
+      c.smaller-room.result c.turn_of-t.result c.smaller-room.ensures c.turn_of-t.ensures
 
-  fits : ran_of c.turn-of.result ≤ (enter c).args.st.left
-  fits = let s = enter c in turn_fits s.args.st s.pre.0 s.pre.1 (graphs s) s.args.quantum
-      s.args.choices.now c.turn-of.result came
+  fits : ran_of c.turn_of-t.result ≤ (enter c).args.st.left
+  fits = let s = enter c in turn_fits s.args.st s.requires.0 s.requires.1 (graphs s) s.args.quantum
+      s.args.choices.now c.turn_of-t.result came
 
   was_left : let s = enter c in s.args.st.left ≤ (tally_at s.args.st.tallies
       s.args.st.queue.a.script).ended
-  was_left = let s = enter c in first_ended s.args.st s.pre.0 s.pre.1
+  was_left = let s = enter c in first_ended s.args.st s.requires.0 s.requires.1
 
-smaller_requires : tie.Need-smaller-requires
+smaller_requires : tie.Need-smaller-room-requires
 smaller_requires c κs = search rules
 
-turn_of_requires : tie.Need-turn-of-requires
+turn_of_requires : tie.Need-turn_of-t-requires
 turn_of_requires c κs = search rules
 
-enum_known_t : tie.Need-enum-known-t
+enum_known_t : tie.Need-enum_known-t
 enum_known_t c = search rules
 
-note_requires : tie.Need-note-requires
-note_requires c κs = let u = c.before.before.before in
-    (was_left u, omega (arith, fits u, ap ran_of c.before.t.given.1))
+note_requires : tie.Need-note-b-requires
+note_requires c κs = let u = c.before in
+    (was_left u, omega (arith, fits u, ap ran_of c.in-Starved.is))
 
-returns : tie.Need-returns
+returns : tie.Need-returns-in-Starved
 returns c =
-    let u = c.before.before.before.before in
+    let u = c.before.before in
     let s = enter u in
-    next_starved (graphs s) s.args.quantum s.args.choices.now s.args.st u.turn-of.result
-    c.before.before.t.given.0.0 c.note.result (came u) c.note.ensures
-    c.before.before.t.given.1
+    next_starved (graphs s) s.args.quantum s.args.choices.now s.args.st u.turn_of-t.result
+    c.in-Starved.ran c.note-b.result (came u) c.note-b.ensures
+    c.in-Starved.is
 
-enum_known_t_2 : tie.Need-enum-known-t-2
+enum_known_t_2 : tie.Need-enum_known-t-in-Returned-1
 enum_known_t_2 c = search rules
 
-note_requires_2 : tie.Need-note-requires-2
-note_requires_2 c κs = let u = c.before.before.before in
-    (was_left u, omega (arith, fits u, ap ran_of c.before.t2.given.1))
+note_requires_2 : tie.Need-note-b-requires-in-Returned
+note_requires_2 c κs = let u = c.before in
+    (was_left u, omega (arith, fits u, ap ran_of c.in-Returned.is))
 
-without_first_requires : tie.Need-without-first-requires
-without_first_requires c κs = let s = enter c.before.before.before.before in s.pre.0.some s.pre.1
+without_first_requires : tie.Need-without_first-q-requires
+without_first_requires c κs = let s = enter c.before.before in s.requires.0.some s.requires.1
 
-returns_2 : tie.Need-returns-2
+returns_2 : tie.Need-returns-then-queue-eq1
 returns_2 c =
-    let t = c.before.before.before.before.before in
-    let u = t.before.before in
+    let u = c.before.before.before.before.before in
     let s = enter u in
-    rw (eq-eqb s.args.st.queue.size 1 c.if1.true) at
-    (next_returned (graphs s) s.args.quantum s.args.choices.now s.args.st u.turn-of.result
-    t.t2.given.0.0 c.before.before.before.note2.result (came u)
-    c.before.before.before.note2.ensures c.before.before.without-first.result t.t2.given.0.1.0
-    t.t2.given.1 c.before.before.without-first.ensures)
+    rw (eq-eqb s.args.st.queue.size 1 c.if-queue-eq1.true) at
+    (next_returned (graphs s) s.args.quantum s.args.choices.now s.args.st u.turn_of-t.result
+    c.in-Returned.ran c.note-b-in-Returned.result (came u)
+    c.note-b-in-Returned.ensures c.without_first-q.result c.in-Returned.taken
+    c.in-Returned.is c.without_first-q.ensures)
 
-sub_t27 : tie.Need-overflow-sub-t27
+sub_t27 : tie.Need-overflow_sub-result
 sub_t27 c = let t = c.before.before.before.before.before in omega
-    (arith, fits t.before.before, ap ran_of t.t2.given.1)
+    (arith, fits t, ap ran_of c.in-Returned.is)
 
-returns_3 : tie.Need-returns-3
+returns_3 : tie.Need-returns-in-Returned
 returns_3 c =
-    let t = c.before.before.before.before.before in
-    let u = t.before.before in
+    let u = c.before.before.before.before.before in
     let s = enter u in
-    rw (ne_eqb s.args.st.queue.size 1 c.if1.false) at
-    (next_returned (graphs s) s.args.quantum s.args.choices.now s.args.st u.turn-of.result
-    t.t2.given.0.0 c.before.before.before.note2.result (came u)
-    c.before.before.before.note2.ensures c.before.before.without-first.result t.t2.given.0.1.0
-    t.t2.given.1 c.before.before.without-first.ensures)
+    rw (ne_eqb s.args.st.queue.size 1 c.if-queue-eq1.false) at
+    (next_returned (graphs s) s.args.quantum s.args.choices.now s.args.st u.turn_of-t.result
+    c.in-Returned.ran c.note-b-in-Returned.result (came u)
+    c.note-b-in-Returned.ensures c.without_first-q.result c.in-Returned.taken
+    c.in-Returned.is c.without_first-q.ensures)
 
-enum_known_t_3 : tie.Need-enum-known-t-3
+enum_known_t_3 : tie.Need-enum_known-t-in-Over-1
 enum_known_t_3 c = search rules
 
-note_requires_3 : tie.Need-note-requires-3
-note_requires_3 c κs = let u = c.before.before.before in
-    (was_left u, omega (arith, fits u, ap ran_of c.before.t3.given.1))
+note_requires_3 : tie.Need-note-b-requires-in-Over
+note_requires_3 c κs = let u = c.before in
+    (was_left u, omega (arith, fits u, ap ran_of c.in-Over.is))
 
-to_the_end_requires : tie.Need-to-the-end-requires
+to_the_end_requires : tie.Need-to_the_end-q-requires
 to_the_end_requires c κs = search rules
 
-sub_t28 : tie.Need-overflow-sub-t28
-sub_t28 c = let t = c.before.before.before in omega (arith, fits t.before.before, ap ran_of t.t3.given.1)
+sub_t28 : tie.Need-overflow_sub-result-in-Over
+sub_t28 c = let t = c.before.before.before in omega (arith, fits t, ap ran_of c.in-Over.is)
 
-returns_4 : tie.Need-returns-4
+returns_4 : tie.Need-returns-in-Over
 returns_4 c =
-    let t = c.before.before.before in
-    let u = t.before.before in
+    let u = c.before.before.before in
     let s = enter u in
-    next_over (graphs s) s.args.quantum s.args.choices.now s.args.st u.turn-of.result
-    t.t3.given.0.0 c.before.note3.result (came u) c.before.note3.ensures c.to_the_end.result
-    t.t3.given.0.1.0 t.t3.given.0.1.1.0 t.t3.given.1 c.to_the_end.ensures
+    next_over (graphs s) s.args.quantum s.args.choices.now s.args.st u.turn_of-t.result
+    c.in-Over.ran c.note-b-in-Over.result (came u) c.note-b-in-Over.ensures c.to_the_end-q.result
+    c.in-Over.word c.in-Over.taken c.in-Over.is c.to_the_end-q.ensures
 
 pub next_turn_spec : {M : Type 1} → statement M
 next_turn_spec =

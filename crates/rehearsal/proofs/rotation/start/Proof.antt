@@ -8,13 +8,12 @@ use Rattle.rehearsal.proofs.rotation.start.Tie as tie
 returns : tie.Need-returns
 unfolding start_stage
 returns c =
-    let at-new-tally = c.before.before.before.before in
     rw (
-      c.task-of4.ensures,
-      c.before.task-of3.ensures,
-      c.before.before.task-of2.ensures,
-      c.before.before.before.task-of.ensures,
-      at-new-tally.new-tally.ensures,
+      c.task_of-d.ensures,
+      c.task_of-c.ensures,
+      c.task_of-b.ensures,
+      c.task_of-a.ensures,
+      c.new_tally-t.ensures,
     )
 
 pub start_spec : {M : Type 1} → statement M

@@ -6,31 +6,30 @@ use borrow.Author.Rules.{rules}
 use Rattle.rehearsal.proofs.tallies.noted_tally.Statement.{statement}
 use Rattle.rehearsal.proofs.tallies.noted_tally.Tie as tie
 
-returns : tie.Need-returns
+returns : tie.Need-returns-then-ran-eq0
 unfolding noted_tally
-returns c = rw (eq-eqb _ _ c.if1.true)
+returns c = rw (eq-eqb _ _ c.if-ran-eq0.true)
 
-sub_t5 : tie.Need-overflow-sub-t5
+sub_t5 : tie.Need-overflow_sub-result
 sub_t5 c = search rules
 
-sub_larger : tie.Need-overflow-sub-larger
+sub_larger : tie.Need-overflow_sub-t
 sub_larger c = search rules
 
 larger_requires : tie.Need-larger-requires
 larger_requires c κs = search rules
 
-returns_2 : tie.Need-returns-2
+returns_2 : tie.Need-returns-then-t-gt0
 unfolding noted_tally
 returns_2 c =
-    let at-if1 = c.before.before.before.before in
-    rw (ne_eqb _ _ at-if1.if1.false, lt-ltb _ _ c.before.before.if2.true, c.larger.ensures)
+    rw (ne_eqb _ _ c.if-ran-eq0.false, lt-ltb _ _ c.if-t-gt0.true, c.larger.ensures)
 
-sub_t8 : tie.Need-overflow-sub-t8
+sub_t8 : tie.Need-overflow_sub-result-2
 sub_t8 c = search rules
 
-returns_3 : tie.Need-returns-3
+returns_3 : tie.Need-returns
 unfolding noted_tally
-returns_3 c = rw (ne_eqb _ _ c.before.before.if1.false, le-ltb _ _ c.if2.false)
+returns_3 c = rw (ne_eqb _ _ c.if-ran-eq0.false, le-ltb _ _ c.if-t-gt0.false)
 
 pub noted_tally_spec : {M : Type 1} → statement M
 noted_tally_spec =

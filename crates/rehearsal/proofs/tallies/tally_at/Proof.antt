@@ -6,9 +6,9 @@ use Rattle.rehearsal.proofs.tallies.tally_at.Tie as tie
 
 returns : tie.Need-returns
 returns c = rw (
-  c.either3.ensures,
-  c.before.either2.ensures,
-  c.before.before.either.ensures,
+  c.either.ensures,
+  c.either-later.ensures,
+  c.either-last.ensures,
 )
 
 pub tally_at_spec : {M : Type 1} → statement M

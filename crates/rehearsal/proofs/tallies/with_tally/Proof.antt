@@ -8,10 +8,10 @@ use Rattle.rehearsal.proofs.tallies.with_tally.Tie as tie
 returns : tie.Need-returns
 unfolding with_tally
 returns c = rw (
-  c.either4.ensures,
-  c.before.either3.ensures,
-  c.before.before.either2.ensures,
-  c.before.before.before.either.ensures,
+  c.either-fourth.ensures,
+  c.either-third.ensures,
+  c.either-second.ensures,
+  c.either-first.ensures,
 )
 
 pub with_tally_spec : {M : Type 1} → statement M
