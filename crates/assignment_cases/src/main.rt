@@ -5,8 +5,8 @@
 use assignment::definite_assignment;
 use common::Answer;
 use print_cases::{bytes, end, number, text};
-use vectors::{bytes_of, number_of, words_of};
 use std::io::Stdout;
+use vectors::{bytes_of, number_of, words_of};
 
 fn show(out: Stdout, a: Answer) {
     if a.number == 0 {

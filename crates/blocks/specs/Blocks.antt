@@ -2,7 +2,8 @@
 -- What the functions ask and leave: the registers of a block as the bits of a number, and a search that goes
 -- for all of them at once. No exported contract cites it.
 -- Assumes nothing.
-use Rattle.std.specs.Prelude.{◌≡◌, ◌⊎◌, Bool, true, false, cond, ◌&&◌, List, [], ◌∷◌, ℕ, zero, suc, ◌+◌, ◌*◌, ◌-◌, ◌/◌, ◌%◌, ◌≤◌, ◌<◌, min, max, leb, ltb, eqb, length, get_or, set}
+use Rattle.std.specs.Prelude.{◌≡◌, ◌⊎◌, Bool, true, false, cond, ◌&&◌, List, [], ◌∷◌, ℕ, zero, suc, ◌+◌}
+use Rattle.std.specs.Prelude.{◌*◌, ◌-◌, ◌/◌, ◌%◌, ◌≤◌, ◌<◌, min, max, leb, ltb, eqb, length, get_or, set}
 use Rattle.std.specs.Int.Bits.{bit_and, bit_or}
 use Rattle.common.specs.Limits.{most_words, most_registers}
 use Rattle.graph.specs.Graph.{Graph, In, Reachable}
@@ -101,7 +102,8 @@ pub data Joins (unset waiting pages : List ℕ) (q more : ℕ) : List ℕ → Li
       (bit_or (get_or unset q 0) more ≡ get_or unset q 0 → ⊥)
       → Joins unset waiting pages q more (set unset q (bit_or (get_or unset q 0) more)) (set waiting q 1)
       (set pages (q / «PAGE») 1)
-  there : bit_or (get_or unset q 0) more ≡ get_or unset q 0 → Joins unset waiting pages q more unset waiting pages
+  there : bit_or (get_or unset q 0) more ≡ get_or unset q 0
+      → Joins unset waiting pages q more unset waiting pages
 
 -- what is left of a state when some registers are set
 abbrev pub leaves : ℕ → ℕ → ℕ

@@ -48,7 +48,8 @@ refused_four number ms = record { meters = ms; answer = record { number = number
 
 -- script i's meter is another now
 abbrev pub changed_four : Meters → ℕ → Meter → FedFour
-changed_four ms i m = record { meters = with_meter ms i m; answer = record { number = «ACCEPTED»; place = 0 } }
+changed_four ms i m =
+    record { meters = with_meter ms i m; answer = record { number = «ACCEPTED»; place = 0 } }
 
 -- what script i has of a call: its own meter, and the answer
 abbrev pub own_of : ℕ → FedFour → Fed

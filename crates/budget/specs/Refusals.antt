@@ -51,7 +51,8 @@ pub record Refusals : Type 0 where
       → (feed_four_of g ms i s q).answer.number ≡ 21 → (i ≤ 3) × (is_out_of_range s ≡ true)
   -- so that with neither a feed is refused as the script's own is, with its place
   pub own_refusal : (g : Scale) (ms : Meters) (i s q : ℕ)
-      → i ≤ last_script → is_out_of_range s ≡ false → ((feed_of g (meter_of ms i) q).answer.number ≡ «ACCEPTED» → ⊥)
+      → i ≤ last_script → is_out_of_range s ≡ false
+      → ((feed_of g (meter_of ms i) q).answer.number ≡ «ACCEPTED» → ⊥)
       → (feed_four_of g ms i s q).answer ≡ (feed_of g (meter_of ms i) q).answer
   -- and taken if that is and the sum is within S
   pub taken : (g : Scale) (ms : Meters) (i s q : ℕ)

@@ -1,4 +1,5 @@
-// For C: the feed of one of four scripts where that is of Lua 5.3. Each export calls the function of that name in `budget53`, and promises the same.
+// For C: the feed of one of four scripts where that is of Lua 5.3.
+// Each export calls the function of that name in `budget53`, and promises the same.
 ghost use Rattle.std.specs.Prelude.{◌≡◌};
 ghost use Rattle.fields.specs.declared.version.Version.TheVariants.{Lua53};
 ghost use Rattle.runs.specs.Script.{script_of};

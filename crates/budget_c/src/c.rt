@@ -1,4 +1,5 @@
-// For C: the four meters are lent to be updated. Each export calls the function of that name in `budget`, and promises the same.
+// For C: the four meters are lent to be updated.
+// Each export calls the function of that name in `budget`, and promises the same.
 ghost use Rattle.std.specs.Prelude.{◌≡◌};
 ghost use Rattle.runs.specs.Script.{lua54};
 ghost use Rattle.meter.specs.Feed.{scale_of};

@@ -3,8 +3,8 @@ use budget::{FedFour, Meters, begin_four, feed_four, reset_four};
 use meter::Meter;
 use pages::word_at;
 use print_cases::{number, number_u32, text};
-use vectors::{bytes_of, number_of, words_of};
 use std::io::Stdout;
+use vectors::{bytes_of, number_of, words_of};
 
 // The meter whose five numbers stand in place k.
 fn meter_at(ms: &[u32], k: u32) -> Meter {
@@ -71,7 +71,10 @@ struct Call {
 }
 
 fn feed_lent(out: Stdout, words: &mut [u32], weights: &mut [u8], ms: &mut [u32], c: Call) {
-    told(out, feed_four(words, weights, meters_of(ms), c.script, c.budget, c.q));
+    told(
+        out,
+        feed_four(words, weights, meters_of(ms), c.script, c.budget, c.q),
+    );
 }
 
 fn call_of(line: &[u8]) -> Call {

@@ -49,7 +49,8 @@ run_answer_of weights ws = run_of ws weights ws.size ws.size
 
 abbrev pub largest_answer : List ℕ → List Script → ℕ
 largest_answer weights [] = 0
-largest_answer weights (ws ∷ script) = max (longest_of (run_answer_of weights ws)) (largest_answer weights script)
+largest_answer weights (ws ∷ script) = max (longest_of (run_answer_of weights ws))
+    (largest_answer weights script)
 
 pub record AcceptedScript (weights : List ℕ) (rest : Script → ℕ → ℕ) (script : List Script) : Type 0 where
   pub weighs : Weighs weights
@@ -72,7 +73,8 @@ pub record Metered (weights : List ℕ) (rest : Script → ℕ → ℕ) (script 
   pub known : In words script
   pub same : a.function ≡ function_of weights rest words
   pub shows : (m : Meter)
-      → m.services < 4294967296 → Shows (scale_of words weights) m a (longest_of (run_answer_of weights words))
+      → m.services < 4294967296
+      → Shows (scale_of words weights) m a (longest_of (run_answer_of weights words))
 
 pub record ScriptBounded (weights : List ℕ) (rest : Script → ℕ → ℕ) (script : List Script) (moves : List Move)
     (c : Control) : Type 0 where

@@ -2,8 +2,8 @@
 use crate::print;
 use chunk::{count_function, fill_function, lent_name, shown_name};
 use pages::first;
-use vectors::{bytes_of, number_of, numbers_of, words_of};
 use std::io::Stdout;
+use vectors::{bytes_of, number_of, numbers_of, words_of};
 
 // One function at each limit, and one past it.
 fn chunk_bytes() -> [u8; 131124] {
@@ -17,7 +17,11 @@ fn count_of(out: Stdout, bytes: &mut [u8], k: usize) {
 // bytes | k
 pub fn count(out: Stdout, line: &[u8]) {
     let mut bytes = chunk_bytes();
-    count_of(out, bytes_of(&mut bytes, line, 2), number_of(line, 3) as usize);
+    count_of(
+        out,
+        bytes_of(&mut bytes, line, 2),
+        number_of(line, 3) as usize,
+    );
 }
 
 fn fill_lent(
@@ -84,8 +88,22 @@ fn name_lent<'a>(
     other: &mut [u64],
     i: usize,
 ) {
-    shown(out, first(bytes, n.bytes), own, first(list, n.list), other, i);
-    name_of(out, first(bytes, n.bytes), own, first(list, n.list), other, i);
+    shown(
+        out,
+        first(bytes, n.bytes),
+        own,
+        first(list, n.list),
+        other,
+        i,
+    );
+    name_of(
+        out,
+        first(bytes, n.bytes),
+        own,
+        first(list, n.list),
+        other,
+        i,
+    );
 }
 
 // bytes | names of the chunk | bytes of the list | names of the list | i

@@ -1,7 +1,8 @@
 -- Document 01, "Records", RULES 10: which arm of lifter.rs an opcode takes, as lift_instruction_54 has it,
 -- with its corners. The arms themselves stand in crates families and objects.
 -- Assumes nothing.
-use Rattle.std.specs.Prelude.{ℕ, ◌+◌, ◌-◌, ◌^◌, true, false, List, eqb, leb, ltb, ℤ, pos, negsuc, ◌+ℤ◌, neg_ℤ, length, get_or}
+use Rattle.std.specs.Prelude.{ℕ, ◌+◌, ◌-◌, ◌^◌, true, false, List, eqb, leb, ltb, ℤ, pos, negsuc, ◌+ℤ◌}
+use Rattle.std.specs.Prelude.{neg_ℤ, length, get_or}
 use Rattle.std.specs.Float.{binary64}
 use Rattle.std.specs.Float.Ieee.{of_int}
 use Rattle.fields.specs.declared.lua54.word.RawInstruction54.{RawInstruction54}

@@ -1,4 +1,5 @@
-// For C: words, runs and the lift. Each export calls the function of that name in `exports`, and promises the same.
+// For C: words, runs and the lift.
+// Each export calls the function of that name in `exports`, and promises the same.
 ghost use Rattle.std.specs.Prelude.{◌≡◌, length};
 ghost use Rattle.runs.specs.Script.{lua54};
 ghost use Rattle.steps.specs.lua54.Successors.{successors_of};

@@ -3,8 +3,8 @@ use crate::print;
 use headers::why_refused;
 use index::list_functions;
 use lines::{Choice, head_by, lines_by, words_by};
-use vectors::{bytes_of, number_of, numbers_of, words_of};
 use std::io::Stdout;
+use vectors::{bytes_of, number_of, numbers_of, words_of};
 
 fn list_lent(out: Stdout, bytes: &mut [u8], places: &mut [u64], parents: &mut [u64]) {
     print::answer(out, list_functions(bytes, places, parents));

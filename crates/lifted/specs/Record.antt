@@ -13,7 +13,8 @@ use Rattle.values.specs.declared.ir.SemanticInstruction.{SemanticInstruction}
 use Rattle.records.specs.Lift.{lift_of}
 use Rattle.numbered.specs.declared.parts.FlatSlot.{FlatSlot}
 use Rattle.numbered.specs.declared.parts.FlatPair.{FlatPair}
-use Rattle.numbered.specs.Parts.{flat_operand, flat_target, flat_effect, flat_fallback, flat_pc, flat_confidence}
+use Rattle.numbered.specs.Parts.{flat_operand, flat_target, flat_effect, flat_fallback, flat_pc}
+use Rattle.numbered.specs.Parts.{flat_confidence}
 
 -- A record's numbers, in RECORD.md's order
 

@@ -13,7 +13,8 @@ use Rattle.lines.specs.declared.choosing.Choice.TheVariants.{Number, Place}
 -- the function whose first byte stands there: "The chunk's length is checked first", and the function is read
 -- to its end, as if it were the main one
 unfoldable pub function_at : ℕ → List ℕ → Result Function
-function_at at bytes = only (leb (length bytes) most_bytes) (bind (load_function levels_below bytes at) (pick 0))
+function_at at bytes = only (leb (length bytes) most_bytes)
+    (bind (load_function levels_below bytes at) (pick 0))
 
 abbrev pub chosen_by : Choice → List ℕ → Result Function
 chosen_by (Number k) bytes = chosen k bytes

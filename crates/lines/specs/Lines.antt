@@ -1,7 +1,8 @@
 -- The lines of a function's words: its linedefined and its line information, read at the positions that the
 -- first pass kept of it. `specs/Ldebug.antt` says what they come to.
 -- Assumes nothing.
-use Rattle.std.specs.Prelude.{◌≡◌, List, [], ◌∷◌, ℕ, zero, suc, ◌+◌, ◌/◌, ◌≤◌, ◌<◌, length, get_or, take, drop}
+use Rattle.std.specs.Prelude.{◌≡◌, List, [], ◌∷◌, ℕ, zero, suc, ◌+◌, ◌/◌, ◌≤◌, ◌<◌, length, get_or, take}
+use Rattle.std.specs.Prelude.{drop}
 use Rattle.common.specs.Limits.{int_max}
 use Rattle.lines.specs.declared.lines.AbsRead.{AbsRead}
 use Rattle.lines.specs.declared.lines.AbsRead.TheVariants as next
@@ -68,7 +69,8 @@ info_behind linedefined bytes (refused e) =
 
 -- what a function knows of its lines
 unfoldable pub line_info_at : List ℕ → ℕ → ℕ → LineInfo
-line_info_at bytes first_at lines_at = info_behind (defined_at bytes first_at) bytes (read_info bytes lines_at)
+line_info_at bytes first_at lines_at = info_behind (defined_at bytes first_at) bytes
+    (read_info bytes lines_at)
 
 -- a line for each word, 0 where there is no debug information
 abbrev pub lines_in : List ℕ → Function → List ℕ

@@ -11,7 +11,8 @@ use Rattle.lundump.specs.Chunk.{chosen, words_of, tags_of, payloads_of, names_of
 
 -- what a lift answers to a function's words, tags, payloads and names, with room for so many records
 abbrev pub lifting : List ℕ → Function → ℕ → Answer
-lifting bytes f room = answer_of (length (words_of f)) (tags_of f) (payloads_of f) (names_of f) (length bytes) room
+lifting bytes f room = answer_of (length (words_of f)) (tags_of f) (payloads_of f) (names_of f)
+    (length bytes) room
 
 pub record Loaded : Type 0 where
   pub lifted : (k : ℕ) (bytes : List ℕ) (f : Function) (at : ℕ) → chosen k bytes ≡ done f at

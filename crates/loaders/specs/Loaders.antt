@@ -3,7 +3,8 @@
 -- loadConstants' switch.
 -- What the C refuses by `error` is 15 here. Document 02 adds the unknown tag (3).
 -- Assumes nothing.
-use Rattle.std.specs.Prelude.{cond, List, [], ◌∷◌, ℕ, zero, suc, ◌+◌, ◌*◌, ◌/◌, ◌%◌, ltb, leb, eqb, length, drop, get_or}
+use Rattle.std.specs.Prelude.{cond, List, [], ◌∷◌, ℕ, zero, suc, ◌+◌, ◌*◌, ◌/◌, ◌%◌, ltb, leb, eqb, length}
+use Rattle.std.specs.Prelude.{drop, get_or}
 use Rattle.values.specs.Values.{
   TAG_NIL,
   TAG_FALSE,

@@ -1,4 +1,5 @@
-// For C: scripts of Lua 5.3. Each export calls the function of that name in `lua53`, and promises the same.
+// For C: scripts of Lua 5.3.
+// Each export calls the function of that name in `lua53`, and promises the same.
 ghost use Rattle.std.specs.Prelude.{◌≡◌, length};
 ghost use Rattle.fields.specs.lua53.Word.{fields_of, opcode_of};
 ghost use Rattle.fields.specs.lua53.Table.{mode_number, mode_of};
@@ -10,7 +11,8 @@ ghost use Rattle.runs.specs.Flat.{flat_successors, flat_run};
 ghost use Rattle.ranges.specs.Range.{runs_of, marks_after_both, lengths_after_both};
 ghost use Rattle.ranges.specs.Flat.{flat_range};
 ghost use Rattle.runs.specs.Counted.{ones};
-ghost use Rattle.service.specs.Questions.{nearest_of, crossed_of, within_of, marks_within, lengths_within, list_within};
+ghost use Rattle.service.specs.Questions.{nearest_of, crossed_of, within_of};
+ghost use Rattle.service.specs.Questions.{marks_within, lengths_within, list_within};
 ghost use Rattle.common.specs.Flat.{flat_answer};
 ghost use Rattle.service.specs.Flat.{flat_nearest, flat_crossed};
 ghost use Rattle.touches.specs.Touches.{touches_for};

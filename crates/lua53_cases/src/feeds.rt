@@ -3,8 +3,8 @@ use crate::print::*;
 use meter::Meter;
 use meter53::feed_step_53;
 use pages::word_at;
-use vectors::{bytes_of, number_of, words_of};
 use std::io::Stdout;
+use vectors::{bytes_of, number_of, words_of};
 
 fn meter_of(m: &[u32]) -> Meter {
     Meter {

@@ -4,8 +4,8 @@ use lua53::c::{
     lawendeb_crossing_edges_53, lawendeb_decode_53, lawendeb_distance_to_service_53,
     lawendeb_list_within_53, lawendeb_longest_run_53, lawendeb_successors_53,
 };
-use vectors::{bytes_of, number_of, words_of};
 use std::io::Stdout;
+use vectors::{bytes_of, number_of, words_of};
 
 fn signed(out: Stdout, sbx: i32) {
     if sbx < 0 {
@@ -39,10 +39,20 @@ fn step_at(out: Stdout, words: &mut [u32], p: usize) {
 // words | p
 pub fn step(out: Stdout, line: &[u8]) {
     let mut words = [0u32; 8];
-    step_at(out, words_of(&mut words, line, 2), number_of(line, 3) as usize);
+    step_at(
+        out,
+        words_of(&mut words, line, 2),
+        number_of(line, 3) as usize,
+    );
 }
 
-fn run_lent(out: Stdout, words: &mut [u32], weights: &mut [u8], marks: &mut [u8], lengths: &mut [u32]) {
+fn run_lent(
+    out: Stdout,
+    words: &mut [u32],
+    weights: &mut [u8],
+    marks: &mut [u8],
+    lengths: &mut [u32],
+) {
     answer(out, lawendeb_longest_run_53(words, weights, marks, lengths));
     slices(out, marks, lengths);
 }
@@ -63,7 +73,10 @@ pub fn run(out: Stdout, line: &[u8]) {
 }
 
 fn distance_lent(out: Stdout, words: &mut [u32], w: usize, marks: &mut [u8], lengths: &mut [u32]) {
-    nearest(out, lawendeb_distance_to_service_53(words, w, marks, lengths));
+    nearest(
+        out,
+        lawendeb_distance_to_service_53(words, w, marks, lengths),
+    );
 }
 
 // words | w | marks | lengths

@@ -67,7 +67,8 @@ rooms_of words tags payloads names =
 
 -- the rooms of one who wants the words alone: as long as can be, but for the words
 abbrev pub words_room : ℕ → Rooms
-words_room words = record { words = words; tags = most_constants; payloads = most_constants; names = most_names }
+words_room words =
+    record { words = words; tags = most_constants; payloads = most_constants; names = most_names }
 
 unfoldable pub fits : Function → Rooms → Bool
 fits f rooms =

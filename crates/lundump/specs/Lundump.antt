@@ -66,7 +66,8 @@ load_loc_var i = and_then load_string_n (and_then load_int load_int)
 
 unfoldable pub load_lines : Reader (List ℕ)
 load_lines =
-    and_then (load_vector int_max 1) (and_then (load_items int_max load_abs_line) (load_items int_max load_loc_var))
+    and_then (load_vector int_max 1)
+    (and_then (load_items int_max load_abs_line) (load_items int_max load_loc_var))
 
 -- loadDebug: the upvalues' names, after `if (n != 0) n = f->sizeupvalues`. "names, one per upvalue";
 -- "Stripped scripts have no upvalue names"
@@ -98,7 +99,8 @@ pub record Function : Type 0 where
 -- loadFunction, ahead of its parts: source, linedefined, lastlinedefined, numparams, is_vararg, maxstacksize
 unfoldable pub load_head : Reader ℕ
 load_head =
-    and_then load_string_n (and_then load_int (and_then load_int (and_then load_byte (and_then load_byte load_byte))))
+    and_then load_string_n
+    (and_then load_int (and_then load_int (and_then load_byte (and_then load_byte load_byte))))
 
 -- loadFunction, over a loadProtos: the function, and then those within it, so that "Functions count
 -- from 0 by their first byte"

@@ -1,4 +1,5 @@
-// For C: the meter is lent to be updated. Each export calls the function of that name in `meter`, and promises the same.
+// For C: the meter is lent to be updated.
+// Each export calls the function of that name in `meter`, and promises the same.
 ghost use Rattle.std.specs.Prelude.{◌≡◌};
 ghost use Rattle.runs.specs.Script.{lua54};
 ghost use Rattle.meter.specs.Feed.{scale_of, begin_of, reset_of, feed_of};

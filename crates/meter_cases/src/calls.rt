@@ -3,8 +3,8 @@ use common::c::FlatAnswer;
 use meter::{Fed, Meter, feed_step};
 use pages::word_at;
 use print_cases::{number, number_u32, text};
-use vectors::{bytes_of, number_of, words_of};
 use std::io::Stdout;
+use vectors::{bytes_of, number_of, words_of};
 
 fn meter_of(m: &[u32]) -> Meter {
     Meter {

@@ -87,7 +87,8 @@ pub record Needed : Type 0 where
       → length ws < smallest → length ws ≡ length vs
       → number_of (run_of (script_of version ws) weights marks lengths) ≡ «ACCEPTED»
       → DifferUnreachable version ws vs
-      → run_of (script_of version ws) weights marks lengths ≡ run_of (script_of version vs) weights marks lengths
+      → run_of (script_of version ws) weights marks lengths
+      ≡ run_of (script_of version vs) weights marks lengths
   -- a word that stands before a reachable one and after none: "46 to 48 .. p > 0 and word p-1 is 21 to 45"
   pub before_unreachable : (mark_of (graph_of (lua54 (before_metamethod OP_ADD))) 1 ≡ 0)
       × (mark_of (graph_of (lua54 (before_metamethod OP_ADD))) 2 ≡ 0)
@@ -99,7 +100,8 @@ pub record Needed : Type 0 where
       (version : Version) (ws vs weights : List ℕ) (marks lengths : ℕ) → length ws ≡ length vs
       → number_of (run_of (script_of version ws) weights marks lengths) ≡ «ACCEPTED»
       → DifferBeforeNone version ws vs
-      → run_of (script_of version ws) weights marks lengths ≡ run_of (script_of version vs) weights marks lengths
+      → run_of (script_of version ws) weights marks lengths
+      ≡ run_of (script_of version vs) weights marks lengths
   -- a word that is dead by the second list alone: "TFORPREP 75 .. that word is TFORCALL"
   pub second_unreachable :
       (mark_of (graph_of (lua54 (entered_loop OP_MOVE))) 1 ≡ 0)

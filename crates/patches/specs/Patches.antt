@@ -52,7 +52,8 @@ module _ (version : Version) (ws vs weights marks lengths marks' lengths' : List
         ≡ run_of (script_of version vs) weights (length marks') (length lengths')
     -- document 01's "Elements past n are untouched": there each slice of the second run keeps its own
     pub marks_kept : Kept (length vs) marks' (marks_after (script_of version vs) weights marks' lengths')
-    pub lengths_kept : Kept (length vs) lengths' (lengths_after (script_of version vs) weights marks' lengths')
+    pub lengths_kept : Kept (length vs) lengths'
+        (lengths_after (script_of version vs) weights marks' lengths')
 
 abbrev pub DeadWordsMayChange : Type 0
 DeadWordsMayChange =

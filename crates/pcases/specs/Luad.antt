@@ -2,7 +2,8 @@
 -- or more of each opcode and of document 01's corners ("Records"), as the 53 numbers of include/RECORD.md.
 -- The definition's are the same: a record changed in its definition and in the code alike is refused here.
 -- Assumes nothing.
-use Rattle.std.specs.Prelude.{ℕ, zero, suc, ◌+◌, ◌-◌, ◌*◌, ◌≤◌, ◌<◌, ◌≡◌, List, [], ◌∷◌, ◌++◌, length, get_or, replicate}
+use Rattle.std.specs.Prelude.{ℕ, zero, suc, ◌+◌, ◌-◌, ◌*◌, ◌≤◌, ◌<◌, ◌≡◌, List, [], ◌∷◌, ◌++◌, length}
+use Rattle.std.specs.Prelude.{get_or, replicate}
 use Rattle.fields.specs.lua54.Word.{opcode_of}
 use Rattle.records.specs.Lift.{lift_of}
 use Rattle.lifted.specs.Record.{numbers_of}

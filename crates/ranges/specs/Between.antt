@@ -27,7 +27,8 @@ module _ (ws : Script) (low high : List ℕ) (marks lengths : ℕ) where
     -- and else refused by the same number, at the same place
     pub number : number_of (run_of ws table marks lengths)
         ≡ number_of (low_run (runs_of ws low high marks lengths))
-    pub place : place_of (run_of ws table marks lengths) ≡ place_of (low_run (runs_of ws low high marks lengths))
+    pub place : place_of (run_of ws table marks lengths)
+        ≡ place_of (low_run (runs_of ws low high marks lengths))
     -- "between the two reports"
     pub above_low : longest_of (low_run (runs_of ws low high marks lengths))
         ≤ longest_of (run_of ws table marks lengths)

@@ -69,7 +69,8 @@ runs_of ws low high marks lengths =
 
 -- a table that 18 turns away, or two that 19 does
 abbrev pub refuses_range : List ℕ → List ℕ → Bool
-refuses_range low high = refuses_weights low || (refuses_weights high || ltb (lowest_above low high) weight_count)
+refuses_range low high = refuses_weights low ||
+    (refuses_weights high || ltb (lowest_above low high) weight_count)
 
 module _ (ws : Script) (low high marks lengths : List ℕ) where
   -- "the work slices end as the high table's run leaves them"; where the tables are

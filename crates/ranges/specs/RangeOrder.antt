@@ -37,7 +37,8 @@ module _ (ws : Script) (low high : List ℕ) (marks lengths : ℕ) where
         (number_of report ≡ 7) ↔ (Sized × Weighed × ((i : ℕ) → AboveAt low high i → ⊥) × (ws.size ≡ 0))
     -- "18 on both tables, low first"
     pub place_low : number_of report ≡ 18 → refuses_weights low ≡ true → place_of report ≡ weights_place low
-    pub place_high : number_of report ≡ 18 → refuses_weights low ≡ false → place_of report ≡ weights_place high
+    pub place_high : number_of report ≡ 18 → refuses_weights low ≡ false
+        → place_of report ≡ weights_place high
     -- "the place is the lowest such opcode"
     pub place_19 : number_of report ≡ 19 → AboveAt low high (place_of report)
     pub lowest_19 : number_of report ≡ 19 → (i : ℕ) → AboveAt low high i → place_of report ≤ i

@@ -1,4 +1,5 @@
-// For C: runs by two tables of weights. Each export calls the function of that name in `ranges`, and promises the same.
+// For C: runs by two tables of weights.
+// Each export calls the function of that name in `ranges`, and promises the same.
 ghost use Rattle.std.specs.Prelude.{◌≡◌, length};
 ghost use Rattle.runs.specs.Script.{lua54};
 ghost use Rattle.ranges.specs.Range.{runs_of, marks_after_both, lengths_after_both};

@@ -1,7 +1,8 @@
 -- Document 01: "Records, too, go into the caller's own list of records", one per word. The caller's list
 -- after lift_proto_lua54, and what it says of each element.
 -- Assumes nothing.
-use Rattle.std.specs.Prelude.{ℕ, zero, suc, ◌<◌, ◌≤◌, ◌≡◌, true, false, List, [], eqb, ltb, length, get_or, set}
+use Rattle.std.specs.Prelude.{ℕ, zero, suc, ◌<◌, ◌≤◌, ◌≡◌, true, false, List, [], eqb, ltb, length, get_or}
+use Rattle.std.specs.Prelude.{set}
 use Rattle.values.specs.declared.ir.SemanticInstruction.{SemanticInstruction}
 use Rattle.values.specs.declared.ir.ImplicitEffect.TheVariants.{NoEffect}
 use Rattle.values.specs.declared.ir.Fallback.TheVariants.{NoFallback}
@@ -40,7 +41,8 @@ pub record ElementWise (words tags payloads names : List ℕ) (bytes : ℕ)
       (answer_of (length words) tags payloads names bytes (length records)).number ≡ «ACCEPTED»
       → (i : ℕ) (d : SemanticInstruction)
       → i < length words
-      → get_or (records_after words tags payloads names bytes records) i d ≡ lift_of words tags payloads names i
+      → get_or (records_after words tags payloads names bytes records) i d
+      ≡ lift_of words tags payloads names i
   -- accepted or not: "Elements past n are untouched, records too"
   pub untouched :
       (i : ℕ) (d : SemanticInstruction)

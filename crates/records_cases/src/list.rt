@@ -9,11 +9,11 @@ use crate::sums;
 use common::Answer;
 use print_cases::{end, number, text};
 use records::walk::lift_proto_lua54;
+use std::io::Stdout;
 use values::ir::{
     Confidence, EffectTarget, Fallback, ImplicitEffect, OperandSlot, Operands, OptionalPc, Reads,
     SemanticInstruction, TargetSlot, TypedOperand, Writes,
 };
-use std::io::Stdout;
 
 #[derive(Drop)]
 struct Few {

@@ -5,9 +5,9 @@ use crate::{lent, list, sums};
 use pages::{first, first_words};
 use print_cases::{end, number, text};
 use records::lift::lift_word;
+use std::io::Stdout;
 use tables::refusals::planned;
 use vectors::{number_of, part};
-use std::io::Stdout;
 
 // How many records there is room for; the answer's number and place, and how many records are written.
 fn plan_of<'a>(
@@ -183,5 +183,14 @@ pub fn lift(out: Stdout, line: &[u8]) {
         &mut names,
         &mut bytes,
     );
-    lift_lent(out, part(line, 1), c, &words, &tags, &payloads, &names, &bytes);
+    lift_lent(
+        out,
+        part(line, 1),
+        c,
+        &words,
+        &tags,
+        &payloads,
+        &names,
+        &bytes,
+    );
 }

@@ -1,7 +1,8 @@
 -- Request C-21: a machine that runs scripts in rotation, one word at a step, over any graphs.
 -- Its trace is all that it ran.
 -- Assumes nothing.
-use Rattle.std.specs.Prelude.{Bool, cond, ◌||◌, List, [], ◌∷◌, ◌++◌, ℕ, zero, suc, ◌+◌, ltb, eqb, length, get_or}
+use Rattle.std.specs.Prelude.{Bool, cond, ◌||◌, List, [], ◌∷◌, ◌++◌, ℕ, zero, suc, ◌+◌, ltb, eqb, length}
+use Rattle.std.specs.Prelude.{get_or}
 use Rattle.graph.specs.Graph.{Graph}
 use Rattle.rehearsal.specs.declared.machine.Task.{Task}
 use Rattle.rehearsal.specs.declared.machine.Move.{Move}

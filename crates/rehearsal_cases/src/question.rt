@@ -1,8 +1,8 @@
 // The question. A line has what it is lent, in the order of its parameters.
 use crate::print;
 use rehearsal::rehearse;
-use vectors::{bytes_of, number_of, words_of};
 use std::io::Stdout;
+use vectors::{bytes_of, number_of, words_of};
 
 // How many scripts there are, a turn's words, and the words in all.
 #[derive(Drop)]
@@ -23,9 +23,12 @@ fn rehearsed(
     marks: &mut [u8],
     lengths: &mut [u32],
 ) {
-    print::answer(out, rehearse(
-        w0, w1, w2, w3, n.count, n.quantum, choices, n.limit, marks, lengths,
-    ));
+    print::answer(
+        out,
+        rehearse(
+            w0, w1, w2, w3, n.count, n.quantum, choices, n.limit, marks, lengths,
+        ),
+    );
     print::slices(out, marks, lengths);
 }
 

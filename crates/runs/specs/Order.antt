@@ -41,7 +41,8 @@ module _ (ws : Script) (weights : List ℕ) (marks lengths : ℕ) where
     pub one : (number_of run_answer ≡ 1) ↔ (32768 < ws.size)
     pub six : (number_of run_answer ≡ 6) ↔ (Fewer × Short)
     pub eighteen : (number_of run_answer ≡ 18) ↔ (Fewer × Long × (refuses_weights weights ≡ true))
-    pub seven : (number_of run_answer ≡ 7) ↔ (Fewer × Long × (refuses_weights weights ≡ false) × (ws.size ≡ 0))
+    pub seven : (number_of run_answer ≡ 7)
+        ↔ (Fewer × Long × (refuses_weights weights ≡ false) × (ws.size ≡ 0))
     -- the place of 18 is the table's; 1, 6 and 7 name none
     pub place_18 : number_of run_answer ≡ 18 → place_of run_answer ≡ weights_place weights
     pub no_place : (number_of run_answer ≡ 18 → ⊥) → (number_of run_answer ≡ 8 → ⊥) → place_of run_answer ≡ 0

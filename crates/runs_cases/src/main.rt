@@ -5,8 +5,8 @@
 mod print;
 mod questions;
 
-use vectors::{part, which};
 use std::io::Stdout;
+use vectors::{part, which};
 
 fn ask(out: Stdout, line: &[u8]) {
     let question = which(line, b"step|serves|run|runs");

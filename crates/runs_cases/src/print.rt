@@ -3,8 +3,8 @@ use print_cases::{bytes, number, numbers};
 pub use print_cases::{end, text};
 use ranges::RunRange;
 use runs::Run;
-use sweep::edges::Successors;
 use std::io::Stdout;
+use sweep::edges::Successors;
 
 // The number, then L and first, or the place.
 pub fn answer(out: Stdout, run: Run) {

@@ -3,10 +3,10 @@ use crate::print;
 use fields::version::Version;
 use ranges::longest_runs;
 use runs::longest_run;
+use std::io::Stdout;
 use steps::lua54::successors::successors;
 use sweep::edges;
 use vectors::{bytes_of, number_of, words_of};
-use std::io::Stdout;
 
 fn step_at(out: Stdout, words: &mut [u32], p: usize) {
     print::steps(out, successors(words, p));
@@ -15,7 +15,11 @@ fn step_at(out: Stdout, words: &mut [u32], p: usize) {
 // words | p
 pub fn step(out: Stdout, line: &[u8]) {
     let mut words = [0u32; 8];
-    step_at(out, words_of(&mut words, line, 2), number_of(line, 3) as usize);
+    step_at(
+        out,
+        words_of(&mut words, line, 2),
+        number_of(line, 3) as usize,
+    );
 }
 
 // p | q
@@ -25,8 +29,17 @@ pub fn serves(out: Stdout, line: &[u8]) {
     }
 }
 
-fn run_lent(out: Stdout, words: &mut [u32], weights: &mut [u8], marks: &mut [u8], lengths: &mut [u32]) {
-    print::answer(out, longest_run(Version::Lua54, words, weights, marks, lengths));
+fn run_lent(
+    out: Stdout,
+    words: &mut [u32],
+    weights: &mut [u8],
+    marks: &mut [u8],
+    lengths: &mut [u32],
+) {
+    print::answer(
+        out,
+        longest_run(Version::Lua54, words, weights, marks, lengths),
+    );
     print::slices(out, marks, lengths);
 }
 
@@ -53,7 +66,10 @@ fn runs_lent(
     marks: &mut [u8],
     lengths: &mut [u32],
 ) {
-    print::range(out, longest_runs(Version::Lua54, words, low, high, marks, lengths));
+    print::range(
+        out,
+        longest_runs(Version::Lua54, words, low, high, marks, lengths),
+    );
     print::slices(out, marks, lengths);
 }
 

@@ -64,7 +64,8 @@ listed_by d x = cond (eqb x 0) 0 (cond (leb x d) 1 0)
 -- the answer, the lengths and the list after entries es: refused where a reachable word is bad, with the list
 -- as it was
 abbrev pub by_lowest : {A : Type 0} → List ℕ → A → A → A
-by_lowest es refused accepted = cond (ltb (lowest_by (length es) (entry_steps es)) (length es)) refused accepted
+by_lowest es refused accepted = cond
+    (ltb (lowest_by (length es) (entry_steps es)) (length es)) refused accepted
 
 abbrev pub answer_in : List ℕ → Answer
 answer_in es =

@@ -1,9 +1,11 @@
-// For C: the three questions of `service`. Each export calls the function of that name in `service`, and promises the same.
+// For C: the three questions of `service`.
+// Each export calls the function of that name in `service`, and promises the same.
 ghost use Rattle.std.specs.Prelude.{◌≡◌, length};
 ghost use Rattle.runs.specs.Script.{lua54};
 ghost use Rattle.runs.specs.Run.{marks_after, lengths_after};
 ghost use Rattle.runs.specs.Counted.{ones};
-ghost use Rattle.service.specs.Questions.{nearest_of, crossed_of, within_of, marks_within, lengths_within, list_within};
+ghost use Rattle.service.specs.Questions.{nearest_of, crossed_of, within_of};
+ghost use Rattle.service.specs.Questions.{marks_within, lengths_within, list_within};
 ghost use Rattle.common.specs.Flat.{flat_answer};
 ghost use Rattle.service.specs.Flat.{flat_nearest, flat_crossed};
 

@@ -2,8 +2,8 @@
 use crate::print;
 use fields::version::Version;
 use service::{crossing_edges, distance_to_service, list_within};
-use vectors::{bytes_of, number_of, numbers_of, words_of};
 use std::io::Stdout;
+use vectors::{bytes_of, number_of, numbers_of, words_of};
 
 fn number_at(ws: &[u64], i: usize) -> usize {
     if i < ws.len() { as_index(ws[i]) } else { 0 }
@@ -14,7 +14,13 @@ fn as_index(w: u64) -> usize {
     w as usize
 }
 
-fn distances_lent(out: Stdout, words: &mut [u32], ws: &mut [u64], marks: &mut [u8], lengths: &mut [u32]) {
+fn distances_lent(
+    out: Stdout,
+    words: &mut [u32],
+    ws: &mut [u64],
+    marks: &mut [u8],
+    lengths: &mut [u32],
+) {
     for i in 0..ws.len() {
         distance(out, words, number_at(ws, i), marks, lengths);
     }
@@ -22,7 +28,10 @@ fn distances_lent(out: Stdout, words: &mut [u32], ws: &mut [u64], marks: &mut [u
 }
 
 fn distance(out: Stdout, words: &[u32], w: usize, marks: &mut [u8], lengths: &mut [u32]) {
-    print::nearest(out, distance_to_service(Version::Lua54, words, w, marks, lengths));
+    print::nearest(
+        out,
+        distance_to_service(Version::Lua54, words, w, marks, lengths),
+    );
 }
 
 // words | several w, one after another in the same slices | marks | lengths
@@ -41,10 +50,19 @@ pub fn distances(out: Stdout, line: &[u8]) {
 }
 
 fn crossing(out: Stdout, words: &[u32], w: usize, marks: &mut [u8], lengths: &mut [u32]) {
-    print::crossed(out, crossing_edges(Version::Lua54, words, w, marks, lengths));
+    print::crossed(
+        out,
+        crossing_edges(Version::Lua54, words, w, marks, lengths),
+    );
 }
 
-fn crossings_lent(out: Stdout, words: &mut [u32], ws: &mut [u64], marks: &mut [u8], lengths: &mut [u32]) {
+fn crossings_lent(
+    out: Stdout,
+    words: &mut [u32],
+    ws: &mut [u64],
+    marks: &mut [u8],
+    lengths: &mut [u32],
+) {
     for i in 0..ws.len() {
         crossing(out, words, number_at(ws, i), marks, lengths);
     }
@@ -66,8 +84,18 @@ pub fn crossings(out: Stdout, line: &[u8]) {
     );
 }
 
-fn listed(out: Stdout, words: &[u32], d: usize, marks: &mut [u8], lengths: &mut [u32], list: &mut [u8]) {
-    print::listed(out, list_within(Version::Lua54, words, d, marks, lengths, list));
+fn listed(
+    out: Stdout,
+    words: &[u32],
+    d: usize,
+    marks: &mut [u8],
+    lengths: &mut [u32],
+    list: &mut [u8],
+) {
+    print::listed(
+        out,
+        list_within(Version::Lua54, words, d, marks, lengths, list),
+    );
     print::bytes(out, list);
 }
 
@@ -107,7 +135,14 @@ struct Places {
     within: usize,
 }
 
-fn all_lent(out: Stdout, words: &mut [u32], q: Places, marks: &mut [u8], lengths: &mut [u32], list: &mut [u8]) {
+fn all_lent(
+    out: Stdout,
+    words: &mut [u32],
+    q: Places,
+    marks: &mut [u8],
+    lengths: &mut [u32],
+    list: &mut [u8],
+) {
     distance(out, words, q.distance, marks, lengths);
     crossing(out, words, q.crossing, marks, lengths);
     within_lent(out, words, q.within, marks, lengths, list);

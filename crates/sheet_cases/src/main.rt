@@ -6,8 +6,8 @@ mod buffers;
 
 use buffers::repeated;
 use print_cases::{decimal, end, text};
-use vectors::{bytes_of, number_of};
 use std::io::Stdout;
+use vectors::{bytes_of, number_of};
 
 // The first n bytes of a buffer as a sheet.
 fn show(out: Stdout, buffer: &[u8; 65536], n: usize) {

@@ -41,7 +41,8 @@ way_stores (arm go runs) = stores_of runs
 -- the cell is named by one of the accesses, in word p
 abbrev pub Touched : Version → List ℕ → ℕ → Cell → List Access → Type 0
 Touched v ws p c accesses =
-    Any (names (taken v (get_or ws p 0)) (taken v (get_or ws (p - 1) 0)) (taken v (get_or ws (p + 1) 0)) c) accesses
+    Any (names (taken v (get_or ws p 0)) (taken v (get_or ws (p - 1) 0))
+    (taken v (get_or ws (p + 1) 0)) c) accesses
 
 -- read by some execution of word p
 abbrev pub Reads : Version → List ℕ → ℕ → Cell → Type 0
@@ -68,7 +69,8 @@ WrittenOnlyTo v ws p c z =
 
 abbrev pub TouchedAt : Version → List ℕ → ℕ → ℕ → ℕ → List Access → Type 0
 TouchedAt v ws p t q accesses = Any
-    (names_at (taken v (get_or ws p 0)) (taken v (get_or ws (p - 1) 0)) (taken v (get_or ws (p + 1) 0)) t q) accesses
+    (names_at (taken v (get_or ws p 0)) (taken v (get_or ws (p - 1) 0))
+    (taken v (get_or ws (p + 1) 0)) t q) accesses
 
 abbrev pub ReadsAt : Version → List ℕ → ℕ → ℕ → ℕ → Type 0
 ReadsAt v ws p t q = Any (λ (w : Way v). TouchedAt v ws p t q (way_reads w)) (ways_at v ws p)
@@ -80,7 +82,9 @@ WrittenAt v ws p t q =
 
 -- the tops that can be: before the word, and after it
 abbrev pub TopBefore : Version → List ℕ → ℕ → ℕ → Type 0
-TopBefore v ws p t = All (λ (w : Way v). All (Meets (taken v (get_or ws p 0)) t) (way_reads w)) (ways_at v ws p)
+TopBefore v ws p t = All (λ (w : Way v). All (Meets (taken v (get_or ws p 0)) t) (way_reads w))
+    (ways_at v ws p)
 
 abbrev pub TopAfter : Version → List ℕ → ℕ → ℕ → Type 0
-TopAfter v ws p t = All (λ (w : Way v). All (Meets (taken v (get_or ws p 0)) t) (way_stores w)) (ways_at v ws p)
+TopAfter v ws p t = All (λ (w : Way v). All (Meets (taken v (get_or ws p 0)) t) (way_stores w))
+    (ways_at v ws p)

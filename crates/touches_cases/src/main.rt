@@ -4,9 +4,9 @@
 
 mod print;
 
+use std::io::Stdout;
 use touches::{touches, touches_53};
 use vectors::{number_of, words_of};
-use std::io::Stdout;
 
 fn touched(out: Stdout, words: &mut [u32], p: usize) {
     print::touches(out, touches(words, p));
@@ -25,9 +25,17 @@ fn ask(out: Stdout, line: &[u8]) {
     let mut words = [0u32; 8];
     print::text(out, vectors::part(line, 1));
     if question == 0 {
-        touched(out, words_of(&mut words, line, 2), number_of(line, 3) as usize);
+        touched(
+            out,
+            words_of(&mut words, line, 2),
+            number_of(line, 3) as usize,
+        );
     } else {
-        touched_53(out, words_of(&mut words, line, 2), number_of(line, 3) as usize);
+        touched_53(
+            out,
+            words_of(&mut words, line, 2),
+            number_of(line, 3) as usize,
+        );
     }
 }
 

@@ -21,5 +21,7 @@ pub record Flattened : Type 0 where
   pub refused : (k p : ℕ) → Told (flat_path (PathRun.Refused k p)) k p 0 0 0
   -- the same from the run's own answer and the path
   pub of_run :
-      (l f : ℕ) (path : List ℕ) → Told (flat_path (path_answer_by (Run.Accepted l f) path)) 0 0 l f (length path)
-  pub of_refusal : (k p : ℕ) (path : List ℕ) → Told (flat_path (path_answer_by (Run.Refused k p) path)) k p 0 0 0
+      (l f : ℕ) (path : List ℕ)
+      → Told (flat_path (path_answer_by (Run.Accepted l f) path)) 0 0 l f (length path)
+  pub of_refusal : (k p : ℕ) (path : List ℕ)
+      → Told (flat_path (path_answer_by (Run.Refused k p) path)) k p 0 0 0

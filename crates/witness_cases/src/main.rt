@@ -3,9 +3,9 @@
 #![tactic(auto)]
 
 use print_cases::{end, number, numbers, text};
+use std::io::Stdout;
 use vectors::{bytes_of, words_of};
 use witness::{PathRun, longest_path, longest_path_53};
-use std::io::Stdout;
 
 fn answer(out: Stdout, r: PathRun) {
     match r {

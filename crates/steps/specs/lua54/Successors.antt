@@ -1,6 +1,7 @@
 -- Document 01, "Steps", RULES 2: the successors of word p of the words ws of Lua 5.4.
 -- Assumes nothing.
-use Rattle.std.specs.Prelude.{ℕ, ◌+◌, ◌-◌, Bool, true, cond, ◌&&◌, List, ltb, leb, eqb, pos, ◌+ℤ◌, ◌-ℤ◌, length, get_or}
+use Rattle.std.specs.Prelude.{ℕ, ◌+◌, ◌-◌, Bool, true, cond, ◌&&◌, List, ltb, leb, eqb, pos, ◌+ℤ◌, ◌-ℤ◌}
+use Rattle.std.specs.Prelude.{length, get_or}
 use Rattle.fields.specs.lua54.Opcodes.{
   OP_ADDI,
   OP_SHR,
@@ -85,7 +86,8 @@ stands_at jump_after ws p = eqb (opcode_at ws (p + 1)) OP_JMP
 -- word p+1 is EXTRAARG
 stands_at extra_after ws p = eqb (opcode_at ws (p + 1)) OP_EXTRAARG
 -- the same for "SETLIST 78 if its k is 1"
-stands_at extra_after_if_k ws p = cond (eqb (k_of (get_or ws p 0)) 1) (eqb (opcode_at ws (p + 1)) OP_EXTRAARG) true
+stands_at extra_after_if_k ws p = cond (eqb (k_of (get_or ws p 0)) 1)
+    (eqb (opcode_at ws (p + 1)) OP_EXTRAARG) true
 -- p+1+Bx: that word is TFORCALL
 stands_at call_at_target ws p = eqb (opcode_at ws (p + 1 + bx_of (get_or ws p 0))) OP_TFORCALL
 -- p+1: that word is TFORLOOP
