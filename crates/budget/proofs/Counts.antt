@@ -1,13 +1,12 @@
 -- Whose each of the four meters is, and the sum of their counts.
 -- Assumes nothing.
-use Prim.Native.Nat.{ℕ, ◌+◌, ◌<◌, ◌≤◌}
+use Prim.Native.Nat.{ℕ, ◌+◌, ◌≤◌}
 use mathlib.Core.Path.{◌≡◌, refl, sym}
 use native.Mathlib.Omega.{arith}
-use Rattle.meter.specs.declared.step.Meter.{Meter}
 use Rattle.budget.specs.declared.step.Meters.{Meters}
-use Rattle.budget.specs.Four.{meter_of, with_meter, sum_of, others_of}
+use Rattle.budget.specs.Four.{meter_of, sum_of, others_of}
 use Rattle.budget.specs.Counts.{Counts}
-use Rattle.budget.proofs.Meters.{each}
+use Rattle.budget.proofs.FourMeters.{each}
 use Rattle.budget.proofs.Own.{at_axis, at_focuser, at_dome, at_guider, at_none}
 
 sum : (ms : Meters) → sum_of ms ≡ ms.axis.count + (ms.focuser.count + (ms.dome.count + ms.guider.count))

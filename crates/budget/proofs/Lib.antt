@@ -1,4 +1,4 @@
-pub mod Meters
+pub mod FourMeters
 pub mod Own
 pub mod Counts
 pub mod View
@@ -6,5 +6,3 @@ pub mod Alone
 pub mod Refusals
 pub mod Never
 pub mod Independent
-pub mod FeedWalk
-pub mod ChangeWalk

@@ -34,7 +34,7 @@ use Rattle.budget.specs.Calls.{made, four_after, answer_numbers, turns_back, ans
 use Rattle.budget.specs.Calls.{all_answers}
 use Rattle.budget.specs.Never as Claim
 use Rattle.budget.specs.Never.{AcceptedWithin, EachWithin, is_begin, is_feed, NoFeeds, Begins, Opening, TurnsBack}
-use Rattle.budget.proofs.Meters.{others_most}
+use Rattle.budget.proofs.FourMeters.{others_most}
 use Rattle.budget.proofs.View.{settled, viewed, made_as, own_as, other_as}
 use Rattle.budget.proofs.Alone.{Plain, fed_plain, runs_alone}
 

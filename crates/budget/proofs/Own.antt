@@ -14,7 +14,7 @@ use Rattle.meter.specs.declared.step.Fed.{Fed}
 use Rattle.meter.specs.Feed.{Scale, feed_of}
 use Rattle.budget.specs.declared.step.Meters.{Meters}
 use Rattle.budget.specs.Four.{meter_of, with_meter, sum_of, is_out_of_range, refused_four, settle_four, feed_four_of}
-use Rattle.budget.proofs.Meters.{each, read_after}
+use Rattle.budget.proofs.FourMeters.{each, read_after}
 
 -- what was put is read
 pub own_after : (ms : Meters) (m : Meter) (i : ℕ) → i ≤ 3 → meter_of (with_meter ms i m) i ≡ m

@@ -21,7 +21,7 @@ use Rattle.budget.specs.Four.{meter_of, with_meter, sum_of, others_of, is_out_of
 use Rattle.budget.specs.Four.{changed_four, begin_four_of, reset_four_of, settle_four, feed_four_of}
 use Rattle.budget.specs.Calls.{FourCall, Scripts, turns_back, made_by, made}
 use Rattle.budget.specs.Refusals as Claim
-use Rattle.budget.proofs.Meters.{sum_after}
+use Rattle.budget.proofs.FourMeters.{sum_after}
 use Rattle.budget.proofs.View.{no_script}
 use Rattle.budget.proofs.Alone.{fed_plain}
 

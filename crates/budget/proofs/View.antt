@@ -17,7 +17,7 @@ use Rattle.budget.specs.declared.step.Meters.{Meters}
 use Rattle.budget.specs.declared.step.FedFour.{FedFour}
 use Rattle.budget.specs.Four.{meter_of, with_meter, others_of, is_out_of_range, refused_four, begin_four_of, reset_four_of, settle_four, feed_four_of}
 use Rattle.budget.specs.Calls.{Scripts, FourCall, made_by, made}
-use Rattle.budget.proofs.Meters.{read_after, read_left, sum_after}
+use Rattle.budget.proofs.FourMeters.{read_after, read_left, sum_after}
 
 -- a call that is taken
 abbrev pub taken : Meter → Fed

@@ -192,11 +192,10 @@ fn settle(ms: Meters, script: u32, budget: u32, m: Meter, f: Fed) -> Fed
     requires { (script ≤ last_script) × (m ≡ meter_of ms script) }
     ensures { result ≡ own_of script (settle_four ms script budget f) }
 {
-    let answer = f.answer;
-    if answer.number != ACCEPTED {
+    if f.answer.number != ACCEPTED {
         return Fed {
             meter: m,
-            answer: answer,
+            answer: f.answer,
         };
     }
     let moved = f.meter;

@@ -4,18 +4,18 @@ use Rattle.budget.specs.Four.{begin_four_of}
 use Rattle.budget.proofs.step.begin_four.Statement.{statement}
 use Rattle.budget.proofs.step.begin_four.Tie as tie
 
-returns : tie.Need-returns
+returns : tie.Need-returns-then-script-gt-LAST_SCRIPT
 unfolding begin_four_of
-returns c = rw (c.refused.ensures, lt-ltb 3 _ c.before.if1.true)
+returns c = rw (c.refused.ensures, lt-ltb 3 _ c.if-script-gt-LAST_SCRIPT.true)
 
-returns_2 : tie.Need-returns-2
+returns_2 : tie.Need-returns
 unfolding begin_four_of
 returns_2 c =
     rw (
-      le-ltb 3 _ c.before.before.before.if1.false,
-      c.with-meter.ensures,
-      c.before.begin-step.ensures,
-      c.before.before.meter-of.ensures,
+      le-ltb 3 _ c.if-script-gt-LAST_SCRIPT.false,
+      c.with_meter-next.ensures,
+      c.begin_step-begun.ensures,
+      c.meter_of-m.ensures,
     )
 
 pub begin_four_spec : {M : Type 1} → statement M

@@ -1,36 +1,31 @@
 use borrow.Author.Rules.{rules}
-use borrow.Author.Tests.{ltb-false}
-use Rattle.common.specs.Limits.{last_script}
+use borrow.Author.Tests.{lt-ltb, le-ltb}
 use Rattle.budget.specs.Four.{feed_four_of}
 use Rattle.budget.proofs.step.feed_own_script.Statement.{statement}
 use Rattle.budget.proofs.step.feed_own_script.Tie as tie
 
-returns : tie.Need-returns
+returns : tie.Need-returns-then-no_script
 unfolding feed_four_of
-returns c = rw (c.turned_back.ensures, c.before.if1.true, c.before.before.before.meter-of.ensures)
+returns c = rw (c.turned_back.ensures, lt-ltb _ _ c.if-no_script.true, c.meter_of-m.ensures)
 
-returns_2 : tie.Need-returns-2
+returns_2 : tie.Need-returns-then-out_of_range
 unfolding feed_four_of
 returns_2 c =
-    let e = c.before.before in
-    let r = e.before in
-    rw (c.turned-back2.ensures, e.if1.false, ← r.is-out-of-range.ensures, c.before.if2.true, r.before.meter-of.ensures)
+    rw (c.turned_back-then-out_of_range.ensures, le-ltb _ _ c.if-no_script.false, ← c.is_out_of_range-out_of_range.ensures, c.if-out_of_range.true, c.meter_of-m.ensures)
 
 settle_requires : tie.Need-settle-requires
-settle_requires c κs = let e = c.before.before in (ltb-false last_script _ e.if1.false, e.before.before.meter-of.ensures)
+settle_requires c κs = (c.if-no_script.false, c.meter_of-m.ensures)
 
-returns_3 : tie.Need-returns-3
+returns_3 : tie.Need-returns
 unfolding feed_four_of
 returns_3 c =
-    let e = c.before.before.before in
-    let r = e.before in
     rw (
-      e.if1.false,
-      ← r.is-out-of-range.ensures,
-      c.before.before.if2.false,
+      le-ltb _ _ c.if-no_script.false,
+      ← c.is_out_of_range-out_of_range.ensures,
+      c.if-out_of_range.false,
       c.settle.ensures,
-      c.before.feed-script.ensures,
-      r.before.meter-of.ensures,
+      c.feed_script-f.ensures,
+      c.meter_of-m.ensures,
     )
 
 pub feed_own_script_spec : {M : Type 1} → statement M

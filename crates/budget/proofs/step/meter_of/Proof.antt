@@ -3,21 +3,21 @@ use Rattle.budget.specs.Four.{meter_of}
 use Rattle.budget.proofs.step.meter_of.Statement.{statement}
 use Rattle.budget.proofs.step.meter_of.Tie as tie
 
-returns : tie.Need-returns
+returns : tie.Need-returns-in-0
 unfolding meter_of
-returns c = rw (eq-eqb _ 0 c.match.keys1)
+returns c = rw (eq-eqb _ 0 c.in-0.is)
 
-returns_2 : tie.Need-returns-2
+returns_2 : tie.Need-returns-in-1
 unfolding meter_of
-returns_2 c = rw c.match.keys2
+returns_2 c = rw c.in-1.is
 
-returns_3 : tie.Need-returns-3
+returns_3 : tie.Need-returns-in-2
 unfolding meter_of
-returns_3 c = rw c.match.keys3
+returns_3 c = rw c.in-2.is
 
-returns_4 : tie.Need-returns-4
+returns_4 : tie.Need-returns-in_default
 unfolding meter_of
-returns_4 c = rw (ne_eqb _ 0 c.match.rest.0.0.1, ne_eqb _ 1 c.match.rest.0.1, ne_eqb _ 2 c.match.rest.1)
+returns_4 c = rw (ne_eqb _ 0 c.in_default.in_default-own.rest.0.0.1, ne_eqb _ 1 c.in_default.in_default-own.rest.0.1, ne_eqb _ 2 c.in_default.in_default-own.rest.1)
 
 pub meter_of_spec : {M : Type 1} → statement M
 meter_of_spec = tie.close (tie.spec returns returns_2 returns_3 returns_4)

@@ -5,7 +5,7 @@ use Rattle.budget.proofs.step.sum.Tie as tie
 
 returns : tie.Need-returns
 unfolding sum_of
-returns c = rw (c.before.before.before.wide.ensures, c.before.before.wide2.ensures, c.before.wide3.ensures, c.wide4.ensures)
+returns c = rw (c.wide-axis.ensures, c.wide-focuser.ensures, c.wide-dome.ensures, c.wide-guider.ensures)
 
 pub sum_spec : {M : Type 1} → statement M
 sum_spec =

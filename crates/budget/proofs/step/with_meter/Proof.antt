@@ -5,7 +5,7 @@ use Rattle.budget.proofs.step.with_meter.Tie as tie
 
 returns : tie.Need-returns
 unfolding with_meter
-returns c = rw (c.before.before.before.choose.ensures, c.before.before.choose2.ensures, c.before.choose3.ensures, c.choose4.ensures)
+returns c = rw (c.choose-axis.ensures, c.choose-focuser.ensures, c.choose-dome.ensures, c.choose-guider.ensures)
 
 pub with_meter_spec : {M : Type 1} → statement M
 with_meter_spec = tie.close (tie.spec (λ c κs. search rules) (λ c κs. search rules) (λ c κs. search rules) (λ c κs. search rules) returns)
