@@ -14,7 +14,8 @@ const BITRK: u16 = 256;
 // 5.3's RK(x): with that bit the constant of the other bits, else register x.
 fn register_or_constant(x: u16) -> Location
     requires { x < 1024 }
-    ensures { result ≡ cond (eqb («ISK» x) 0) (Location.Registers x (x + 1)) (Location.Constant («INDEXK» x)) }
+    ensures { result ≡ cond (eqb («ISK» x) 0) (Location.Registers x (x + 1))
+        (Location.Constant («INDEXK» x)) }
 {
     if x / BITRK % 2 == 0 {
         Location::Registers(x, x + 1)
