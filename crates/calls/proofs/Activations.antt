@@ -20,6 +20,7 @@ along_more g law p [] q a i = (a, i, law.inside p q i)
 along_more g law p (x ∷ ps) q a i = (a.0, a.1, along_more g law x ps q a.2 i)
 
 largest_upper : (script : List GraphFunction) (f : GraphFunction) → In f script → longest_run f ≤ largest_run script
+largest_upper [] f x = elim x [ ]
 largest_upper (x ∷ xs) f (inl e) = let h : longest_run f ≡ longest_run x = ap longest_run e in omega arith
 largest_upper (x ∷ xs) f (inr i) = let h = largest_upper xs f i in omega arith
 
@@ -71,6 +72,7 @@ module _ (script : List GraphFunction) where
   AllSound (a ∷ others) = Sound a × AllSound others
 
   pub sound_of : (s : List Activation) → AllSound s → (a : Activation) → In a s → Sound a
+  sound_of [] o a x = elim x [ ]
   sound_of (x ∷ xs) o a (inl e) = subst (λ (y : Activation). Sound y) (sym e) o.0
   sound_of (x ∷ xs) o a (inr i) = sound_of xs o.1 a i
 

@@ -3,7 +3,7 @@ use mathlib.Core.Path.{◌≡◌, refl, sym, ap, subst, ◌∙◌}
 use mathlib.Core.Logic.{inl, inr}
 use mathlib.Core.Bool.{Bool, true, false, cond}
 use mathlib.Core.List.{List, [], ◌∷◌, ◌++◌}
-use Prim.Native.Nat.{ℕ, zero, suc, ◌+◌, ◌≤◌, ◌<◌}
+use Prim.Native.Nat.{ℕ, zero, suc, ◌+◌, ◌<◌}
 use native.Mathlib.Omega.{arith}
 use lib.ListN.{length, replicate}
 use Rattle.common.specs.Numbers.{«ACCEPTED»}
@@ -24,7 +24,7 @@ use Rattle.calls.specs.Meters.{fed_held, begun_for, held_at, serving, behind, we
 use Rattle.calls.specs.Meters.{controller_told, told_all, answers_to, event_answers, all_answered, StepFrom}
 use Rattle.calls.specs.Meters.{Possible, Happens, event_move, moves_of, running_count, MeterBound}
 use Rattle.calls.specs.Meters.{MetersBound}
-use Rattle.calls.proofs.Activations.{Sound, AllSound, goes-on}
+use Rattle.calls.proofs.Activations.{AllSound, goes-on}
 use Rattle.calls.proofs.Bound.{Kept, kept_idle, kept_move, shown-of, most_of}
 use Rattle.calls.proofs.Script.{shows, fit_of, named}
 
@@ -52,6 +52,7 @@ in_append n (x ∷ xs) ys P f g (inr i) = in_append n xs ys P (λ m j. f m (inr 
 
 in_functions : (weights : List ℕ) (rest : Script → ℕ → ℕ) (script : List Script) (ws : Script) → In ws script
     → In (function_of weights rest ws) (functions_from weights rest script)
+in_functions weights rest [] ws x = elim x [ ]
 in_functions weights rest (x ∷ xs) ws (inl e) = inl (ap (function_of weights rest) e)
 in_functions weights rest (x ∷ xs) ws (inr i) = inr (in_functions weights rest xs ws i)
 

@@ -7,7 +7,6 @@ use Prim.Native.Nat.{ℕ, ◌*◌, ◌≤◌, ◌<◌, max}
 use native.Mathlib.Nat.{le_antisymm}
 use native.Mathlib.Omega.{arith}
 use borrow.Author.Tests.{eq-eqb, lt-ltb}
-use lib.ListN.{length}
 use Rattle.common.specs.Numbers.{«ACCEPTED»}
 use Rattle.common.specs.Lowest.{lowest_from}
 use Rattle.common.proofs.Order.{split}
@@ -21,7 +20,7 @@ use Rattle.graph.proofs.Meaning.{meaning}
 use Rattle.sweep.specs.Steps.{unless, one, ordered, two, serves_of}
 use Rattle.steps.specs.lua54.Successors.{opcode_at, is_between, companion_present, successors_of}
 use Rattle.fields.specs.declared.version.Version.{Version}
-use Rattle.runs.specs.Script.{Script, script_of, lua54, graph_of, weight_of, Sound}
+use Rattle.runs.specs.Script.{Script, script_of, graph_of, weight_of, Sound}
 use Rattle.runs.specs.Weights.{lowest_zero, refuses_weights, Weighs}
 use Rattle.runs.specs.Counted.{ones}
 use Rattle.runs.specs.Demand.{Demand}

@@ -1,13 +1,12 @@
 -- A walk with no serving step, from a word that is reached, weighs no more than L: by the laws of graph. Assumes nothing.
-use mathlib.Core.Path.{◌≡◌, refl, sym, ap}
-use mathlib.Core.Logic.{inl, inr, ⊎_elim}
+use mathlib.Core.Path.{◌≡◌, refl, sym}
+use mathlib.Core.Logic.{inl, inr}
 use mathlib.Core.Bool.{false}
 use mathlib.Core.List.{List, [], ◌∷◌}
-use Prim.Native.Nat.{ℕ, zero, suc, ◌+◌, ◌≤◌, ◌<◌}
+use Prim.Native.Nat.{ℕ, ◌+◌, ◌≤◌}
 use native.Mathlib.Omega.{arith}
-use Rattle.common.proofs.Order.{split}
 use Rattle.graph.specs.Graph.{Graph, In, Lawful, Reachable, weigh}
-use Rattle.graph.specs.Longest.{best, length_of, most, longest}
+use Rattle.graph.specs.Longest.{best, length_of, longest}
 use Rattle.graph.proofs.Laws.{laws}
 use Rattle.graph.proofs.Numbers.{most_upper}
 
@@ -17,6 +16,7 @@ Free g p [] = Unit {0}
 Free g p (q ∷ qs) = (In q (g.successors p) × (g.serves p q ≡ false)) × Free g q qs
 
 best_upper : (g : Graph) (f : ℕ → ℕ) (p q : ℕ) (qs : List ℕ) → In q qs → g.serves p q ≡ false → f q ≤ best g p f qs
+best_upper g f p q [] x s = elim x [ ]
 best_upper g f p q (x ∷ xs) (inl e) s = rw (sym e, s) (omega arith)
 best_upper g f p q (x ∷ xs) (inr i) s = let h = best_upper g f p q xs i s in omega arith
 
