@@ -1,4 +1,6 @@
 // Lists of operands, reads and writes, by their elements in the order in which lifter.rs pushes them.
+#![tactic(auto, unfolding(crate::specs::Shapes::operands_of, crate::specs::Shapes::reads_of, crate::specs::Shapes::writes_of))]
+
 ghost use Rattle.std.specs.Prelude.{◌≡◌, [], ◌∷◌};
 ghost use Rattle.builders.specs.Shapes.{operands_of, reads_of, writes_of, plain_of};
 

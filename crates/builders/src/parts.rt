@@ -39,6 +39,7 @@ pub fn less(a: usize, b: usize) -> usize
 }
 
 // The Rust's saturating_add of registers.
+#[tactic(auto, unfolding(crate::specs::Parts::plus, common::specs::Chain::choose))]
 pub fn register_plus(a: u8, b: u8) -> u8
     ensures { result ≡ plus a b }
 {
@@ -52,6 +53,7 @@ pub fn register_less(a: u8, b: u8) -> u8
 }
 
 // lifter.rs's tm_name.
+#[tactic(auto, unfolding(crate::specs::Parts::event_of, common::specs::Chain::choose))]
 pub fn event_of(c: u8) -> u8
     ensures { result ≡ event_of c }
 {
@@ -90,6 +92,7 @@ pub fn immediate_float(value: i32) -> TypedOperand
     }
 }
 
+#[tactic(auto, unfolding(crate::specs::Parts::constant))]
 pub fn constant_operand(tags: &[u8], payloads: &[u64], index: usize) -> TypedOperand
     ensures { result ≡ constant tags.now payloads.now index }
 {
@@ -99,6 +102,7 @@ pub fn constant_operand(tags: &[u8], payloads: &[u64], index: usize) -> TypedOpe
     }
 }
 
+#[tactic(auto, unfolding(crate::specs::Parts::upvalue))]
 pub fn upvalue_operand(names: &[u64], index: u8) -> TypedOperand
     ensures { result ≡ upvalue names.now index }
 {
@@ -108,6 +112,7 @@ pub fn upvalue_operand(names: &[u64], index: u8) -> TypedOperand
     }
 }
 
+#[tactic(auto, unfolding(crate::specs::Parts::upvalue_target))]
 pub fn upvalue_target(names: &[u64], index: u8) -> EffectTarget
     ensures { result ≡ upvalue_target names.now index }
 {
@@ -117,6 +122,7 @@ pub fn upvalue_target(names: &[u64], index: u8) -> EffectTarget
     }
 }
 
+#[tactic(auto, unfolding(crate::specs::Parts::rk, common::specs::Chain::choose))]
 pub fn rk_operand(tags: &[u8], payloads: &[u64], k: u8, index: u8) -> TypedOperand
     ensures { result ≡ rk tags.now payloads.now k index }
 {
@@ -127,6 +133,7 @@ pub fn rk_operand(tags: &[u8], payloads: &[u64], k: u8, index: u8) -> TypedOpera
     }
 }
 
+#[tactic(auto, unfolding(crate::specs::Parts::rk_target, common::specs::Chain::choose))]
 pub fn rk_target(k: u8, index: u8) -> EffectTarget
     ensures { result ≡ rk_target k index }
 {
@@ -139,6 +146,7 @@ pub fn rk_target(k: u8, index: u8) -> EffectTarget
     }
 }
 
+#[tactic(auto, unfolding(crate::specs::Parts::count_less))]
 pub fn count_less(field: u8) -> TypedOperand
     ensures { result ≡ count_less field }
 {
@@ -148,6 +156,7 @@ pub fn count_less(field: u8) -> TypedOperand
     }
 }
 
+#[tactic(auto, unfolding(crate::specs::Parts::arguments, common::specs::Chain::choose))]
 pub fn call_reads(a: u8, b: u8) -> Reads
     ensures { result ≡ reads_of (EffectTarget.Register a ∷ arguments a b) }
 {
@@ -168,6 +177,7 @@ pub fn call_reads(a: u8, b: u8) -> Reads
     }
 }
 
+#[tactic(auto, unfolding(crate::specs::Parts::results, common::specs::Chain::choose))]
 pub fn result_reads(a: u8, b: u8) -> Reads
     ensures { result ≡ reads_of (results a b) }
 {
@@ -181,6 +191,7 @@ pub fn result_reads(a: u8, b: u8) -> Reads
     }
 }
 
+#[tactic(auto, unfolding(crate::specs::Parts::results, common::specs::Chain::choose))]
 pub fn result_writes(a: u8, c: u8) -> Writes
     ensures { result ≡ writes_of (results a c) }
 {
