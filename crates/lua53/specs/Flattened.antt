@@ -3,7 +3,6 @@
 -- Assumes nothing.
 use Rattle.std.specs.Prelude.{ℕ, ◌≡◌}
 use Rattle.fields.specs.lua53.Word as word
-use Rattle.lua53.specs.declared.c.FlatFields.{FlatFields}
 use Rattle.lua53.specs.Flat.{flat_fields}
 
 -- request C-24: "Add its 47 opcodes, fields, .."
