@@ -23,6 +23,7 @@ fn refuse(number: u8, place: usize) -> Answer
     Answer { number, place }
 }
 
+#[tactic(auto, unfolding(crate::specs::Refusals::unknown_tag, common::specs::Chain::choose))]
 fn is_unknown(tag: u8) -> bool
     ensures { result ≡ unknown_tag tag }
 {
@@ -38,6 +39,7 @@ fn is_unknown(tag: u8) -> bool
     }
 }
 
+#[tactic(auto, unfolding(crate::specs::Refusals::is_string, common::specs::Chain::choose))]
 fn is_string(tag: u8) -> bool
     ensures { result ≡ is_string tag }
 {
@@ -48,6 +50,7 @@ fn is_string(tag: u8) -> bool
     }
 }
 
+#[tactic(auto, unfolding(common::specs::Chain::choose))]
 fn is_string_past(tag: u8, payload: u64, bytes: usize) -> bool
     ensures { result ≡ choose (is_string tag) (past bytes payload) false }
 {
@@ -88,6 +91,7 @@ fn first_string_past(tags: &[u8], payloads: &[u64], bytes: usize) -> usize
 }
 
 // The answer for so many words, string bytes and places for records.
+#[tactic(auto, unfolding(crate::specs::Refusals::answer_of))]
 fn check(
     n: usize,
     tags: &[u8],
@@ -132,6 +136,7 @@ fn check(
 }
 
 // What lifting is to do: the answer, and how many records it writes into so much room.
+#[tactic(auto, unfolding(crate::specs::Refusals::plan_of, common::specs::Chain::choose))]
 pub fn planned<'a>(
     words: &'a [u32],
     tags: &'a [u8],

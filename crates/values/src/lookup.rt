@@ -38,6 +38,7 @@ fn span_at(payload: u64) -> Span
 
 // The bits of a signed number. The language's cast takes only numbers that fit, so a negative one is the
 // complement of one that does.
+#[tactic(auto, using(crate::proofs::Laws::twice), unfolding(crate::specs::Values::signed64, common::specs::Chain::choose))]
 fn signed(payload: u64) -> i64
     ensures { result ≡ signed64 payload }
 {
@@ -59,6 +60,7 @@ fn is_nan(bits: u64) -> bool
     }
 }
 
+#[tactic(auto, unfolding(crate::specs::Values::float_of, common::specs::Chain::choose))]
 fn float(bits: u64) -> ConstantValue
     ensures { result ≡ float_of bits }
 {
@@ -90,6 +92,7 @@ fn long_string(payload: u64) -> ConstantValue
     })
 }
 
+#[tactic(auto, using(crate::proofs::Laws::kept), unfolding(crate::specs::Values::value_of, common::specs::Chain::choose))]
 fn value(tag: u8, payload: u64) -> ConstantValue
     ensures { result ≡ value_of tag payload }
 {
@@ -104,6 +107,7 @@ fn value(tag: u8, payload: u64) -> ConstantValue
     }
 }
 
+#[tactic(auto, unfolding(crate::specs::Values::constant_of, common::specs::Chain::choose))]
 pub fn constant_at(tags: &[u8], payloads: &[u64], index: usize) -> ConstantValue
     ensures { result ≡ constant_of tags.now payloads.now index }
 {
@@ -118,6 +122,7 @@ pub fn constant_at(tags: &[u8], payloads: &[u64], index: usize) -> ConstantValue
     }
 }
 
+#[tactic(auto, unfolding(crate::specs::Values::name_of, common::specs::Chain::choose))]
 pub fn upvalue_name(names: &[u64], index: usize) -> Name
     ensures { result ≡ name_of names.now index }
 {

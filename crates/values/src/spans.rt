@@ -7,6 +7,7 @@ ghost use Rattle.values.specs.Spans.{past, first_name_past};
 use crate::lookup::UNNAMED;
 
 // The sum is below 2^33 and needs 64 bits.
+#[tactic(auto, unfolding(crate::specs::Spans::past))]
 pub fn is_past(bytes: usize, payload: u64) -> bool
     ensures { result ≡ past bytes payload }
 {
@@ -14,6 +15,7 @@ pub fn is_past(bytes: usize, payload: u64) -> bool
     bytes < end as usize
 }
 
+#[tactic(auto, unfolding(common::specs::Chain::choose))]
 fn is_name_past(payload: u64, bytes: usize) -> bool
     ensures { result ≡ choose (eqb payload unnamed) false (past bytes payload) }
 {
