@@ -78,8 +78,7 @@ fn unwritten() -> SemanticInstruction {
 
 // A line for each place: its record's pc, word and sum.
 fn show_places(out: Stdout, records: [SemanticInstruction; 8]) {
-    let mut i: usize = 0;
-    while i < 8 {
+    for i in 0..8 {
         let record = records[i];
         text(out, b"place");
         number(out, i as u64);
@@ -87,7 +86,6 @@ fn show_places(out: Stdout, records: [SemanticInstruction; 8]) {
         number(out, record.raw_word as u64);
         number(out, sums::record(0, record));
         end(out);
-        i += 1;
     }
 }
 

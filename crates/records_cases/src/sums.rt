@@ -9,10 +9,8 @@ fn mix(sum: u64, x: u64) -> u64 {
 pub fn record(sum: u64, r: SemanticInstruction) -> u64 {
     let numbers = numbers_of(r);
     let mut mixed = sum;
-    let mut i: usize = 0;
-    while i < 53 {
+    for i in 0..53 {
         mixed = mix(mixed, numbers[i]);
-        i += 1;
     }
     mixed
 }
