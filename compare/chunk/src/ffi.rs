@@ -1,4 +1,4 @@
-//! What crates/chunk and real.c export.
+//! What libchunk.a, the archive of crates/chunk_c, and real.c export.
 
 #[repr(C)]
 #[derive(Clone, Copy, PartialEq, Eq, Debug)]
