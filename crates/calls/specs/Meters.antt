@@ -1,6 +1,6 @@
 -- The controller's side, over the project's own meter: one for each activation, begun when that is entered
 -- and fed each of its words; and one number more, `left`. The sum of the meters alive is no bound, since a
--- callee's share leaves with its meter (`Needed`, `none-live`). proofs/Meters.antt proves `MetersBound`.
+-- callee's share leaves with its meter (`Needed`, `none_live`). proofs/Meters.antt proves `MetersBound`.
 -- Assumes nothing.
 use Rattle.std.specs.Prelude.{◌≡◌, Bool, cond, List, [], ◌∷◌, ◌++◌, ℕ, ◌+◌, ◌≤◌, ◌<◌}
 use Rattle.common.specs.Numbers.{«ACCEPTED»}

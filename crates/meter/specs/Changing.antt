@@ -7,7 +7,7 @@
 -- A feed that counts on from the larger of the count and what the last word weighs by its own table is
 -- the same with weights that stay, where a count is never below what the last word weighs. So `FollowsModel`
 -- can't tell it apart, and this can: two words, of which the first weighs more by the second feed's table.
--- Tried in code and definition alike, it is refused at `next-fed` of proofs/Changing.antt, and by its shape
+-- Tried in code and definition alike, it is refused at `next_fed` of proofs/Changing.antt, and by its shape
 -- at that of proofs/Calls.antt.
 -- Assumes nothing.
 use Rattle.std.specs.Prelude.{◌≡◌, Bool, cond, List, [], ◌∷◌, ◌++◌, ℕ, ◌+◌, ◌≤◌, min, get_or}
