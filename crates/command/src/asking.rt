@@ -248,7 +248,8 @@ pub fn read_all(env: &impl Env) -> Asked {
     complete(a)
 }
 
-// Puts argument i at the start of the buffer. How long it is; 0 where it is missing or longer than the buffer.
+// Puts argument i at the start of the buffer. How long it is; 0 where it is missing or longer than the
+// buffer.
 pub fn argument(env: &impl Env, i: usize, buffer: &mut [u8]) -> usize
     ensures { IsPrefixLen result buffer.new }
 {
