@@ -186,8 +186,6 @@ def main(names):
                 continue
             with open(path) as f:
                 listed = json.load(f)
-            with open(f"/tmp/names-{c}.json", "w") as f:
-                json.dump(listed, f, indent=1, ensure_ascii=False)
         n = 0
         for key, it in listed.items():
             m = re.fullmatch(r"Rattle-[^.]*\.(.*)\.Lts(.*)", key)
