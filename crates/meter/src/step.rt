@@ -115,6 +115,7 @@ fn is_foreign(n: usize, m: Meter) -> bool
 }
 
 // Number 10: no word that can follow.
+#[tactic(auto, unfolding(crate::specs::Feed::is_stray))]
 fn is_stray(version: Version, words: &[u32], m: Meter, q: usize) -> bool
     ensures { result ≡ is_stray (graph_of (script_of version words.now)) m q }
 {
