@@ -7,7 +7,8 @@ usage: tools/snake_names.py [--check]      at the top of the repository
 the repository's own if a line of its specs/ or proofs/ declares it. In a file that imports a name of that spelling
 from a library of Rattle the word is left as it is. Types, modules, Rust code, strings and generated names stay.
 In a comment, and in docs/, only words with a capital inside are turned, since no sentence has such a word.
-It prints names that would fall together, and then writes nothing."""
+It prints the names that keep their dash, or take it back, since a definition has the plain one. Where a file has a
+library's name of the new spelling it says so and writes nothing."""
 
 import os
 import re

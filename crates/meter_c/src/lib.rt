@@ -1,4 +1,4 @@
-// For C, and in the forms that document 01 names: the meter is lent to be updated.
+// For C: a meter is lent to be updated, by the forms of `meter` that document 01 names.
 #![tactic(auto)]
 
 pub mod c;

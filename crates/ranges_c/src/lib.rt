@@ -1,4 +1,4 @@
-// The C interface of runs by two tables of weights. It makes an archive of its own: beside a second caller
+// For C: runs by two tables of weights, by `ranges`. It is an archive of its own: beside a second caller
 // of the settling pass the compiler would not put that pass into `lawendeb_longest_run` any more, which then
 // takes about a fifth more time.
 #![tactic(auto)]
