@@ -20,17 +20,18 @@
      libwitness.a     which words make the longest run, for both versions
      libindex.a       all functions of a compiled script, lines, heads
    What is not said to be for 5.3 is for scripts of Lua 5.4; the part about 5.3 says which to use.
-   Those of meters and budgets and libindex.a need no symbol, the others memset. They write nothing
-   but what a call is lent: no heap, no static data, and as measured less than 1 kB of stack, but
-   less than 2 kB for a rehearsal, less than 3 kB for a lift and for what a word touches, less than
-   16 kB for a pass over a chunk and for a call of libindex.a, which go down with its functions, 32
-   levels at most, and less than 300 kB for registers set before use, whose two tables of fixed size
-   lie there: no call for a small stack (docs/BENCHMARKS.md). So every call is reentrant, and calls
-   on different memory may run at once, in threads or interrupts. A begin, a feed, a reset and what
-   a word touches take a bounded time, whatever the number of words; a run and a question about
-   services take time in proportion to the words, registers set before use to the words times the
-   registers that are read, a lift to words, constants and names, a rehearsal to the words of its
-   scripts, its choices and the words that it runs, a pass to the chunk's bytes.
+   Those of meters and budgets, libtouches.a and libindex.a need no symbol, the others memset. They
+   write nothing but what a call is lent: no heap, no static data, and as measured less than 1 kB of
+   stack, but less than 2 kB for a rehearsal, less than 3 kB for a lift and for what a word touches,
+   less than 26 kB for a pass over a chunk and for a call of libindex.a, which go down with its
+   functions, 32 levels at most, and less than 300 kB for registers set before use, whose two tables
+   of fixed size lie there: no call for a small stack (docs/BENCHMARKS.md). So every call is
+   reentrant, and calls on different memory may run at once, in threads or interrupts. A begin, a
+   feed, a reset and what a word touches take a bounded time, whatever the number of words; a run
+   and a question about services take time in proportion to the words, registers set before use
+   to the words times the registers that are read, a lift to words, constants and names, a
+   rehearsal to the words of its scripts, its choices and the words that it runs, a pass to the
+   chunk's bytes.
 
    Each slice passes as a pointer and a length, and nobody writes it meanwhile.
      - Null: a slice's pointer may be null if its length is 0, as an empty std::vector's data() is,

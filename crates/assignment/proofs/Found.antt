@@ -27,7 +27,7 @@ use Rattle.blocks.specs.Uses.{reads_by, sets_by, registers_of, usage_of}
 use Rattle.assignment.specs.Answers.{unset_of}
 use Rattle.blocks.specs.declared.search.Seen.{Seen}
 use Rattle.common.specs.Limits.{most_registers}
-use Rattle.blocks.specs.Blocks.{has_bit, loses_bit, graph_at, Sees, Hits, BlockSearched}
+use Rattle.blocks.specs.Blocks.{has_bit, loses_bit, graph_at, Sees, Hits, BlockSearched, SearchRoom}
 use Rattle.assignment.specs.Rest.{RegistersEnd, marked, unset_below, Rest}
 use Rattle.blocks.proofs.Bits.{zero_bit, full_every, some_bit}
 use Rattle.assignment.proofs.Some.{none-of, some_at, none_at, some_stays}
@@ -76,8 +76,9 @@ module _ (ws : List ℕ) where
             let b = some_bit 64 (get_or unset p 0) (omega (arith, s.under.wide p h, full_every)) n in
             ((graph.laws).marking g (law ws)).one p (cut_reached r b.0 p (s.under.sound p h b.0 b.1 b.2))
 
-    pub marks_are : {marks : List ℕ} → marks ≡ tabulate (marked unset) 0 (length ws) → marks ≡ tabulate (mark_of g) 0 (length ws)
-    marks_are {marks} e =
+    pub marks_are : {marks : List ℕ} {n : ℕ} → n ≡ length ws → marks ≡ tabulate (marked unset) 0 n → marks ≡ tabulate (mark_of g) 0 (length ws)
+    marks_are {marks} l d =
+        let e = subst (λ (x : ℕ). marks ≡ tabulate (marked unset) 0 x) l d in
         over_laws.whole (mark_of g) (length ws) marks (ap length e ∙ over_laws.length_tabulate (marked unset) 0 (length ws))
         (λ p h.
         let z : 0 + p ≡ p = omega arith in
@@ -268,6 +269,13 @@ module _ (ws : List ℕ) where
             go : (b : Bool) → tested p x ≡ b → b ≡ false
             go true f = absurd (omega (arith, bounded ws p x (read_unset p x f).read))
             go false f = refl
+
+  -- the tables have room as before
+  pub room_on :
+      {r : ℕ} {unset waiting pages unset' waiting' pages' : List ℕ} {limit : ℕ} {seen : Seen} → SearchRoom ws unset waiting pages
+      → BlockSearched ws r unset' waiting' pages' limit seen → SearchRoom ws unset' waiting' pages'
+  room_on o s =
+      record { some = o.some; few = o.few; unset_long = s.under.unset_long; waiting_long = s.under.waiting_long; pages_same = s.under.pages_same }
 
   pub least_few : (k r : ℕ) {least : ℕ} → least ≡ lowest (unset_below ws k r) (length ws) → least ≤ length ws
   least_few k r e = omega (arith, e, (lowest_laws.first (unset_below ws k r) 0 (length ws)).upto)

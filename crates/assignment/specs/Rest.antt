@@ -2,7 +2,7 @@
 -- What the private functions ask and leave: a search for one block of registers after another. No exported
 -- contract cites it.
 -- Assumes nothing.
-use Rattle.std.specs.Prelude.{◌≡◌, Bool, cond, List, ℕ, ◌≤◌, eqb, length, get_or}
+use Rattle.std.specs.Prelude.{◌≡◌, Bool, cond, List, ℕ, ◌≤◌, ltb, eqb, length, get_or, Option, Some, None}
 use Rattle.common.specs.Limits.{most_registers}
 use Rattle.common.specs.Lowest.{lowest}
 use Rattle.graph.specs.Graph.{Reachable}
@@ -10,12 +10,9 @@ use Rattle.graph.specs.Assignment.{some_below, reads_unset}
 use Rattle.runs.specs.Script.{lua54, graph_of}
 use Rattle.blocks.specs.Uses.{reads_end, usage_of}
 
--- functions of so many words are settled in smaller tables
-abbrev pub brief_words : ℕ
-brief_words = 64
-
-abbrev pub few_words : ℕ
-few_words = 512
+-- the lowest of n, which is n if there is none
+abbrev pub found : ℕ → ℕ → Option ℕ
+found n p = cond (ltb p n) (Some p) None
 
 -- no reachable word reads a register past all
 abbrev pub RegistersEnd : List ℕ → Type 0

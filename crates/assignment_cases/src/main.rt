@@ -3,52 +3,31 @@
 #![tactic(auto)]
 
 use assignment::definite_assignment;
-use common::Answer;
-use print_cases::{bytes, end, number, text};
+use print_cases::{end, numbers, refused, text};
 use std::io::Stdout;
-use vectors::{bytes_of, number_of, words_of};
-
-fn show(out: Stdout, a: Answer) {
-    if a.number == 0 {
-        text(out, b" accepted");
-    } else {
-        text(out, b" refused");
-        number(out, a.number as u64);
-        number(out, a.place as u64);
-    }
-}
-
-fn assignment_lent(out: Stdout, words: &mut [u32], parameters: u8, marks: &mut [u8]) {
-    show(out, definite_assignment(words, parameters, marks));
-    text(out, b" marks");
-    bytes(out, marks);
-    end(out);
-}
+use vectors::{ROOM, list_of, number_of, part};
 
 // words | parameters | marks
 fn ask(out: Stdout, line: &[u8]) {
-    if vectors::which(line, b"assignment") > 0 {
+    if part(line, 0) != b"assignment".as_slice() {
         return;
     }
-    let mut words = vectors::words();
-    let mut marks = vectors::bytes();
-    text(out, vectors::part(line, 1));
-    assignment_lent(
-        out,
-        words_of(&mut words, line, 2),
-        (number_of(line, 3) % 256) as u8,
-        bytes_of(&mut marks, line, 4),
-    );
-}
-
-fn ask_all(out: Stdout, text: &[u8]) {
-    for i in 0..text.len() {
-        ask(out, vectors::line_at(text, i));
+    let mut words = [0u32; ROOM];
+    let mut marks = [0u8; ROOM];
+    let words = list_of(&mut words, line, 2);
+    let parameters = (number_of(line, 3) % 256) as u8;
+    let marks = list_of(&mut marks, line, 4);
+    text(out, part(line, 1));
+    match definite_assignment(words, parameters, marks) {
+        Ok(()) => text(out, b" accepted"),
+        Err(refusal) => refused(out, refusal.number() as u64, refusal.place() as u64),
     }
+    text(out, b" marks");
+    numbers(out, marks);
+    end(out);
 }
 
 fn main(rt: HostRuntime) {
-    let mut page = io::large_buffer();
-    let n = vectors::read(rt.stdin(), &mut page);
-    ask_all(rt.stdout(), pages::first(&page, n));
+    let out = rt.stdout();
+    vectors::ask_each(rt.stdin(), |line| ask(out, line));
 }

@@ -3,7 +3,7 @@ use mathlib.Core.Path.{◌≡◌, refl, sym, ap, subst, ◌∙◌}
 use mathlib.Core.Logic.{⊎_elim}
 use mathlib.Core.Bool.{Bool, true, false, ◌&&◌, false≢true}
 use mathlib.Core.List.{List}
-use Prim.Native.Nat.{ℕ, ◌+◌, ◌*◌, ◌/◌, ◌%◌, ◌≤◌, ◌<◌, min}
+use Prim.Native.Nat.{ℕ, ◌+◌, ◌*◌, ◌/◌, ◌≤◌, ◌<◌, max, min}
 use native.Mathlib.Omega.{arith}
 use borrow.Author.Tests.{ltb-true, eqb-true}
 use lib.Dec.{ltb, eqb}
@@ -18,11 +18,7 @@ use Rattle.sweep.specs.declared.edges.Successors.TheVariants.{One, Two}
 use Rattle.sweep.specs.Steps.{Below}
 use Rattle.steps.specs.lua54.Successors.{successors_of}
 use Rattle.runs.proofs.Laws as runs
-use Rattle.blocks.specs.Blocks.{«EVERY», WordWaits, Paged, Finds, SearchRoom, JoinAsks, SpreadAsks, Started}
-
--- none of the words from i up to p waits
-abbrev pub NoneWaits : List ℕ → ℕ → ℕ → Type 0
-NoneWaits waiting i p = (q : ℕ) → i ≤ q → q < p → WordWaits waiting q → ⊥
+use Rattle.blocks.specs.Blocks.{«EVERY», WordWaits, Paged, NoneWaits, SearchRoom, JoinAsks, SpreadAsks, Started}
 
 module _ (waiting : List ℕ) where
   pub none_more : (i p : ℕ) → NoneWaits waiting i p → (WordWaits waiting p → ⊥) → NoneWaits waiting i (p + 1)
@@ -46,28 +42,22 @@ module _ (waiting : List ℕ) where
   pub none_both : (i m p : ℕ) → NoneWaits waiting i m → NoneWaits waiting m p → NoneWaits waiting i p
   none_both i m p h l q a b w = ⊎_elim (λ d. l q d b w) (λ d. h q a d w) (split m q)
 
-  module _ (pages : List ℕ) (n i : ℕ) {end : ℕ} (e : end ≡ min n ((i / 128 + 1) * 128)) where
-    pub page_quiet : Paged n waiting pages → get_or pages (i / 128) 0 ≡ 0 → Finds waiting i end end
-    page_quiet paged z =
-        record {
-          upto = omega arith;
-          none = λ q a b w.
-              let s : q / 128 ≡ i / 128 = omega arith in
-              let o = paged q (omega arith) w in
-              let f = ap (λ (x : ℕ). get_or pages x 0) s in
-              omega arith;
-          waits = λ h. absurd (omega arith);
-        }
+  -- page by page: of n words, from word i on
+  module _ (pages : List ℕ) (n i page : ℕ) where
+    pub page_quiet : Paged n waiting pages → get_or pages page 0 ≡ 0 → NoneWaits waiting (max i (page * 128)) (min n ((page + 1) * 128))
+    page_quiet paged z q a b w =
+        let s : q / 128 ≡ page = omega arith in
+        let o = paged q (omega arith) w in
+        let f = ap (λ (x : ℕ). get_or pages x 0) s in
+        omega arith
 
-    pub page_none : {p : ℕ} → Finds waiting i end p → end ≤ p → Finds waiting i end end
-    page_none f h = record { upto = omega arith; none = λ q a b w. f.none q a (omega arith) w; waits = λ l. absurd (omega arith) }
-
-    pub page_cleared : i / 128 < length pages → i % 128 ≡ 0 → Paged n waiting pages → Finds waiting i end end → Paged n waiting (set pages (i / 128) 0)
-    page_cleared l z paged f q h w =
+    pub page_cleared : i ≤ page * 128 → Paged n waiting pages → NoneWaits waiting (max i (page * 128)) (min n ((page + 1) * 128))
+        → Paged n waiting (set pages page 0)
+    page_cleared l paged none q h w =
         ⊎_elim
-        (λ s. absurd (f.none q (omega arith) (omega arith) w))
-        (λ s. get_or-set_other pages (i / 128) (q / 128) 0 0 s ∙ paged q h w)
-        (same_or_not (q / 128) (i / 128))
+        (λ s. absurd (none q (omega arith) (omega arith) w))
+        (λ s. get_or-set_other pages page (q / 128) 0 0 s ∙ paged q h w)
+        (same_or_not (q / 128) page)
 
 -- who is asked to wait
 asks_at : {unset waiting pages : List ℕ} {s : Successors} (k : SpreadAsks s unset waiting pages) (q : ℕ) → q < k.size → JoinAsks unset waiting pages q
@@ -106,23 +96,6 @@ asks_words ws p o e =
       unset_long = o.unset_long;
       waiting_long = simp length-set o.waiting_long;
       pages_same = o.pages_same;
-    }
-
-pub kept_set : (l m : List ℕ) (p v : ℕ) → length m ≡ length (set l p v) → length m ≡ length l
-kept_set l m p v e = e ∙ length-set l p v
-
--- the tables keep their lengths
-pub room_stays :
-    {ws unset waiting pages unset' waiting' pages' : List ℕ} → SearchRoom ws unset waiting pages
-    → length unset' ≡ length unset → length waiting' ≡ length waiting
-    → length pages' ≡ length pages → SearchRoom ws unset' waiting' pages'
-room_stays o u w g =
-    record {
-      some = o.some;
-      few = o.few;
-      unset_long = omega (arith, o.unset_long);
-      waiting_long = omega (arith, o.waiting_long);
-      pages_same = g ∙ o.pages_same;
     }
 
 -- at the start

@@ -1,14 +1,15 @@
 -- Sets of registers. Assumes nothing.
 use mathlib.Core.Path.{◌≡◌, refl, sym, ap, ap₂, ◌∙◌}
-use mathlib.Core.Logic.{◌⊎◌, ⊎_elim}
+use mathlib.Core.Logic.{◌⊎◌, ◌↔◌, inl, inr, ⊎_elim}
 use mathlib.Core.Bool.{Bool, true, false, not, ◌&&◌, ◌||◌, or-false, false≢true}
-use mathlib.Core.List.{List, [], ◌∷◌}
+use mathlib.Core.List.{List, [], ◌∷◌, ◌++◌}
 use Prim.Native.Nat.{ℕ, ◌+◌, ◌*◌, ◌-◌, ◌%◌, ◌^◌, ◌≤◌, ◌<◌, min}
 use native.Mathlib.Nat.{mod-eq_of_lt}
 use native.Mathlib.Omega.{arith}
-use borrow.Author.Tests.{lt-ltb, le-ltb, le-leb, lt-leb, eq-eqb, ne_eqb}
+use Rattle.std.specs.Bool.{IsTrue}
+use borrow.Author.Tests.{eqb-true, lt-ltb, le-ltb, le-leb, lt-leb, eq-eqb, ne_eqb}
 use lib.Bits.{bit_and, bit_or, and_le_l, or_lt}
-use lib.Dec.{leb, ltb}
+use lib.Dec.{leb, ltb, eqb}
 use Rattle.common.proofs.Order.{split}
 use Rattle.sweep.specs.declared.edges.Successors.{Successors}
 use Rattle.sweep.specs.Steps.{is_invalid}
@@ -19,7 +20,7 @@ use Rattle.blocks.specs.declared.search.Seen.{Seen}
 use Rattle.blocks.specs.Uses.{in_range, in_ranges, reads_by, sets_by, end_of}
 use Rattle.common.specs.Limits.{most_registers}
 use Rattle.blocks.specs.Blocks.{next_in, «ALL», has_bit, HoldsBits, HitsBy, BlockNotes}
-use Rattle.blocks.proofs.Within.{next_from}
+use Rattle.blocks.proofs.Within.{next_from, append_in}
 use Rattle.blocks.proofs.Bits.{and_bit, or_bit, zero_bit, full, full_power, full_all, full_every, full_few, not_bit, full_bit, small_bit, some_bit}
 
 module _ (r : ℕ) where
@@ -50,8 +51,8 @@ module _ (r : ℕ) where
             ∙ sym (lt-ltb (r + i) end (omega arith));
       }
 
-  pub below_some : (end : ℕ) → r < end → end - r < 63 → HoldsBits r (λ s. ltb s end) (full (end - r))
-  below_some end l b =
+  pub below_some : (end : ℕ) → end - r < 63 → HoldsBits r (λ s. ltb s end) (full (end - r))
+  below_some end b =
       record {
         small = omega (arith, full_few 63 (end - r) (omega arith), full_all);
         bits = λ i h.
@@ -91,7 +92,7 @@ module _ (r : ℕ) where
             ∙ and_comm (leb (r + i) x.last) (leb x.first (r + i));
       }
 
-  -- up to three ranges
+  -- several ranges
   abbrev Among : List Range → ℕ → Type 0
   Among xs y = HoldsBits r (λ s. in_ranges s xs) y
 
@@ -99,13 +100,8 @@ module _ (r : ℕ) where
   unfolding in_ranges
   among_none = holds_none
 
-  pub among_one : (a : Range) {x : ℕ} → HoldsBits r (λ s. in_range s a) x → Among (a ∷ []) x
-  unfolding in_ranges
-  among_one a h = holds_same (λ s. sym (or-false (in_range s a))) h
-
-  pub among_more : (a : Range) (xs : List Range) {x y : ℕ} → HoldsBits r (λ s. in_range s a) x → Among xs y → Among (a ∷ xs) (bit_or x y)
-  unfolding in_ranges
-  among_more a xs h l = holds_or h l
+  pub among_more : (xs : List Range) (x : Range) {y z : ℕ} → Among xs y → HoldsBits r (λ s. in_range s x) z → Among (xs ++ x ∷ []) (bit_or y z)
+  among_more xs x a b = holds_same (λ s. sym (append_in s xs x)) (holds_or a b)
 
   -- what a word sets, by its lists
   pub holds_edge :
@@ -143,17 +139,42 @@ module _ (r : ℕ) where
       let c = and_both (has_bit x b.0) (has_bit at b.0) (sym (and_bit x at b.0) ∙ b.2) in
       record { bit = b.0; few = b.1; read = sym (h.bits b.0 b.1) ∙ c.0; unset = c.1 }
 
-  -- what a visit notes, but for the lowest word
+  pub hits_are : (t : Touches) (at : ℕ) {x : ℕ} → HoldsBits r (reads_by t) x → IsTrue (not (eqb (bit_and x at) 0)) ↔ HitsBy r t at
+  hits_are t at {x} h = go (eqb (bit_and x at) 0) refl
+    where
+      go : (b : Bool) → eqb (bit_and x at) 0 ≡ b → IsTrue (not b) ↔ HitsBy r t at
+      go true e = (λ z. absurd (false≢true z), λ k. absurd (no_hits t at h (eqb-true _ 0 e) k))
+      go false e = (λ z. some_hits t at h (λ k. false≢true (sym e ∙ eq-eqb _ 0 k)), λ k. refl)
+
+-- the lowest word so far, and a word that is visited, at which H holds or not
+pub record Lowest (H : Type 0) (p least least' : ℕ) : Type 0 where
+  pub down : least' ≤ least
+  pub noted : H → least' ≤ p
+  pub new : (least' ≡ least) ⊎ ((least' ≡ p) × H)
+
+module _ {H : Type 0} {p least least' : ℕ} where
+  pub lowest_hit : H → least' ≡ min least p → Lowest H p least least'
+  lowest_hit h e =
+      record {
+        down = omega arith;
+        noted = λ k. omega arith;
+        new = ⊎_elim (λ d. inl (omega arith)) (λ d. inr (omega arith, h)) (split least p);
+      }
+
+  pub lowest_none : (H → ⊥) → least' ≡ least → Lowest H p least least'
+  lowest_none n e = record { down = omega arith; noted = λ h. absurd (n h); new = inl e }
+
+-- what a visit notes
+module _ (r : ℕ) where
   pub notes_of :
       (t : Touches) (s : Successors) (at p : ℕ) (seen seen' : Seen) (n : ℕ) → seen'.next ≡ min seen.next n
       → (n ≡ next_in (r + 63) (ranges_in t.reads)) × (end_of (ranges_in t.reads) ≤ most_registers) → seen'.bad ≡ seen.bad || is_invalid s
-      → seen'.least ≤ seen.least → (HitsBy r t at → seen'.least ≤ p) → (seen'.least ≡ seen.least) ⊎ ((seen'.least ≡ p) × HitsBy r t at)
-      → BlockNotes r t s at p seen seen'
-  notes_of t s at p seen seen' n e k f down noted new =
+      → Lowest (HitsBy r t at) p seen.least seen'.least → BlockNotes r t s at p seen seen'
+  notes_of t s at p seen seen' n e k f l =
       record {
-        down = down;
-        noted = noted;
-        new = new;
+        down = l.down;
+        noted = l.noted;
+        new = l.new;
         next_down = omega (arith, e);
         next_from = λ h. omega (arith, e, k.0, h, next_from (r + 63) (ranges_in t.reads));
         bad_stays = λ h. f ∙ rw h;

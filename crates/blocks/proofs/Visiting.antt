@@ -9,6 +9,7 @@ use borrow.Author.Tests.{lt-ltb, le-ltb, not-true}
 use lib.Bits.{and_le_l}
 use lib.ListN.{length, get_or, set, length-set}
 use lib.Seq.{get_or-set_other}
+use Rattle.std.proofs.Common.{Option, None, Some}
 use Rattle.common.specs.Limits.{most_words, most_registers}
 use Rattle.common.proofs.Order.{split, same_or_not}
 use Rattle.common.proofs.Stores.{at_set}
@@ -27,7 +28,7 @@ use Rattle.touches.specs.Touches.{touches_of}
 use Rattle.blocks.specs.Uses.{sets_by}
 use Rattle.blocks.specs.declared.search.Seen.{Seen}
 use Rattle.blocks.specs.Blocks.{«EVERY», bit_count, has_bit, HoldsBits, WordWaits}
-use Rattle.blocks.specs.Blocks.{Paged, Next, SearchRoom, leaves, Steps, Spreads, BlockNotes}
+use Rattle.blocks.specs.Blocks.{most_pages, Paged, Next, SearchRoom, leaves, Steps, Spreads, BlockNotes}
 use Rattle.blocks.specs.Blocks.{Started, loses_bit, graph_at, Hits, Done, Under, Searching}
 use Rattle.blocks.specs.Blocks.{BlockVisits, left, BlockSearched}
 use Rattle.blocks.proofs.Bits.{and_bit, zero_bit, full_all, full_every, not_bit, full_bit, small_bit}
@@ -302,55 +303,44 @@ module _ (ws : List ℕ) (r : ℕ) where
             (subst (λ (x : Touches). BlockNotes r x s (get_or unset p 0) p seen seen') e b);
       }
 
-  -- the loop of the search, at word p
-  pub record Going (unset₀ waiting₀ pages₀ : List ℕ) (limit : ℕ) (unset waiting pages : List ℕ) (seen : Seen) (p : ℕ) : Type 0 where
+  -- the loop of the search, at the next word
+  pub record Going (limit : ℕ) (unset waiting pages : List ℕ) (seen : Seen) (on : Option ℕ) : Type 0 where
     pub under : Searching ws r unset waiting pages limit seen
-    pub next : Next waiting (length ws) p
-    pub unset_same : length unset ≡ length unset₀
-    pub waiting_same : length waiting ≡ length waiting₀
-    pub pages_same : length pages ≡ length pages₀
+    pub next : Next waiting (length ws) on
 
   pub going_first :
       {unset waiting pages : List ℕ} {limit : ℕ} → 0 < length ws → limit ≤ length ws → Started (length ws) unset waiting pages
-      → Going unset waiting pages limit unset waiting pages (record { least = limit; next = most_registers; bad = false; to = 0 }) 0
-  going_first some l s =
-      record {
-        under = begun some l s;
-        next = record { upto = omega arith; waits = λ h. s.waits; none = λ h. absurd (omega (arith, some, h)) };
-        unset_same = refl;
-        waiting_same = refl;
-        pages_same = refl;
-      }
+      → Going limit unset waiting pages (record { least = limit; next = most_registers; bad = false; to = 0 }) (Some 0)
+  going_first some l s = record { under = begun some l s; next = (some, s.waits) }
 
   pub going_room :
-      {unset₀ waiting₀ pages₀ unset waiting pages : List ℕ} {limit : ℕ} {seen : Seen} {p : ℕ} → 0 < length ws → length ws ≤ most_words
-      → Going unset₀ waiting₀ pages₀ limit unset waiting pages seen p → SearchRoom ws unset waiting pages
+      {unset waiting pages : List ℕ} {limit : ℕ} {seen : Seen} {next : Option ℕ} → 0 < length ws → length ws ≤ most_words
+      → Going limit unset waiting pages seen next → SearchRoom ws unset waiting pages
   going_room some few o =
       record { some = some; few = few; unset_long = o.under.unset_long; waiting_long = o.under.waiting_long; pages_same = o.under.pages_same }
 
   -- a turn
-  module _ (few : length ws ≤ most_words) {unset₀ waiting₀ pages₀ unset waiting pages : List ℕ} {limit : ℕ}
-      {seen : Seen} {p : ℕ} (o : Going unset₀ waiting₀ pages₀ limit unset waiting pages seen p)
-      (inside : p < length ws) {unset' waiting' pages' : List ℕ} {seen' : Seen}
+  module _ (few : length ws ≤ most_words) {unset waiting pages : List ℕ} {limit : ℕ}
+      {seen : Seen} {p : ℕ} (o : Going limit unset waiting pages seen (Some p))
+      {unset' waiting' pages' : List ℕ} {seen' : Seen}
       (v : BlockVisits ws r p unset waiting pages seen unset' waiting' pages' seen') where
     pub going_visited : Searching ws r unset' waiting' pages' limit seen'
-    going_visited = visited few o.under inside (o.next.waits inside) v
+    going_visited = visited few o.under o.next.0 o.next.1 v
 
     pub going_less : left ws r unset' waiting' < left ws r unset waiting
-    going_less = visited_less few o.under inside (o.next.waits inside) v
+    going_less = visited_less few o.under o.next.0 o.next.1 v
 
     pub going_more :
-        {pages'' : List ℕ} {p' : ℕ} → length unset' ≡ length unset → length waiting' ≡ length waiting
-        → length pages' ≡ length pages → length pages'' ≡ length pages'
-        → Next waiting' (length ws) p' → Paged (length ws) waiting' pages'' → Going unset₀ waiting₀ pages₀ limit unset' waiting' pages'' seen' p'
-    going_more eu ew eg eh n paged =
+        {pages'' : List ℕ} {next' : Option ℕ} → length pages'' ≡ most_pages
+        → Paged (length ws) waiting' pages'' → Next waiting' (length ws) next' → Going limit unset' waiting' pages'' seen' next'
+    going_more eh paged n =
         let u = going_visited in
         record {
           under =
               record {
                 unset_long = u.unset_long;
                 waiting_long = u.waiting_long;
-                pages_same = eh ∙ u.pages_same;
+                pages_same = eh;
                 wide = u.wide;
                 first = u.first;
                 sound = u.sound;
@@ -363,16 +353,12 @@ module _ (ws : List ℕ) (r : ℕ) where
                 todo = u.todo;
               };
           next = n;
-          unset_same = eu ∙ o.unset_same;
-          waiting_same = ew ∙ o.waiting_same;
-          pages_same = eh ∙ eg ∙ o.pages_same;
         }
 
   pub going_done :
-      {unset₀ waiting₀ pages₀ unset waiting pages : List ℕ} {limit : ℕ} {seen : Seen} {p : ℕ}
-      → Going unset₀ waiting₀ pages₀ limit unset waiting pages seen p → length ws ≤ p
-      → BlockSearched ws r unset waiting pages limit seen
-  going_done o h = record { under = o.under; none = λ p l w. o.next.none h p l w }
+      {unset waiting pages : List ℕ} {limit : ℕ} {seen : Seen}
+      → Going limit unset waiting pages seen None → BlockSearched ws r unset waiting pages limit seen
+  going_done o = record { under = o.under; none = λ p l w. o.next p (omega arith) l w }
 
   -- at the end the states are those of the paths
   module _ {unset waiting pages : List ℕ} {limit : ℕ} {seen : Seen} (s : BlockSearched ws r unset waiting pages limit seen) where

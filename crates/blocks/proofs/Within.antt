@@ -1,13 +1,16 @@
 -- Registers in ranges. Assumes nothing.
-use mathlib.Core.Path.{◌≡◌, refl, sym, ap, ◌∙◌}
-use mathlib.Core.Logic.{◌↔◌, inl, inr}
-use mathlib.Core.Bool.{Bool, true, false, cond, ◌&&◌, ◌||◌, false≢true}
-use mathlib.Core.List.{List, [], ◌∷◌}
-use Prim.Native.Nat.{ℕ, zero, suc, ◌≤◌, ◌<◌, min, max}
+use mathlib.Core.Path.{◌≡◌, refl}
+use mathlib.Core.Logic.{◌↔◌, inl, inr, ⊎_elim}
+use mathlib.Core.Bool.{Bool, true, false, cond, ◌&&◌, ◌||◌, or-false, false≢true}
+use mathlib.Core.List.{List, [], ◌∷◌, ◌++◌}
+use Prim.Native.Nat.{ℕ, ◌≤◌, ◌<◌, min, max}
 use native.Mathlib.Omega.{arith}
-use borrow.Author.Tests.{leb-true, le-leb}
+use borrow.Author.Tests.{leb-true, le-leb, lt-leb}
+use Rattle.common.proofs.Order.{split}
 use lib.Dec.{leb}
 use lib.ListN.{length, get_or, take}
+use Rattle.std.proofs.Common.{add-one, ◌+◌}
+use Rattle.std.proofs.Math.Seq.{take-suc}
 use Rattle.locations.specs.declared.answer.Range.{Range}
 use Rattle.locations.specs.Form.{Within}
 use Rattle.blocks.specs.Uses.{in_range, in_ranges, end_of}
@@ -46,45 +49,6 @@ before_end r [] w = absurd w
 before_end r (x ∷ xs) (inl h) = omega (arith, h.1)
 before_end r (x ∷ xs) (inr w) = omega (arith, before_end r xs w)
 
--- three ranges, up to a count
-abbrev none : Range
-none = record { first = 0; last = 0 }
-
-abbrev nth : List Range → ℕ → Range
-nth l i = get_or l i none
-
-three : (l : List Range) → length l ≡ 3 → l ≡ nth l 0 ∷ nth l 1 ∷ nth l 2 ∷ []
-three [] e = absurd (omega arith)
-three (a ∷ []) e = absurd (omega arith)
-three (a ∷ b ∷ []) e = absurd (omega arith)
-three (a ∷ b ∷ c ∷ []) e = refl
-three (a ∷ b ∷ c ∷ d ∷ l) e = absurd (omega arith)
-
-module _ (l : List Range) (e : length l ≡ 3) (k : ℕ) where
-  by_three : {X : Type 0} (f : List Range → X) → f (take k (nth l 0 ∷ nth l 1 ∷ nth l 2 ∷ [])) ≡ f (take k l)
-  by_three f = ap (λ (x : List Range). f (take k x)) (sym (three l e))
-
--- what is said of three ranges, up to a count
-module _ {X : Type 0} (f : List Range → X) (l : List Range) (t : length l ≡ 3) (k : ℕ) where
-  pub of_none : k ≡ 0 → f [] ≡ f (take k l)
-  of_none e = rw e
-
-  pub of_one : k ≡ 1 → f (nth l 0 ∷ []) ≡ f (take k l)
-  of_one e = rw e (by_three l t 1 f)
-
-  pub of_two : k ≡ 2 → f (nth l 0 ∷ nth l 1 ∷ []) ≡ f (take k l)
-  of_two e = rw e (by_three l t 2 f)
-
-  pub of_three : (k ≡ 0 → ⊥) → (k ≡ 1 → ⊥) → (k ≡ 2 → ⊥) → f (nth l 0 ∷ nth l 1 ∷ nth l 2 ∷ []) ≡ f (take k l)
-  of_three n m o = go k n m o ∙ by_three l t k f
-    where
-      go : (k : ℕ) → (k ≡ 0 → ⊥) → (k ≡ 1 → ⊥) → (k ≡ 2 → ⊥) → f (nth l 0 ∷ nth l 1 ∷ nth l 2 ∷ []) ≡ f (take k (nth l 0 ∷ nth l 1 ∷ nth l 2 ∷ []))
-      go zero n m o = absurd (n refl)
-      go (suc zero) n m o = absurd (m refl)
-      go (suc (suc zero)) n m o = absurd (o refl)
-      go (suc (suc (suc zero))) n m o = refl
-      go (suc (suc (suc (suc k)))) n m o = refl
-
 -- the next register, and none before it
 next_of_from : (r : ℕ) (x : Range) → min r most_registers ≤ next_register r x
 next_of_from r x = go (leb (max x.first r) x.last)
@@ -113,3 +77,32 @@ next_none r q xs l h = go (in_ranges q xs) refl
     go : (b : Bool) → in_ranges q xs ≡ b → b ≡ false
     go true e = absurd (omega (arith, next_at r q xs l (in_within q xs e)))
     go false e = refl
+
+-- one range more
+
+pub take_more : (i : ℕ) (xs : List Range) → i < length xs → take (i + 1) xs ≡ take i xs ++ get_or xs i (record { first = 0; last = 0 }) ∷ []
+take_more i xs h = rw add-one (take-suc xs i _ h)
+
+pub append_in : (s : ℕ) (xs : List Range) (x : Range) → in_ranges s (xs ++ x ∷ []) ≡ in_ranges s xs || in_range s x
+unfolding in_ranges
+append_in s [] x = or-false (in_range s x)
+append_in s (y ∷ xs) x = go (in_range s y) (append_in s xs x)
+  where
+    go : (b : Bool) → in_ranges s (xs ++ x ∷ []) ≡ in_ranges s xs || in_range s x → b || in_ranges s (xs ++ x ∷ []) ≡ (b || in_ranges s xs) || in_range s x
+    go true e = refl
+    go false e = e
+
+next_most : (r : ℕ) (x : Range) → x.last < most_registers → next_register r x ≤ most_registers
+next_most r x h =
+    ⊎_elim (λ d. rw (le-leb (max x.first r) x.last d) (omega arith)) (λ d. rw (lt-leb (max x.first r) x.last d) (omega arith))
+    (split (max x.first r) x.last)
+
+pub append_next : (r : ℕ) (xs : List Range) (x : Range) → x.last < most_registers → next_in r (xs ++ x ∷ []) ≡ min (next_in r xs) (next_register r x)
+unfolding next_in
+append_next r [] x h = let k = next_most r x h in omega arith
+append_next r (y ∷ xs) x h = omega (arith, append_next r xs x h)
+
+pub append_end : (xs : List Range) (x : Range) → end_of (xs ++ x ∷ []) ≡ max (end_of xs) (x.last + 1)
+unfolding end_of
+append_end [] x = omega arith
+append_end (y ∷ xs) x = omega (arith, append_end xs x)

@@ -3,6 +3,7 @@
 -- for all of them at once. No exported contract cites it.
 -- Assumes nothing.
 use Rattle.std.specs.Prelude.{◌≡◌, ◌⊎◌, Bool, true, false, cond, ◌&&◌, List, [], ◌∷◌, ℕ, zero, suc, ◌+◌}
+use Rattle.std.specs.Prelude.{Option, None, Some}
 use Rattle.std.specs.Prelude.{◌*◌, ◌-◌, ◌/◌, ◌%◌, ◌≤◌, ◌<◌, min, max, leb, ltb, eqb, length, get_or, set}
 use Rattle.std.specs.Int.Bits.{bit_and, bit_or}
 use Rattle.common.specs.Limits.{most_words, most_registers}
@@ -30,12 +31,6 @@ next_register r x = cond (leb (max x.first r) x.last) (max x.first r) most_regis
 unfoldable pub next_in : ℕ → List Range → ℕ
 next_in r [] = most_registers
 next_in r (x ∷ xs) = min (next_register r x) (next_in r xs)
-
--- lists of registers of three places each, as every answer has them
-pub record TouchesListed (t : Touches) : Type 0 where
-  pub reads : length t.reads.items ≡ 3
-  pub writes : length t.writes.items ≡ 3
-  pub edge-writes : length t.edge_writes.items ≡ 3
 
 -- bit i of a number
 unfoldable pub has_bit : ℕ → ℕ → Bool
@@ -77,17 +72,30 @@ WordWaits waiting p = get_or waiting p 0 ≡ 1
 abbrev pub Paged : ℕ → List ℕ → List ℕ → Type 0
 Paged n waiting pages = (p : ℕ) → p < n → WordWaits waiting p → get_or pages (p / «PAGE») 0 ≡ 1
 
--- p is the first word from i on that waits, or the end
-pub record Finds (waiting : List ℕ) (i end p : ℕ) : Type 0 where
-  pub upto : p ≤ end
-  pub none : (q : ℕ) → i ≤ q → q < p → WordWaits waiting q → ⊥
-  pub waits : p < end → WordWaits waiting p
+-- none of the words from i up to p waits
+abbrev pub NoneWaits : List ℕ → ℕ → ℕ → Type 0
+NoneWaits waiting i p = (q : ℕ) → i ≤ q → q < p → WordWaits waiting q → ⊥
 
--- p is a word that waits, or n, and none does
-pub record Next (waiting : List ℕ) (n p : ℕ) : Type 0 where
-  pub upto : p ≤ n
-  pub waits : p < n → WordWaits waiting p
-  pub none : n ≤ p → (q : ℕ) → q < n → WordWaits waiting q → ⊥
+-- p is the first word from i on, before the end, that waits
+pub record FirstWaits (waiting : List ℕ) (i end p : ℕ) : Type 0 where
+  pub before : p < end
+  pub none : NoneWaits waiting i p
+  pub waits : WordWaits waiting p
+
+abbrev pub Finds : List ℕ → ℕ → ℕ → Option ℕ → Type 0
+Finds waiting i end None = NoneWaits waiting i end
+Finds waiting i end (Some p) = FirstWaits waiting i end p
+
+-- a look at the marks leaves them, and may take a page's mark away
+pub record Looks (n : ℕ) (waiting waiting' pages' : List ℕ) : Type 0 where
+  pub same : waiting' ≡ waiting
+  pub paged : Paged n waiting pages'
+  pub pages_same : length pages' ≡ most_pages
+
+-- one of n words that waits, if any does
+abbrev pub Next : List ℕ → ℕ → Option ℕ → Type 0
+Next waiting n None = NoneWaits waiting 0 n
+Next waiting n (Some p) = (p < n) × WordWaits waiting p
 
 -- The search
 

@@ -14,7 +14,7 @@ use Rattle.runs.specs.Script.{script_of}
 use Rattle.runs.specs.Weights.{refuses_weights, weights_place, Weighs}
 use Rattle.meter.specs.declared.step.Meter.{Meter}
 use Rattle.common.specs.declared.c.FlatAnswer.{FlatAnswer}
-use Rattle.meter.specs.declared.step.Fed.{Fed}
+use Rattle.meter.specs.Feed.{Fed}
 use Rattle.meter.specs.Feed.{Scale, is_begun, is_foreign, is_stray, moved_to, begin_of, reset_of, feed_of, refusal}
 use Rattle.meter.specs.Model.{Call, begin, feed, reset}
 use Rattle.meter.specs.Calls.{meter_after, meter_answers, FollowsModel}

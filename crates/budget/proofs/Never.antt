@@ -21,7 +21,7 @@ use Rattle.runs.specs.Laws.{Enough}
 use Rattle.runs.proofs.Laws.{laws}
 use Rattle.meter.specs.declared.step.Meter.{Meter}
 use Rattle.common.specs.declared.c.FlatAnswer.{FlatAnswer}
-use Rattle.meter.specs.declared.step.Fed.{Fed}
+use Rattle.meter.specs.Feed.{Fed}
 use Rattle.meter.specs.Feed.{Scale, begin_of, reset_of, feed_of, refusal}
 use Rattle.meter.specs.Model.{Call, begin, feed, reset}
 use Rattle.meter.specs.Calls.{meter_called, meter_after}

@@ -11,12 +11,12 @@ use Rattle.common.specs.Numbers.{«ACCEPTED», NO_SCRIPT, BUDGET_RANGE, OVER_BUD
 use Rattle.common.specs.Chain.{refuse_if}
 use Rattle.common.specs.Limits.{last_script}
 use Rattle.meter.specs.declared.step.Meter.{Meter}
-use Rattle.meter.specs.declared.step.Fed.{Fed}
+use Rattle.meter.specs.Feed.{Fed}
 use Rattle.meter.specs.Feed.{Scale, begin_of, reset_of, feed_of}
 use Rattle.meter.specs.Model.{Call, begin, feed, reset}
 use Rattle.meter.proofs.Laws.{laws}
 use Rattle.budget.specs.declared.step.Meters.{Meters}
-use Rattle.budget.specs.declared.step.FedFour.{FedFour}
+use Rattle.budget.specs.Four.{FedFour}
 use Rattle.budget.specs.Four.{meter_of, with_meter, sum_of, others_of, is_out_of_range, refused_four}
 use Rattle.budget.specs.Four.{changed_four, begin_four_of, reset_four_of, settle_four, feed_four_of}
 use Rattle.budget.specs.Calls.{FourCall, Scripts, turns_back, made_by, made}

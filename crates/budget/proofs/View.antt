@@ -10,11 +10,11 @@ use Rattle.common.specs.Chain.{refuse_if}
 use Rattle.common.specs.Limits.{last_script}
 use Rattle.meter.specs.declared.step.Meter.{Meter}
 use Rattle.common.specs.declared.c.FlatAnswer.{FlatAnswer}
-use Rattle.meter.specs.declared.step.Fed.{Fed}
+use Rattle.meter.specs.Feed.{Fed}
 use Rattle.meter.specs.Feed.{Scale, begin_of, reset_of, refusal, feed_of}
 use Rattle.meter.specs.Model.{Call, begin, feed, reset}
 use Rattle.budget.specs.declared.step.Meters.{Meters}
-use Rattle.budget.specs.declared.step.FedFour.{FedFour}
+use Rattle.budget.specs.Four.{FedFour}
 use Rattle.budget.specs.Four.{meter_of, with_meter, others_of, is_out_of_range, refused_four, begin_four_of, reset_four_of, settle_four, feed_four_of}
 use Rattle.budget.specs.Calls.{Scripts, FourCall, made_by, made}
 use Rattle.budget.proofs.FourMeters.{read_after, read_left, sum_after}

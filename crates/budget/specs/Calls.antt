@@ -10,7 +10,7 @@ use Rattle.common.specs.declared.c.FlatAnswer.{FlatAnswer}
 use Rattle.meter.specs.Feed.{Scale, scale_of, begin_of, reset_of, feed_of}
 use Rattle.meter.specs.Model.{Call, begin, feed, reset}
 use Rattle.budget.specs.declared.step.Meters.{Meters}
-use Rattle.budget.specs.declared.step.FedFour.{FedFour}
+use Rattle.budget.specs.Four.{FedFour}
 use Rattle.budget.specs.Four.{meter_of, others_of, begin_four_of, reset_four_of, feed_four_of}
 
 -- a call on one of the four: the script's number, S (which only a feed looks at), and the call on its meter

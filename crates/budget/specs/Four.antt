@@ -1,15 +1,17 @@
 -- Request C-20, "Four scripts on one controller": begin, reset and feed of one of the four, over any scale.
 -- The contracts give that of the words and the weights lent.
 -- Assumes nothing.
-use Rattle.std.specs.Prelude.{Bool, cond, not, ◌||◌, ℕ, ◌+◌, ltb, eqb}
+use Rattle.std.specs.Prelude.{Result, Ok, Err, Bool, cond, not, ◌||◌, ℕ, ◌+◌, ltb, eqb}
 use Rattle.common.specs.Numbers.{«ACCEPTED», NO_SCRIPT, BUDGET_RANGE, OVER_BUDGET}
+use Rattle.common.specs.declared.c.FlatAnswer.{FlatAnswer}
+use Rattle.common.specs.declared.refusal.Refusal.{Refusal}
+use Rattle.common.specs.Refusals.{refusal_number, refusal_place}
 use Rattle.common.specs.Chain.{refuse_if}
 use Rattle.common.specs.Limits.{most_budget, last_script}
 use Rattle.meter.specs.declared.step.Meter.{Meter}
-use Rattle.meter.specs.declared.step.Fed.{Fed}
+use Rattle.meter.specs.Feed.{Fed}
 use Rattle.meter.specs.Feed.{Scale, begin_of, reset_of, feed_of}
 use Rattle.budget.specs.declared.step.Meters.{Meters}
-use Rattle.budget.specs.declared.step.FedFour.{FedFour}
 
 -- "Each has its own meter and its own services counter": script i's
 unfoldable pub meter_of : Meters → ℕ → Meter
@@ -42,6 +44,11 @@ others_of ms i = unless_own i 0 ms.axis
 unfoldable pub is_out_of_range : ℕ → Bool
 is_out_of_range s = eqb s 0 || ltb most_budget s
 
+-- four meters after a call, and the call's answer
+pub record FedFour : Type 0 where
+  pub meters : Meters
+  pub answer : FlatAnswer
+
 -- a number, no place, and the four "meters unchanged"
 abbrev pub refused_four : ℕ → Meters → FedFour
 refused_four number ms = record { meters = ms; answer = record { number = number; place = 0 } }
@@ -50,6 +57,12 @@ refused_four number ms = record { meters = ms; answer = record { number = number
 abbrev pub changed_four : Meters → ℕ → Meter → FedFour
 changed_four ms i m =
     record { meters = with_meter ms i m; answer = record { number = «ACCEPTED»; place = 0 } }
+
+-- what a call on ms makes that gives the next four or is refused
+abbrev pub four_of : Meters → Result Meters Refusal → FedFour
+four_of ms (Ok next) = record { meters = next; answer = record { number = «ACCEPTED»; place = 0 } }
+four_of ms (Err e) =
+    record { meters = ms; answer = record { number = refusal_number e; place = refusal_place e } }
 
 -- what script i has of a call: its own meter, and the answer
 abbrev pub own_of : ℕ → FedFour → Fed

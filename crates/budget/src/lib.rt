@@ -7,6 +7,4 @@ pub mod step;
 pub use c::{
     lawendeb_begin_four as begin, lawendeb_feed_four as feed, lawendeb_reset_four as reset,
 };
-pub use step::{
-    FedFour, Meters, begin_four, feed_four, feed_four_script, feed_own, feed_own_script, reset_four,
-};
+pub use step::{Meters, begin_four, feed_four, feed_own, reset_four, store};

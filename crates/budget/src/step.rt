@@ -1,36 +1,23 @@
 // Begin, feed and reset one of four scripts, by value: four meters go in, four come out.
-ghost use Rattle.std.specs.Prelude.{◌≡◌, cond, ◌≤◌};
-ghost use Rattle.common.specs.Limits.{last_script};
-ghost use Rattle.runs.specs.Script.{script_of, lua54};
-ghost use Rattle.meter.specs.Feed.{scale_of, refusal};
+ghost use Rattle.std.specs.Prelude.{◌≡◌, cond};
+ghost use Rattle.runs.specs.Script.{script_of};
+ghost use Rattle.meter.specs.Feed.{scale_of, fed_of};
 ghost use Rattle.budget.specs.Four.{
   meter_of,
   with_meter,
   sum_of,
   is_out_of_range,
-  refused_four,
   own_of,
+  four_of,
   begin_four_of,
   reset_four_of,
-  settle_four,
   feed_four_of,
 };
 
-use common::c::FlatAnswer;
+use common::Refusal;
 use common::limits::{LAST_SCRIPT, MOST_BUDGET};
-use common::widths::wide;
 use fields::version::Version;
-use meter::{Fed, Meter, begin_step, feed_script, reset_step};
-
-// A call's number has 64 bits, as C gets it.
-
-const ACCEPTED: u64 = common::numbers::ACCEPTED as u64;
-
-const NO_SCRIPT: u64 = common::numbers::NO_SCRIPT as u64;
-
-const BUDGET_RANGE: u64 = common::numbers::BUDGET_RANGE as u64;
-
-const OVER_BUDGET: u64 = common::numbers::OVER_BUDGET as u64;
+use meter::{Meter, begin_step, feed_step, reset_step};
 
 // "Axis, focuser, dome and guider scripts": the meters of scripts 0 to 3, laid out as C lays them out.
 #[repr(C)]
@@ -42,15 +29,9 @@ pub struct Meters {
     pub guider: Meter,
 }
 
-// Four meters after a call, and the call's answer.
-#[derive(Drop)]
-pub struct FedFour {
-    pub meters: Meters,
-    pub answer: FlatAnswer,
-}
-
-// Field by field: where a whole meter is returned from an arm, the four are copied
-// to memory and loaded again.
+// Kept: (d) field by field: where a whole meter is returned from an arm the four are copied to memory and
+// loaded again.
+#[tactic(auto, unfolding(crate::specs::Four::meter_of))]
 fn meter_of(ms: Meters, script: u32) -> Meter
     ensures { result ≡ meter_of ms script }
 {
@@ -89,12 +70,10 @@ fn meter_of(ms: Meters, script: u32) -> Meter
 fn choose(t: bool, new: Meter, old: Meter) -> Meter
     ensures { result ≡ cond t new old }
 {
-    if t {
-        return new;
-    }
-    old
+    if t { new } else { old }
 }
 
+#[tactic(auto, unfolding(crate::specs::Four::with_meter))]
 fn with_meter(ms: Meters, script: u32, m: Meter) -> Meters
     ensures { result ≡ with_meter ms script m }
 {
@@ -103,112 +82,72 @@ fn with_meter(ms: Meters, script: u32, m: Meter) -> Meters
     let dome = choose(script == 2, m, ms.dome);
     let guider = choose(script == 3, m, ms.guider);
     Meters {
-        axis: axis,
-        focuser: focuser,
-        dome: dome,
-        guider: guider,
+        axis,
+        focuser,
+        dome,
+        guider,
+    }
+}
+
+// A script's meter put among the four; a number above 3 puts none.
+// Kept: (d) beside with_meter: this one writes the script's meter alone, where the other would write all
+// four.
+#[tactic(auto, unfolding(crate::specs::Four::with_meter))]
+pub fn store(ms: &mut Meters, script: u32, m: Meter)
+    ensures { ms.new ≡ with_meter ms.old script m }
+{
+    match script {
+        0 => ms.axis = m,
+        1 => ms.focuser = m,
+        2 => ms.dome = m,
+        3 => ms.guider = m,
+        _ => {}
     }
 }
 
 // Four counts of 32 bits: "the sum never wraps" in 64.
+#[tactic(auto, unfolding(crate::specs::Four::sum_of))]
 fn sum(ms: Meters) -> usize
     ensures { result ≡ sum_of ms }
 {
-    let axis = wide(ms.axis.count);
-    let focuser = wide(ms.focuser.count);
-    let dome = wide(ms.dome.count);
-    let guider = wide(ms.guider.count);
+    let axis = ms.axis.count as usize;
+    let focuser = ms.focuser.count as usize;
+    let dome = ms.dome.count as usize;
+    let guider = ms.guider.count as usize;
     axis + (focuser + (dome + guider))
 }
 
 // Number 21.
+#[tactic(auto, unfolding(crate::specs::Four::is_out_of_range))]
 fn is_out_of_range(budget: u32) -> bool
     ensures { result ≡ is_out_of_range budget }
 {
-    if budget == 0 {
-        return true;
-    }
-    MOST_BUDGET < budget
+    budget == 0 || MOST_BUDGET < budget
 }
 
-// A refusal leaves all four as they were.
-fn refused(ms: Meters, number: u64) -> FedFour
-    ensures { result ≡ refused_four number ms }
-{
-    FedFour {
-        meters: ms,
-        answer: FlatAnswer { number, place: 0 },
-    }
-}
-
-// The same of the fed script's meter.
-fn turned_back(m: Meter, number: u64) -> Fed
-    ensures { result ≡ refusal number 0 m }
-{
-    Fed {
-        meter: m,
-        answer: FlatAnswer { number, place: 0 },
-    }
-}
-
-pub fn begin_four(ms: Meters, script: u32) -> FedFour
-    ensures { result ≡ begin_four_of ms script }
+#[tactic(auto, unfolding(crate::specs::Four::begin_four_of))]
+pub fn begin_four(ms: Meters, script: u32) -> Result<Meters, Refusal>
+    ensures { four_of ms result ≡ begin_four_of ms script }
 {
     if LAST_SCRIPT < script {
-        return refused(ms, NO_SCRIPT);
+        return Err(Refusal::NoScript);
     }
-    let m = meter_of(ms, script);
-    let begun = begin_step(m);
-    let next = with_meter(ms, script, begun);
-    FedFour {
-        meters: next,
-        answer: FlatAnswer {
-            number: ACCEPTED,
-            place: 0,
-        },
-    }
+    Ok(with_meter(ms, script, begin_step(meter_of(ms, script))))
 }
 
-pub fn reset_four(ms: Meters, script: u32) -> FedFour
-    ensures { result ≡ reset_four_of ms script }
+#[tactic(auto, unfolding(crate::specs::Four::reset_four_of))]
+pub fn reset_four(ms: Meters, script: u32) -> Result<Meters, Refusal>
+    ensures { four_of ms result ≡ reset_four_of ms script }
 {
     if LAST_SCRIPT < script {
-        return refused(ms, NO_SCRIPT);
+        return Err(Refusal::NoScript);
     }
-    let m = meter_of(ms, script);
-    let reset = reset_step(m);
-    let next = with_meter(ms, script, reset);
-    FedFour {
-        meters: next,
-        answer: FlatAnswer {
-            number: ACCEPTED,
-            place: 0,
-        },
-    }
-}
-
-// What the script's own feed of its meter m answered, and then number 22.
-fn settle(ms: Meters, script: u32, budget: u32, m: Meter, f: Fed) -> Fed
-    requires { (script ≤ last_script) × (m ≡ meter_of ms script) }
-    ensures { result ≡ own_of script (settle_four ms script budget f) }
-{
-    if f.answer.number != ACCEPTED {
-        return Fed {
-            meter: m,
-            answer: f.answer,
-        };
-    }
-    let moved = f.meter;
-    let after = sum(with_meter(ms, script, moved));
-    if wide(budget) < after {
-        return turned_back(m, OVER_BUDGET);
-    }
-    f
+    Ok(with_meter(ms, script, reset_step(meter_of(ms, script))))
 }
 
 // A feed of word q of the script, of either version, whose words and weights are lent, within the budget: the
-// script's own meter after it. The others stay.
-pub fn feed_own_script(
+// script's own meter after it. The others stay, and on a refusal this one, too.
+pub fn feed_own(
     version: Version,
     words: &[u32],
     weights: &[u8],
@@ -216,25 +155,26 @@ pub fn feed_own_script(
     script: u32,
     budget: u32,
     q: usize,
-) -> Fed
-    ensures { result ≡ own_of script (feed_four_of
+) -> Result<Meter, Refusal>
+    ensures { fed_of (meter_of ms script) result ≡ own_of script (feed_four_of
         (scale_of (script_of version words.now) weights.now) ms script budget q) }
 {
     let m = meter_of(ms, script);
-    let no_script = LAST_SCRIPT < script;
-    let out_of_range = is_out_of_range(budget);
-    if no_script {
-        return turned_back(m, NO_SCRIPT);
+    if LAST_SCRIPT < script {
+        return Err(Refusal::NoScript);
     }
-    if out_of_range {
-        return turned_back(m, BUDGET_RANGE);
+    if is_out_of_range(budget) {
+        return Err(Refusal::BudgetRange);
     }
-    let f = feed_script(version, words, weights, m, q);
-    settle(ms, script, budget, m, f)
+    let next = feed_step(version, words, weights, m, q)?;
+    if (budget as usize) < sum(with_meter(ms, script, next)) {
+        return Err(Refusal::OverBudget);
+    }
+    Ok(next)
 }
 
 // The same, with the four.
-pub fn feed_four_script(
+pub fn feed_four(
     version: Version,
     words: &[u32],
     weights: &[u8],
@@ -242,45 +182,10 @@ pub fn feed_four_script(
     script: u32,
     budget: u32,
     q: usize,
-) -> FedFour
-    ensures { result ≡ feed_four_of (scale_of (script_of version words.now) weights.now)
+) -> Result<Meters, Refusal>
+    ensures { four_of ms result ≡ feed_four_of (scale_of (script_of version words.now) weights.now)
         ms script budget q }
 {
-    let f = feed_own_script(version, words, weights, ms, script, budget, q);
-    let m = f.meter;
-    let answer = f.answer;
-    let next = with_meter(ms, script, m);
-    FedFour {
-        meters: next,
-        answer: answer,
-    }
-}
-
-// Both of words of 5.4.
-
-pub fn feed_own(
-    words: &[u32],
-    weights: &[u8],
-    ms: Meters,
-    script: u32,
-    budget: u32,
-    q: usize,
-) -> Fed
-    ensures { result ≡ own_of script
-        (feed_four_of (scale_of (lua54 words.now) weights.now) ms script budget q) }
-{
-    feed_own_script(Version::Lua54, words, weights, ms, script, budget, q)
-}
-
-pub fn feed_four(
-    words: &[u32],
-    weights: &[u8],
-    ms: Meters,
-    script: u32,
-    budget: u32,
-    q: usize,
-) -> FedFour
-    ensures { result ≡ feed_four_of (scale_of (lua54 words.now) weights.now) ms script budget q }
-{
-    feed_four_script(Version::Lua54, words, weights, ms, script, budget, q)
+    let next = feed_own(version, words, weights, ms, script, budget, q)?;
+    Ok(with_meter(ms, script, next))
 }

@@ -5,4 +5,4 @@
 
 pub mod c;
 
-pub use c::{feed_own_53, lawendeb_feed_four_53};
+pub use c::lawendeb_feed_four_53;

@@ -1,28 +1,20 @@
 // The calls. A line has what each is lent, in the order of its parameters.
-use budget::{FedFour, Meters, begin_four, feed_four, reset_four};
-use meter::Meter;
-use pages::word_at;
-use print_cases::{number, number_u32, text};
+use budget::{Meters, begin_four, feed_four, reset_four};
+use common::Refusal;
+use common::c::FlatAnswer;
+use fields::version::Version;
+use lent_meters::{NUMBERS, meter_of, show};
+use print_cases::{number, text};
 use std::io::Stdout;
-use vectors::{bytes_of, number_of, words_of};
+use vectors::{ROOM, list_of, number_of};
 
-// The meter whose five numbers stand in place k.
-fn meter_at(ms: &[u32], k: u32) -> Meter {
-    let at = k as usize * 5;
-    Meter {
-        begun: word_at(ms, at),
-        last: word_at(ms, at + 1),
-        count: word_at(ms, at + 2),
-        services: word_at(ms, at + 3),
-        highest: word_at(ms, at + 4),
-    }
-}
-
-fn meters_of(ms: &[u32]) -> Meters {
-    let axis = meter_at(ms, 0);
-    let focuser = meter_at(ms, 1);
-    let dome = meter_at(ms, 2);
-    let guider = meter_at(ms, 3);
+// Four meters, one after another.
+fn meters_of(list: &[u32]) -> Meters {
+    let mut each = list.chunks(NUMBERS);
+    let axis = meter_of(each.next().unwrap_or(&[]));
+    let focuser = meter_of(each.next().unwrap_or(&[]));
+    let dome = meter_of(each.next().unwrap_or(&[]));
+    let guider = meter_of(each.next().unwrap_or(&[]));
     Meters {
         axis,
         focuser,
@@ -31,30 +23,18 @@ fn meters_of(ms: &[u32]) -> Meters {
     }
 }
 
-fn show_meter(out: Stdout, m: Meter) {
-    text(out, b";");
-    number_u32(out, m.begun);
-    number_u32(out, m.last);
-    number_u32(out, m.count);
-    number_u32(out, m.services);
-    number_u32(out, m.highest);
-}
-
-fn show(out: Stdout, ms: Meters) {
-    show_meter(out, ms.axis);
-    show_meter(out, ms.focuser);
-    show_meter(out, ms.dome);
-    show_meter(out, ms.guider);
-}
-
-// What a call gave.
-fn told(out: Stdout, f: FedFour) {
-    number(out, f.answer.number);
-    if f.answer.place != 0 {
+// What a call on these meters gave: a refusal leaves them as they were.
+fn told(out: Stdout, before: Meters, called: Result<Meters, Refusal>) {
+    let answer = FlatAnswer::from(called.map(|_| ()));
+    number(out, answer.number);
+    if answer.place != 0 {
         text(out, b" at");
-        number(out, f.answer.place);
+        number(out, answer.place);
     }
-    show(out, f.meters);
+    let ms = called.unwrap_or(before);
+    for m in [ms.axis, ms.focuser, ms.dome, ms.guider] {
+        show(out, m);
+    }
 }
 
 // Part k as a number of 32 bits.
@@ -62,59 +42,37 @@ fn small_of(line: &[u8], k: usize) -> u32 {
     (number_of(line, k) % 4294967296) as u32
 }
 
-// Which script is fed, within what, and which word.
-#[derive(Drop)]
-struct Call {
-    script: u32,
-    budget: u32,
-    q: usize,
-}
-
-fn feed_lent(out: Stdout, words: &mut [u32], weights: &mut [u8], ms: &mut [u32], c: Call) {
-    told(
-        out,
-        feed_four(words, weights, meters_of(ms), c.script, c.budget, c.q),
-    );
-}
-
-fn call_of(line: &[u8]) -> Call {
-    Call {
-        script: small_of(line, 5),
-        budget: small_of(line, 6),
-        q: number_of(line, 7) as usize,
-    }
-}
+// Only its label is printed.
+pub fn title(_: Stdout, _: &[u8]) {}
 
 // words | weights | the meters | script | budget | q
 pub fn feed(out: Stdout, line: &[u8]) {
-    let mut words = vectors::words();
+    let mut words = [0u32; ROOM];
     let mut weights = [0u8; 256];
-    let mut ms = [0u32; 20];
-    feed_lent(
+    let mut ms = [0u32; 4 * NUMBERS];
+    let words = list_of(&mut words, line, 2);
+    let weights = list_of(&mut weights, line, 3);
+    let ms = meters_of(list_of(&mut ms, line, 4));
+    let script = small_of(line, 5);
+    let budget = small_of(line, 6);
+    let q = number_of(line, 7) as usize;
+    told(
         out,
-        words_of(&mut words, line, 2),
-        bytes_of(&mut weights, line, 3),
-        words_of(&mut ms, line, 4),
-        call_of(line),
+        ms,
+        feed_four(Version::Lua54, words, weights, ms, script, budget, q),
     );
-}
-
-fn begun(out: Stdout, ms: &mut [u32], script: u32) {
-    told(out, begin_four(meters_of(ms), script));
 }
 
 // the meters | script
 pub fn begin(out: Stdout, line: &[u8]) {
-    let mut ms = [0u32; 20];
-    begun(out, words_of(&mut ms, line, 2), small_of(line, 3));
-}
-
-fn was_reset(out: Stdout, ms: &mut [u32], script: u32) {
-    told(out, reset_four(meters_of(ms), script));
+    let mut ms = [0u32; 4 * NUMBERS];
+    let ms = meters_of(list_of(&mut ms, line, 2));
+    told(out, ms, begin_four(ms, small_of(line, 3)));
 }
 
 // the meters | script
 pub fn reset(out: Stdout, line: &[u8]) {
-    let mut ms = [0u32; 20];
-    was_reset(out, words_of(&mut ms, line, 2), small_of(line, 3));
+    let mut ms = [0u32; 4 * NUMBERS];
+    let ms = meters_of(list_of(&mut ms, line, 2));
+    told(out, ms, reset_four(ms, small_of(line, 3)));
 }

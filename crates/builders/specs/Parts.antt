@@ -1,6 +1,6 @@
 -- What several arms of lifter.rs share: sums of registers, the event map, and operands and effects that ask
 -- the tables. A refinement of the original. Assumes nothing.
-use Rattle.std.specs.Prelude.{ℕ, ◌+◌, ◌-◌, List, [], ◌∷◌, eqb, leb}
+use Rattle.std.specs.Prelude.{ℕ, ◌+◌, ◌-◌, min, List, [], ◌∷◌, eqb, leb}
 use Rattle.fields.specs.lua54.Events.{TM_LEN, TM_EQ, TM_ADD}
 use Rattle.values.specs.declared.ir.TypedOperand.{TypedOperand}
 use Rattle.values.specs.declared.ir.TypedOperand.TheVariants as O
@@ -11,8 +11,8 @@ use Rattle.values.specs.Values.{constant_of, name_of}
 
 -- "Register sums saturate at 255, and below at 0, one addition or subtraction at a time":
 -- a sum stops at 255; a difference is that of ℕ, which stops at 0
-unfoldable pub plus : ℕ → ℕ → ℕ
-plus a b = choose (leb (a + b) 255) (a + b) 255
+abbrev pub plus : ℕ → ℕ → ℕ
+plus a b = min (a + b) 255
 
 -- "or 25 for `__metamethod`"
 abbrev pub metamethod : ℕ

@@ -7,7 +7,7 @@ use Rattle.common.specs.Numbers.{«ACCEPTED»}
 use Rattle.graph.specs.Graph.{In}
 use Rattle.runs.specs.Script.{Script, graph_of}
 use Rattle.meter.specs.declared.step.Meter.{Meter}
-use Rattle.meter.specs.declared.step.Fed.{Fed}
+use Rattle.meter.specs.Feed.{Fed}
 use Rattle.meter.specs.Feed.{scale_of, begin_of, feed_of}
 use Rattle.calls.specs.Control.{idle, Move, call, tailcall, step, leave, Run, control_after}
 use Rattle.calls.specs.Bound.{total}

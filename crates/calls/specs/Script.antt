@@ -8,12 +8,10 @@ use Rattle.common.specs.Numbers.{«ACCEPTED»}
 use Rattle.fields.specs.lua54.Opcodes.{OP_MOVE, OP_CALL, OP_RETURN0}
 use Rattle.fields.specs.declared.version.Version.{Version}
 use Rattle.graph.specs.Graph.{In}
-use Rattle.runs.specs.declared.longest.Run.{Run}
-use Rattle.runs.specs.declared.longest.Run.TheVariants.{Accepted}
 use Rattle.runs.specs.Script.{Script, script_of, lua54, graph_of, weight_of, Sound}
 use Rattle.runs.specs.Weights.{Weighs}
 use Rattle.runs.specs.Counted.{ones}
-use Rattle.runs.specs.Run.{run_of, number_of, longest_of}
+use Rattle.runs.specs.Run.{Run, accepted_run, run_of, number_of, longest_of}
 use Rattle.meter.specs.declared.step.Meter.{Meter}
 use Rattle.meter.specs.Feed.{Scale, scale_of, begin_of}
 use Rattle.meter.specs.Calls.{meter_after, meter_answers}
@@ -116,5 +114,5 @@ abbrev pub recursive : Script
 recursive = lua54 (OP_MOVE ∷ OP_CALL ∷ OP_RETURN0 ∷ [])
 
 pub record RecursionCase : Type 0 where
-  pub alone : run_answer_of ones recursive ≡ Accepted 3 0
+  pub alone : run_answer_of ones recursive ≡ accepted_run 3 0
   pub twice : ReachesWeight (functions_from ones (λ ws p. 0) (recursive ∷ [])) 2 4

@@ -9,8 +9,11 @@ use lib.Dec.{leb, eqb}
 use lib.ListN.{length, get_or, replicate}
 use Rattle.values.specs.Values.{TAG_NIL, TAG_FALSE, TAG_TRUE, TAG_INTEGER, TAG_FLOAT, TAG_SHORT_STRING, TAG_LONG_STRING}
 use Rattle.common.specs.Limits.{most_constants}
-use Rattle.loaders.specs.Reading.{Result, done, refused, Reader, bind, only, repeat}
-use Rattle.loaders.specs.Loaders.{Text, absent, text, Constant, plain, string, load_byte, load_int}
+use Rattle.std.proofs.Common.{None, Some, Ok, Err}
+use Rattle.loaders.specs.declared.constants.Constant.TheVariants as constant
+use Rattle.loaders.specs.Reading.{Outcome, Reader, bind, only, repeat}
+use Rattle.loaders.specs.declared.constants.Constant.{Constant}
+use Rattle.loaders.specs.Loaders.{Text, absent, text, plain, string, load_byte, load_int}
 use Rattle.loaders.specs.Loaders.{load_number, load_integer, load_string_n, present, load_string}
 use Rattle.lundump.specs.Lundump.{load_items}
 use Rattle.loaders.specs.Loaders.{constant_by_tag, load_constant}
@@ -21,9 +24,9 @@ use Rattle.loaders.proofs.Texts.{text_inside}
 
 -- ---- a fact of each thing that is read
 module _ {A : Type 0} (Q : A → Type 0) where
-  abbrev pub Of : Result A → Type 0
-  Of (done a at) = Q a
-  Of (refused e) = Unit
+  abbrev pub Of : Outcome A → Type 0
+  Of (Ok (a, at)) = Q a
+  Of (Err e) = Unit
 
   abbrev pub Each : List A → Type 0
   Each [] = Unit
@@ -34,23 +37,23 @@ module _ {A : Type 0} (Q : A → Type 0) where
   each_at (x ∷ xs) h zero d l = h.0
   each_at (x ∷ xs) h (suc i) d l = each_at xs h.1 i d (omega arith)
 
-of_bind : {A B : Type 0} (Q : B → Type 0) (X : Result A) (g : A → ℕ → Result B) → ((a : A) (at : ℕ) → Of Q (g a at)) → Of Q (bind X g)
-of_bind Q (done a at) g h = h a at
-of_bind Q (refused e) g h = tt
+of_bind : {A B : Type 0} (Q : B → Type 0) (X : Outcome A) (g : A → ℕ → Outcome B) → ((a : A) (at : ℕ) → Of Q (g a at)) → Of Q (bind X g)
+of_bind Q (Ok (a, at)) g h = h a at
+of_bind Q (Err e) g h = tt
 
-of_only : {A : Type 0} (Q : A → Type 0) (b : Bool) (X : Result A) → Of Q X → Of Q (only b X)
+of_only : {A : Type 0} (Q : A → Type 0) (b : Bool) (X : Outcome A) → Of Q X → Of Q (only b X)
 of_only Q true X h = h
 of_only Q false X h = tt
 
 module _ {A : Type 0} (Q : A → Type 0) (r : ℕ → Reader A) (bytes : List ℕ) (one : (i at : ℕ) → Of Q (r i bytes at)) where
-  more : (x : A) → Q x → (Y : Result (List A)) → Of (Each Q) Y → Of (Each Q) (bind Y (λ xs at₂. done (x ∷ xs) at₂))
-  more x q (done xs at₂) h = (q, h)
-  more x q (refused e) h = tt
+  more : (x : A) → Q x → (Y : Outcome (List A)) → Of (Each Q) Y → Of (Each Q) (bind Y (λ xs at₂. Ok (x ∷ xs, at₂)))
+  more x q (Ok (xs, at₂)) h = (q, h)
+  more x q (Err e) h = tt
 
-  then_more : (i n : ℕ) → ((at : ℕ) → Of (Each Q) (repeat r (i + 1) n bytes at)) → (X : Result A) → Of Q X
-      → Of (Each Q) (bind X (λ x at₁. bind (repeat r (i + 1) n bytes at₁) (λ xs at₂. done (x ∷ xs) at₂)))
-  then_more i n later (done x at₁) q = more x q (repeat r (i + 1) n bytes at₁) (later at₁)
-  then_more i n later (refused e) q = tt
+  then_more : (i n : ℕ) → ((at : ℕ) → Of (Each Q) (repeat r (i + 1) n bytes at)) → (X : Outcome A) → Of Q X
+      → Of (Each Q) (bind X (λ x at₁. bind (repeat r (i + 1) n bytes at₁) (λ xs at₂. Ok (x ∷ xs, at₂))))
+  then_more i n later (Ok (x, at₁)) q = more x q (repeat r (i + 1) n bytes at₁) (later at₁)
+  then_more i n later (Err e) q = tt
 
   pub repeated : (n i at : ℕ) → Of (Each Q) (repeat r i n bytes at)
   unfolding repeat
@@ -60,28 +63,28 @@ module _ {A : Type 0} (Q : A → Type 0) (r : ℕ → Reader A) (bytes : List �
 module _ (bytes : List ℕ) where
   -- a string that was read, and a constant
   abbrev pub TextIn : Text → Type 0
-  TextIn absent = Unit
-  TextIn (text start size) = start + size ≤ length bytes
+  TextIn None = Unit
+  TextIn (Some s) = s.start + s.size ≤ length bytes
 
   abbrev pub ConstantIn : Constant → Type 0
-  ConstantIn (plain tag payload) = Plain tag
-  ConstantIn (string start size) = start + size ≤ length bytes
+  ConstantIn (constant.Plain tag payload) = Plain tag
+  ConstantIn (constant.String s) = s.start + s.size ≤ length bytes
 
-  text_in : (at : ℕ) (X : Result Text) → load_string_n bytes at ≡ X → Of TextIn X
-  text_in at (done absent next) e = tt
-  text_in at (done (text start size) next) e = text_inside bytes start size next at e
-  text_in at (refused x) e = tt
+  text_in : (at : ℕ) (X : Outcome Text) → load_string_n bytes at ≡ X → Of TextIn X
+  text_in at (Ok (None, next)) e = tt
+  text_in at (Ok (Some s, next)) e = text_inside bytes at (Some s) next e
+  text_in at (Err x) e = tt
 
-  present_in : (X : Result Text) → Of TextIn X → Of ConstantIn (bind X present)
-  present_in (done absent at) h = tt
-  present_in (done (text start size) at) h = h
-  present_in (refused e) h = tt
+  present_in : (X : Outcome Text) → Of TextIn X → Of ConstantIn (bind X present)
+  present_in (Ok (None, at)) h = tt
+  present_in (Ok (Some s, at)) h = h
+  present_in (Err e) h = tt
 
   string_in : (at : ℕ) → Of ConstantIn (load_string bytes at)
   unfolding load_string
   string_in at = present_in (load_string_n bytes at) (text_in at (load_string_n bytes at) refl)
 
-  either : (b : Bool) (X Y : Result Constant) → Of ConstantIn X → Of ConstantIn Y → Of ConstantIn (cond b X Y)
+  either : (b : Bool) (X Y : Outcome Constant) → Of ConstantIn X → Of ConstantIn Y → Of ConstantIn (cond b X Y)
   either true X Y h k = h
   either false X Y h k = k
 
@@ -120,11 +123,11 @@ module _ (bytes : List ℕ) where
   names ups at = of_bind (Each TextIn) (load_int bytes at) _ (λ n at₁. names-from ups n at₁)
 
   -- of what a position was read to
-  was : {A : Type 0} (Q : A → Type 0) (X : Result A) (a : A) (next : ℕ) → X ≡ done a next → Of Q X → Q a
+  was : {A : Type 0} (Q : A → Type 0) (X : Outcome A) (a : A) (next : ℕ) → X ≡ Ok (a, next) → Of Q X → Q a
   was Q X a next e h = rw e at h
 
-  pub constants_in : (at : ℕ) (ks : List Constant) (next : ℕ) → load_constants bytes at ≡ done ks next → Each ConstantIn ks
+  pub constants_in : (at : ℕ) (ks : List Constant) (next : ℕ) → load_constants bytes at ≡ Ok (ks, next) → Each ConstantIn ks
   constants_in at ks next e = was (Each ConstantIn) (load_constants bytes at) ks next e (constants at)
 
-  pub names_in : (upvalues at : ℕ) (ts : List Text) (next : ℕ) → load_names upvalues bytes at ≡ done ts next → Each TextIn ts
+  pub names_in : (upvalues at : ℕ) (ts : List Text) (next : ℕ) → load_names upvalues bytes at ≡ Ok (ts, next) → Each TextIn ts
   names_in ups at ts next e = was (Each TextIn) (load_names ups bytes at) ts next e (names ups at)

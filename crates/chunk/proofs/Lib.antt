@@ -1,4 +1,5 @@
 pub mod Standing
+pub mod Few
 pub mod Rising
 pub mod Stores
 pub mod Refill

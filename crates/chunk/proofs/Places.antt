@@ -10,11 +10,13 @@ use borrow.Author.Tests.{leb-true, lt-ltb, le-ltb, ne_eqb}
 use Rattle.common.specs.Chain.{choose}
 use Rattle.common.proofs.Lowest.{lowest_laws}
 use Rattle.common.specs.Limits.{most_bytes}
-use Rattle.values.specs.declared.model.Name.TheVariants.{Unnamed, Named}
+use Rattle.std.specs.Prelude.{Some, None}
 use Rattle.values.specs.Values.{unnamed, span_of, name_of, span_number}
 use Rattle.values.specs.Spans.{past, name_past_at, first_name_past}
-use Rattle.loaders.specs.Reading.{Result, done, bind, only}
-use Rattle.loaders.specs.Loaders.{Text, absent, text, Constant, plain, string}
+use Rattle.std.proofs.Common.{None, Some, Ok}
+use Rattle.loaders.specs.Reading.{Outcome, bind, only}
+use Rattle.loaders.specs.declared.constants.Constant.{Constant}
+use Rattle.loaders.specs.Loaders.{Text, absent, text, plain, string}
 use Rattle.lundump.specs.Lundump.{Function, undump}
 use Rattle.loaders.specs.Lent.{payload_of, name_number}
 use Rattle.lundump.specs.Chunk.{pick, chosen, values_of, payloads_of, names_of}
@@ -87,7 +89,7 @@ module _ (bytes : List ℕ) (few : length bytes ≤ most_bytes) (f : Function) (
     here : ltb i (length (names_of f)) ≡ true
     here = lt-ltb i (length (names_of f)) (omega (arith, l, names_many))
 
-    absent_is : get_or f.names i absent ≡ absent → name_of (names_of f) i ≡ Unnamed
+    absent_is : get_or f.names i absent ≡ absent → name_of (names_of f) i ≡ None
     unfolding name_of choose
     absent_is e = rw (here, number-is, e)
 
@@ -95,19 +97,19 @@ module _ (bytes : List ℕ) (few : length bytes ≤ most_bytes) (f : Function) (
       name_in : start + size ≤ length bytes
       name_in = rw e at name_there
 
-      name_is : name_of (names_of f) i ≡ Named (record { start = start; len = size })
+      name_is : name_of (names_of f) i ≡ Some (record { start = start; len = size })
       unfolding name_of choose
       name_is =
           rw (here, number-is, e, named (length bytes) start size few name_in)
-          (ap Named (span start size (short (length bytes) start size few name_in)))
+          (ap Some (span start size (short (length bytes) start size few name_in)))
 
     -- number 5 passes it
     ends-by : (t : Text) → get_or f.names i absent ≡ t → name_past_at (names_of f) (length bytes) i ≡ false
     unfolding name_past_at choose
-    ends-by absent e = rw (number-is, e)
-    ends-by (text start size) e =
-        rw (number-is, e, named (length bytes) start size few (name_in start size e))
-        (not_past (length bytes) start size few (name_in start size e))
+    ends-by None e = rw (number-is, e)
+    ends-by (Some s) e =
+        rw (number-is, e, named (length bytes) s.start s.size few (name_in s.start s.size e))
+        (not_past (length bytes) s.start s.size few (name_in s.start s.size e))
 
   all_end : first_name_past (names_of f) (length bytes) ≡ length (names_of f)
   all_end =
@@ -128,16 +130,16 @@ module _ (bytes : List ℕ) (few : length bytes ≤ most_bytes) (f : Function) (
       }
 
 -- ---- what is accepted is no longer than it may be
-accepted_few : (k : ℕ) (bytes : List ℕ) (f : Function) (at : ℕ) → chosen k bytes ≡ done f at → length bytes ≤ most_bytes
+accepted_few : (k : ℕ) (bytes : List ℕ) (f : Function) (at : ℕ) → chosen k bytes ≡ Ok (f, at) → length bytes ≤ most_bytes
 unfolding chosen
 accepted_few k bytes f at h = go (leb (length bytes) most_bytes) refl h
   where
-    go : (b : Bool) → leb (length bytes) most_bytes ≡ b → only b (bind (undump bytes 0) (pick k)) ≡ done f at → length bytes ≤ most_bytes
+    go : (b : Bool) → leb (length bytes) most_bytes ≡ b → only b (bind (undump bytes 0) (pick k)) ≡ Ok (f, at) → length bytes ≤ most_bytes
     go true e h = leb-true (length bytes) most_bytes e
     go false e h = absurd (true≢false (cc))
 
-pub places : (k : ℕ) (bytes : List ℕ) (f : Function) (at : ℕ) → chosen k bytes ≡ done f at → Places bytes f
+pub places : (k : ℕ) (bytes : List ℕ) (f : Function) (at : ℕ) → chosen k bytes ≡ Ok (f, at) → Places bytes f
 places k bytes f at h = places_of bytes (accepted_few k bytes f at h) f (stands_as (chosen k bytes) h (chosen_stands bytes k))
   where
-    stands_as : (X : Result Function) → X ≡ done f at → OneRead bytes X → Stands bytes f
+    stands_as : (X : Outcome Function) → X ≡ Ok (f, at) → OneRead bytes X → Stands bytes f
     stands_as X e s = rw e at s

@@ -10,8 +10,10 @@ use lib.ListN.{length, drop, get_or}
 use borrow.Author.Tests.{ltb-true}
 use Rattle.values.specs.Values.{TAG_NIL, TAG_FALSE, TAG_TRUE, TAG_INTEGER, TAG_FLOAT, TAG_SHORT_STRING, TAG_LONG_STRING}
 use Rattle.common.specs.Limits.{most_words, most_constants, most_names, levels_below, size_max, int_max}
-use Rattle.loaders.specs.Reading.{Result, done, refused, Reader, bind, and_then, only, repeat}
-use Rattle.loaders.specs.Loaders.{Constant, Text, absent, text, load_block, load_byte, unsigned_from, load_unsigned, load_size, load_int}
+use Rattle.std.proofs.Common.{None, Some, Ok, Err}
+use Rattle.loaders.specs.Reading.{Outcome, Reader, bind, and_then, only, repeat}
+use Rattle.loaders.specs.declared.constants.Constant.{Constant}
+use Rattle.loaders.specs.Loaders.{Text, absent, text, load_block, load_byte, unsigned_from, load_unsigned, load_size, load_int}
 use Rattle.lundump.specs.Lundump.{Function}
 use Rattle.loaders.specs.Loaders.{load_number, load_integer, string_of, load_string_n, present, load_string}
 use Rattle.lundump.specs.Lundump.{load_vector, load_items, load_code}
@@ -23,23 +25,23 @@ use Rattle.lundump.specs.Stands.{StandBetween, ReadBetween}
 use Rattle.lundump.proofs.Thens.{then1, then2, then3, then4, then5, then6, then7}
 
 -- ---- what is read ends where it starts, or later
-abbrev Up : {A : Type 0} → ℕ → Result A → Type 0
-Up at (done a next) = at ≤ next
-Up at (refused e) = Unit
+abbrev Up : {A : Type 0} → ℕ → Outcome A → Type 0
+Up at (Ok (a, next)) = at ≤ next
+Up at (Err e) = Unit
 
-raise : {A : Type 0} (at at₁ : ℕ) (X : Result A) → at ≤ at₁ → Up at₁ X → Up at X
-raise at at₁ (done a next) h k = omega (arith, h, k)
-raise at at₁ (refused e) h k = tt
+raise : {A : Type 0} (at at₁ : ℕ) (X : Outcome A) → at ≤ at₁ → Up at₁ X → Up at X
+raise at at₁ (Ok (a, next)) h k = omega (arith, h, k)
+raise at at₁ (Err e) h k = tt
 
-up_bind : {A B : Type 0} (at : ℕ) (X : Result A) (g : A → ℕ → Result B) → Up at X → ((a : A) (at₁ : ℕ) → Up at₁ (g a at₁)) → Up at (bind X g)
-up_bind at (done a at₁) g h k = raise at at₁ (g a at₁) h (k a at₁)
-up_bind at (refused e) g h k = tt
+up_bind : {A B : Type 0} (at : ℕ) (X : Outcome A) (g : A → ℕ → Outcome B) → Up at X → ((a : A) (at₁ : ℕ) → Up at₁ (g a at₁)) → Up at (bind X g)
+up_bind at (Ok (a, at₁)) g h k = raise at at₁ (g a at₁) h (k a at₁)
+up_bind at (Err e) g h k = tt
 
-up_only : {A : Type 0} (b : Bool) (at : ℕ) (X : Result A) → Up at X → Up at (only b X)
+up_only : {A : Type 0} (b : Bool) (at : ℕ) (X : Outcome A) → Up at X → Up at (only b X)
 up_only true at X h = h
 up_only false at X h = tt
 
-up_cond : {A : Type 0} (b : Bool) (at : ℕ) (X Y : Result A) → Up at X → Up at Y → Up at (cond b X Y)
+up_cond : {A : Type 0} (b : Bool) (at : ℕ) (X Y : Outcome A) → Up at X → Up at Y → Up at (cond b X Y)
 up_cond true at X Y h k = h
 up_cond false at X Y h k = k
 
@@ -56,7 +58,7 @@ module _ (bytes : List ℕ) where
 
   block : (size : ℕ) → Forward (load_block size)
   unfolding load_block
-  block size at = up_only (leb (at + size) (length bytes)) at (done tt (at + size)) (omega arith)
+  block size at = up_only (leb (at + size) (length bytes)) at (Ok (tt, at + size)) (omega arith)
 
   byte : Forward load_byte
   unfolding load_byte
@@ -68,8 +70,8 @@ module _ (bytes : List ℕ) where
   unsigned-from limit x at (b ∷ rest) =
       let y = x * 128 + b % 128 in
       let more = unsigned_from limit y (at + 1) rest in
-      up_only (ltb x limit) at (cond (leb 128 b) (done y (at + 1)) more)
-      (up_cond (leb 128 b) at (done y (at + 1)) more (omega arith) (raise at (at + 1) more (omega arith) (unsigned-from limit y (at + 1) rest)))
+      up_only (ltb x limit) at (cond (leb 128 b) (Ok (y, at + 1)) more)
+      (up_cond (leb 128 b) at (Ok (y, at + 1)) more (omega arith) (raise at (at + 1) more (omega arith) (unsigned-from limit y (at + 1) rest)))
 
   unsigned : (limit : ℕ) → Forward (load_unsigned limit)
   unfolding load_unsigned
@@ -93,8 +95,8 @@ module _ (bytes : List ℕ) where
   string_n at = up_bind at (load_size bytes at) _ (unsigned size_max at) (λ size at₁. string-of size at₁)
 
   is_present : (t : Text) (at : ℕ) → Up at (present t at)
-  is_present absent at = tt
-  is_present (text start size) at = here at
+  is_present None at = tt
+  is_present (Some s) at = here at
 
   string : Forward load_string
   unfolding load_string
@@ -168,12 +170,12 @@ module _ (bytes : List ℕ) where
   names ups at = up_bind at (load_int bytes at) _ (int at) (λ n at₁. names-from ups n at₁)
 
   -- ---- a function's head takes a byte at least
-  abbrev Past : {A : Type 0} → ℕ → Result A → Type 0
+  abbrev Past : {A : Type 0} → ℕ → Outcome A → Type 0
   Past at X = Up (at + 1) X
 
-  after : {A B : Type 0} (at : ℕ) (X : Result A) (g : A → ℕ → Result B) → Up at X → ((a : A) (at₁ : ℕ) → Past at₁ (g a at₁)) → Past at (bind X g)
-  after at (done a at₁) g h k = raise (at + 1) (at₁ + 1) (g a at₁) (omega (arith, h)) (k a at₁)
-  after at (refused e) g h k = tt
+  after : {A B : Type 0} (at : ℕ) (X : Outcome A) (g : A → ℕ → Outcome B) → Up at X → ((a : A) (at₁ : ℕ) → Past at₁ (g a at₁)) → Past at (bind X g)
+  after at (Ok (a, at₁)) g h k = raise (at + 1) (at₁ + 1) (g a at₁) (omega (arith, h)) (k a at₁)
+  after at (Err e) g h k = tt
 
   one_byte : (at : ℕ) → Past at (load_byte bytes at)
   unfolding load_byte
@@ -189,23 +191,23 @@ module _ (bytes : List ℕ) where
       after at₄ (load_byte bytes at₄) _ (byte at₄) (λ _ at₅. one_byte at₅)))))
 
   -- and its first byte is one of those there are
-  abbrev Has : {A : Type 0} → ℕ → Result A → Type 0
-  Has at (done a next) = at < length bytes
-  Has at (refused e) = Unit
+  abbrev Has : {A : Type 0} → ℕ → Outcome A → Type 0
+  Has at (Ok (a, next)) = at < length bytes
+  Has at (Err e) = Unit
 
-  has_lower : {A : Type 0} (at at₁ : ℕ) (X : Result A) → at ≤ at₁ → Has at₁ X → Has at X
-  has_lower at at₁ (done a next) h k = omega (arith, h, k)
-  has_lower at at₁ (refused e) h k = tt
+  has_lower : {A : Type 0} (at at₁ : ℕ) (X : Outcome A) → at ≤ at₁ → Has at₁ X → Has at X
+  has_lower at at₁ (Ok (a, next)) h k = omega (arith, h, k)
+  has_lower at at₁ (Err e) h k = tt
 
-  has_later : {A B : Type 0} (at : ℕ) (X : Result A) (g : A → ℕ → Result B) → Up at X → ((a : A) (at₁ : ℕ) → Has at₁ (g a at₁)) → Has at (bind X g)
-  has_later at (done a at₁) g h k = has_lower at at₁ (g a at₁) h (k a at₁)
-  has_later at (refused e) g h k = tt
+  has_later : {A B : Type 0} (at : ℕ) (X : Outcome A) (g : A → ℕ → Outcome B) → Up at X → ((a : A) (at₁ : ℕ) → Has at₁ (g a at₁)) → Has at (bind X g)
+  has_later at (Ok (a, at₁)) g h k = has_lower at at₁ (g a at₁) h (k a at₁)
+  has_later at (Err e) g h k = tt
 
   byte_has : (at : ℕ) → Has at (load_byte bytes at)
   unfolding load_byte
   byte_has at = go (ltb at (length bytes)) refl
     where
-      go : (b : Bool) → ltb at (length bytes) ≡ b → Has at (only b (done (get_or bytes at 0) (at + 1)))
+      go : (b : Bool) → ltb at (length bytes) ≡ b → Has at (only b (Ok (get_or bytes at 0, at + 1)))
       go true e = ltb-true at (length bytes) e
       go false e = tt
 
@@ -255,33 +257,33 @@ module _ (size : ℕ) where
   fewer lo hi [] b = omega arith
   fewer lo hi (f ∷ fs) b = omega (arith, b.0, b.1.0, fewer (f.first_at + 1) hi fs b.1.1.1)
 
-  abbrev Read : ℕ → Result (List Function) → Type 0
+  abbrev Read : ℕ → Outcome (List Function) → Type 0
   Read = ReadBetween size
 
-  lower_read : (lo lo₁ : ℕ) (X : Result (List Function)) → lo ≤ lo₁ → Read lo₁ X → Read lo X
-  lower_read lo lo₁ (done fs at) h k = lower lo lo₁ at fs h k
-  lower_read lo lo₁ (refused e) h k = tt
+  lower_read : (lo lo₁ : ℕ) (X : Outcome (List Function)) → lo ≤ lo₁ → Read lo₁ X → Read lo X
+  lower_read lo lo₁ (Ok (fs, at)) h k = lower lo lo₁ at fs h k
+  lower_read lo lo₁ (Err e) h k = tt
 
   -- after what goes forward
-  read_bind : {A : Type 0} (at : ℕ) (X : Result A) (g : A → ℕ → Result (List Function)) → Up at X
+  read_bind : {A : Type 0} (at : ℕ) (X : Outcome A) (g : A → ℕ → Outcome (List Function)) → Up at X
       → ((a : A) (at₁ : ℕ) → Read at₁ (g a at₁)) → Read at (bind X g)
-  read_bind at (done a at₁) g h k = lower_read at at₁ (g a at₁) h (k a at₁)
-  read_bind at (refused e) g h k = tt
+  read_bind at (Ok (a, at₁)) g h k = lower_read at at₁ (g a at₁) h (k a at₁)
+  read_bind at (Err e) g h k = tt
 
 module _ (bytes : List ℕ) where
   abbrev size : ℕ
   size = length bytes
 
   module _ (r : Reader (List Function)) (each : (at : ℕ) → Read size at (r bytes at)) where
-    both : (lo : ℕ) (fs : List Function) (at : ℕ) → StandBetween size lo fs at → (X : Result (List Function))
-        → Read size at X → Read size lo (bind X (λ more at₂. done (fs ++ more) at₂))
-    both lo fs at h (done more at₂) k = joined size lo at at₂ fs more h k
-    both lo fs at h (refused e) k = tt
+    both : (lo : ℕ) (fs : List Function) (at : ℕ) → StandBetween size lo fs at → (X : Outcome (List Function))
+        → Read size at X → Read size lo (bind X (λ more at₂. Ok (fs ++ more, at₂)))
+    both lo fs at h (Ok (more, at₂)) k = joined size lo at at₂ fs more h k
+    both lo fs at h (Err e) k = tt
 
-    several_on : (n lo : ℕ) → ((at : ℕ) → Read size at (several r n bytes at)) → (X : Result (List Function)) → Read size lo X
-        → Read size lo (bind X (λ fs at₁. bind (several r n bytes at₁) (λ more at₂. done (fs ++ more) at₂)))
-    several_on n lo later (done fs at) h = both lo fs at h (several r n bytes at) (later at)
-    several_on n lo later (refused e) h = tt
+    several_on : (n lo : ℕ) → ((at : ℕ) → Read size at (several r n bytes at)) → (X : Outcome (List Function)) → Read size lo X
+        → Read size lo (bind X (λ fs at₁. bind (several r n bytes at₁) (λ more at₂. Ok (fs ++ more, at₂))))
+    several_on n lo later (Ok (fs, at)) h = both lo fs at h (several r n bytes at) (later at)
+    several_on n lo later (Err e) h = tt
 
     pub several_rise : (n at : ℕ) → Read size at (several r n bytes at)
     unfolding several
@@ -291,41 +293,41 @@ module _ (bytes : List ℕ) where
   -- one function, which starts at at₀: those within it start later
   module _ (P : Reader (List Function)) (inside : (at : ℕ) → Read size at (P bytes at)) (at₀ : ℕ) where
     module _ (begun : at₀ < size) where
-      r7 : (at₁ : ℕ) (ws : List ℕ) (at₂ : ℕ) (ks : List Constant) (n : ℕ) (inner : List Function) (at₅ at₆ : ℕ) (X : Result (List Text))
+      r7 : (at₁ : ℕ) (ws : List ℕ) (at₂ : ℕ) (ks : List Constant) (n : ℕ) (inner : List Function) (at₅ at₆ : ℕ) (X : Outcome (List Text))
           → StandBetween size (at₀ + 1) inner at₅ → at₅ ≤ at₆ → Up at₆ X → Read size at₀ (bind X (then7 bytes P at₀ at₁ ws at₂ ks n inner at₅ at₆))
-      r7 at₁ ws at₂ ks n inner at₅ at₆ (done t at₇) b h u = (here at₀, (begun, (here at₇, higher size (at₀ + 1) at₅ at₇ inner (omega (arith, h, u)) b)))
-      r7 at₁ ws at₂ ks n inner at₅ at₆ (refused e) b h u = tt
+      r7 at₁ ws at₂ ks n inner at₅ at₆ (Ok (t, at₇)) b h u = (here at₀, (begun, (here at₇, higher size (at₀ + 1) at₅ at₇ inner (omega (arith, h, u)) b)))
+      r7 at₁ ws at₂ ks n inner at₅ at₆ (Err e) b h u = tt
 
-      r6 : (at₁ : ℕ) (ws : List ℕ) (at₂ : ℕ) (ks : List Constant) (n : ℕ) (inner : List Function) (at₅ : ℕ) (X : Result (List ℕ))
+      r6 : (at₁ : ℕ) (ws : List ℕ) (at₂ : ℕ) (ks : List Constant) (n : ℕ) (inner : List Function) (at₅ : ℕ) (X : Outcome (List ℕ))
           → StandBetween size (at₀ + 1) inner at₅ → Up at₅ X → Read size at₀ (bind X (then6 bytes P at₀ at₁ ws at₂ ks n inner at₅))
-      r6 at₁ ws at₂ ks n inner at₅ (done z at₆) b u = r7 at₁ ws at₂ ks n inner at₅ at₆ (load_names n bytes at₆) b u (names bytes n at₆)
-      r6 at₁ ws at₂ ks n inner at₅ (refused e) b u = tt
+      r6 at₁ ws at₂ ks n inner at₅ (Ok (z, at₆)) b u = r7 at₁ ws at₂ ks n inner at₅ at₆ (load_names n bytes at₆) b u (names bytes n at₆)
+      r6 at₁ ws at₂ ks n inner at₅ (Err e) b u = tt
 
-      r5 : (at₁ : ℕ) (ws : List ℕ) (at₂ : ℕ) (ks : List Constant) (n at₄ : ℕ) (X : Result (List Function))
+      r5 : (at₁ : ℕ) (ws : List ℕ) (at₂ : ℕ) (ks : List Constant) (n at₄ : ℕ) (X : Outcome (List Function))
           → at₀ + 1 ≤ at₄ → Read size at₄ X → Read size at₀ (bind X (then5 bytes P at₀ at₁ ws at₂ ks n))
-      r5 at₁ ws at₂ ks n at₄ (done inner at₅) h b =
+      r5 at₁ ws at₂ ks n at₄ (Ok (inner, at₅)) h b =
           r6 at₁ ws at₂ ks n inner at₅ (load_lines bytes at₅) (lower size (at₀ + 1) at₄ at₅ inner h b)
           (lines bytes at₅)
-      r5 at₁ ws at₂ ks n at₄ (refused e) h b = tt
+      r5 at₁ ws at₂ ks n at₄ (Err e) h b = tt
 
-      r4 : (at₁ : ℕ) (ws : List ℕ) (at₂ : ℕ) (ks : List Constant) (at₃ : ℕ) (X : Result ℕ)
+      r4 : (at₁ : ℕ) (ws : List ℕ) (at₂ : ℕ) (ks : List Constant) (at₃ : ℕ) (X : Outcome ℕ)
           → at₀ + 1 ≤ at₃ → Up at₃ X → Read size at₀ (bind X (then4 bytes P at₀ at₁ ws at₂ ks))
-      r4 at₁ ws at₂ ks at₃ (done n at₄) h u = r5 at₁ ws at₂ ks n at₄ (P bytes at₄) (omega (arith, h, u)) (inside at₄)
-      r4 at₁ ws at₂ ks at₃ (refused e) h u = tt
+      r4 at₁ ws at₂ ks at₃ (Ok (n, at₄)) h u = r5 at₁ ws at₂ ks n at₄ (P bytes at₄) (omega (arith, h, u)) (inside at₄)
+      r4 at₁ ws at₂ ks at₃ (Err e) h u = tt
 
-      r3 : (at₁ : ℕ) (ws : List ℕ) (at₂ : ℕ) (X : Result (List Constant))
+      r3 : (at₁ : ℕ) (ws : List ℕ) (at₂ : ℕ) (X : Outcome (List Constant))
           → at₀ + 1 ≤ at₂ → Up at₂ X → Read size at₀ (bind X (then3 bytes P at₀ at₁ ws at₂))
-      r3 at₁ ws at₂ (done ks at₃) h u = r4 at₁ ws at₂ ks at₃ (load_upvalues bytes at₃) (omega (arith, h, u)) (upvalues bytes at₃)
-      r3 at₁ ws at₂ (refused e) h u = tt
+      r3 at₁ ws at₂ (Ok (ks, at₃)) h u = r4 at₁ ws at₂ ks at₃ (load_upvalues bytes at₃) (omega (arith, h, u)) (upvalues bytes at₃)
+      r3 at₁ ws at₂ (Err e) h u = tt
 
-      r2 : (at₁ : ℕ) (X : Result (List ℕ)) → at₀ + 1 ≤ at₁ → Up at₁ X → Read size at₀ (bind X (then2 bytes P at₀ at₁))
-      r2 at₁ (done ws at₂) h u =
+      r2 : (at₁ : ℕ) (X : Outcome (List ℕ)) → at₀ + 1 ≤ at₁ → Up at₁ X → Read size at₀ (bind X (then2 bytes P at₀ at₁))
+      r2 at₁ (Ok (ws, at₂)) h u =
           r3 at₁ ws at₂ (load_constants bytes at₂) (omega (arith, h, u)) (items bytes most_constants load_constant (constant bytes) at₂)
-      r2 at₁ (refused e) h u = tt
+      r2 at₁ (Err e) h u = tt
 
-    r1 : (X : Result ℕ) → Has bytes at₀ X → Up (at₀ + 1) X → Read size at₀ (bind X (then1 bytes P at₀))
-    r1 (done m at₁) begun u = r2 begun at₁ (load_code bytes at₁) u (code bytes at₁)
-    r1 (refused e) begun u = tt
+    r1 : (X : Outcome ℕ) → Has bytes at₀ X → Up (at₀ + 1) X → Read size at₀ (bind X (then1 bytes P at₀))
+    r1 (Ok (m, at₁)) begun u = r2 begun at₁ (load_code bytes at₁) u (code bytes at₁)
+    r1 (Err e) begun u = tt
 
     one_rises : Read size at₀ (function_with P bytes at₀)
     unfolding function_with
@@ -346,13 +348,13 @@ module _ (bytes : List ℕ) where
   pub function_rises : (level at : ℕ) → Read size at (load_function level bytes at)
   function_rises level at = one_rises (load_protos level) (protos_rise level) at
 
-  from_start : {A : Type 0} (X : Result A) (g : ℕ → Result (List Function)) → ((at : ℕ) → Read size at (g at)) → Read size 0 (bind X (λ _ at. g at))
-  from_start (done a at) g h = lower_read size 0 at (g at) (omega arith) (h at)
-  from_start (refused e) g h = tt
+  from_start : {A : Type 0} (X : Outcome A) (g : ℕ → Outcome (List Function)) → ((at : ℕ) → Read size at (g at)) → Read size 0 (bind X (λ _ at. g at))
+  from_start (Ok (a, at)) g h = lower_read size 0 at (g at) (omega arith) (h at)
+  from_start (Err e) g h = tt
 
-  then_read : {A : Type 0} (X : Result A) (g : ℕ → Result (List Function)) → ((at : ℕ) → Read size 0 (g at)) → Read size 0 (bind X (λ _ at. g at))
-  then_read (done a at) g h = h at
-  then_read (refused e) g h = tt
+  then_read : {A : Type 0} (X : Outcome A) (g : ℕ → Outcome (List Function)) → ((at : ℕ) → Read size 0 (g at)) → Read size 0 (bind X (λ _ at. g at))
+  then_read (Ok (a, at)) g h = h at
+  then_read (Err e) g h = tt
 
   undump_rises : Read size 0 (undump bytes 0)
   unfolding undump
@@ -360,9 +362,9 @@ module _ (bytes : List ℕ) where
       then_read (check_header bytes 0) (λ at. bind (load_byte bytes at) (λ _ at₁. load_function levels_below bytes at₁))
       (λ at. from_start (load_byte bytes at) (λ at₁. load_function levels_below bytes at₁) (function_rises levels_below))
 
-  pub by_first_byte : (fs : List Function) (at : ℕ) → undump bytes 0 ≡ done fs at
+  pub by_first_byte : (fs : List Function) (at : ℕ) → undump bytes 0 ≡ Ok (fs, at)
       → (j k : ℕ) (d : Function) → j < k → k < length fs → (get_or fs j d).first_at < (get_or fs k d).first_at
   by_first_byte fs at e = rises size 0 at fs (rw e at undump_rises)
 
-  pub few : (fs : List Function) (at : ℕ) → undump bytes 0 ≡ done fs at → length fs ≤ length bytes
+  pub few : (fs : List Function) (at : ℕ) → undump bytes 0 ≡ Ok (fs, at) → length fs ≤ length bytes
   few fs at e = omega (arith, fewer size 0 at fs (rw e at undump_rises))

@@ -8,8 +8,10 @@ use native.Mathlib.Omega.{arith}
 use lib.Dec.{leb}
 use lib.ListN.{length}
 use Rattle.common.specs.Limits.{most_constants, most_names, levels_below}
-use Rattle.loaders.specs.Reading.{Result, done, refused, Reader, bind, only}
-use Rattle.loaders.specs.Loaders.{load_byte, Constant, Text, load_int}
+use Rattle.std.proofs.Common.{Ok, Err}
+use Rattle.loaders.specs.Reading.{Outcome, Reader, bind, only}
+use Rattle.loaders.specs.declared.constants.Constant.{Constant}
+use Rattle.loaders.specs.Loaders.{load_byte, Text, load_int}
 use Rattle.lundump.specs.Lundump.{Function, load_head, load_code}
 use Rattle.loaders.specs.Loaders.{load_constant}
 use Rattle.lundump.specs.Lundump.{load_constants, load_upvalues, load_lines, load_names}
@@ -30,15 +32,15 @@ module _ (bytes : List ℕ) where
     abbrev P : Reader (List Function)
     P = load_protos level
 
-    abbrev Reads : ℕ → Result (List Function) → Type 0
+    abbrev Reads : ℕ → Outcome (List Function) → Type 0
     Reads at₀ X = load_function level bytes at₀ ≡ X
 
-    module _ (at₀ at₁ m : ℕ) (hd : load_head bytes at₀ ≡ done m at₁) where
-      s7 : (code : List ℕ) (at₂ : ℕ) (ks : List Constant) (at₃ n : ℕ) (inner : List Function) (at₅ : ℕ) (ls : List ℕ) (at₆ : ℕ) (X : Result (List Text))
-          → load_code bytes at₁ ≡ done code at₂ → load_constants bytes at₂ ≡ done ks at₃ → n ≤ most_names → AllStand bytes inner
-          → load_lines bytes at₅ ≡ done ls at₆ → load_names n bytes at₆ ≡ X
+    module _ (at₀ at₁ m : ℕ) (hd : load_head bytes at₀ ≡ Ok (m, at₁)) where
+      s7 : (code : List ℕ) (at₂ : ℕ) (ks : List Constant) (at₃ n : ℕ) (inner : List Function) (at₅ : ℕ) (ls : List ℕ) (at₆ : ℕ) (X : Outcome (List Text))
+          → load_code bytes at₁ ≡ Ok (code, at₂) → load_constants bytes at₂ ≡ Ok (ks, at₃) → n ≤ most_names → AllStand bytes inner
+          → load_lines bytes at₅ ≡ Ok (ls, at₆) → load_names n bytes at₆ ≡ X
           → Reads at₀ (bind X (then7 bytes P at₀ at₁ code at₂ ks n inner at₅ at₆)) → AllRead bytes (bind X (then7 bytes P at₀ at₁ code at₂ ks n inner at₅ at₆))
-      s7 code at₂ ks at₃ n inner at₅ ls at₆ (done names at₇) c k u i d q r =
+      s7 code at₂ ks at₃ n inner at₅ ls at₆ (Ok (names, at₇)) c k u i d q r =
           let e = names_length bytes n at₆ names at₇ q in (
             record {
               level = level;
@@ -62,53 +64,53 @@ module _ (bytes : List ℕ) where
             },
             i,
           )
-      s7 code at₂ ks at₃ n inner at₅ ls at₆ (refused e) c k u i d q r = tt
+      s7 code at₂ ks at₃ n inner at₅ ls at₆ (Err e) c k u i d q r = tt
 
-      s6 : (code : List ℕ) (at₂ : ℕ) (ks : List Constant) (at₃ n : ℕ) (inner : List Function) (at₅ : ℕ) (X : Result (List ℕ))
-          → load_code bytes at₁ ≡ done code at₂ → load_constants bytes at₂ ≡ done ks at₃ → n ≤ most_names → AllStand bytes inner → load_lines bytes at₅ ≡ X
+      s6 : (code : List ℕ) (at₂ : ℕ) (ks : List Constant) (at₃ n : ℕ) (inner : List Function) (at₅ : ℕ) (X : Outcome (List ℕ))
+          → load_code bytes at₁ ≡ Ok (code, at₂) → load_constants bytes at₂ ≡ Ok (ks, at₃) → n ≤ most_names → AllStand bytes inner → load_lines bytes at₅ ≡ X
           → Reads at₀ (bind X (then6 bytes P at₀ at₁ code at₂ ks n inner at₅)) → AllRead bytes (bind X (then6 bytes P at₀ at₁ code at₂ ks n inner at₅))
-      s6 code at₂ ks at₃ n inner at₅ (done z at₆) c k u i d r = s7 code at₂ ks at₃ n inner at₅ z at₆ (load_names n bytes at₆) c k u i d refl r
-      s6 code at₂ ks at₃ n inner at₅ (refused e) c k u i d r = tt
+      s6 code at₂ ks at₃ n inner at₅ (Ok (z, at₆)) c k u i d r = s7 code at₂ ks at₃ n inner at₅ z at₆ (load_names n bytes at₆) c k u i d refl r
+      s6 code at₂ ks at₃ n inner at₅ (Err e) c k u i d r = tt
 
-      s5 : (code : List ℕ) (at₂ : ℕ) (ks : List Constant) (at₃ n : ℕ) (X : Result (List Function))
-          → load_code bytes at₁ ≡ done code at₂ → load_constants bytes at₂ ≡ done ks at₃ → n ≤ most_names → AllRead bytes X
+      s5 : (code : List ℕ) (at₂ : ℕ) (ks : List Constant) (at₃ n : ℕ) (X : Outcome (List Function))
+          → load_code bytes at₁ ≡ Ok (code, at₂) → load_constants bytes at₂ ≡ Ok (ks, at₃) → n ≤ most_names → AllRead bytes X
           → Reads at₀ (bind X (then5 bytes P at₀ at₁ code at₂ ks n)) → AllRead bytes (bind X (then5 bytes P at₀ at₁ code at₂ ks n))
-      s5 code at₂ ks at₃ n (done inner at₅) c k u i r = s6 code at₂ ks at₃ n inner at₅ (load_lines bytes at₅) c k u i refl r
-      s5 code at₂ ks at₃ n (refused e) c k u i r = tt
+      s5 code at₂ ks at₃ n (Ok (inner, at₅)) c k u i r = s6 code at₂ ks at₃ n inner at₅ (load_lines bytes at₅) c k u i refl r
+      s5 code at₂ ks at₃ n (Err e) c k u i r = tt
 
-      s4 : (code : List ℕ) (at₂ : ℕ) (ks : List Constant) (at₃ : ℕ) (X : Result ℕ)
-          → load_code bytes at₁ ≡ done code at₂ → load_constants bytes at₂ ≡ done ks at₃ → load_upvalues bytes at₃ ≡ X
+      s4 : (code : List ℕ) (at₂ : ℕ) (ks : List Constant) (at₃ : ℕ) (X : Outcome ℕ)
+          → load_code bytes at₁ ≡ Ok (code, at₂) → load_constants bytes at₂ ≡ Ok (ks, at₃) → load_upvalues bytes at₃ ≡ X
           → Reads at₀ (bind X (then4 bytes P at₀ at₁ code at₂ ks)) → AllRead bytes (bind X (then4 bytes P at₀ at₁ code at₂ ks))
-      s4 code at₂ ks at₃ (done n at₄) c k u r = s5 code at₂ ks at₃ n (P bytes at₄) c k (few_upvalues bytes at₃ n at₄ u) (within at₄) r
-      s4 code at₂ ks at₃ (refused e) c k u r = tt
+      s4 code at₂ ks at₃ (Ok (n, at₄)) c k u r = s5 code at₂ ks at₃ n (P bytes at₄) c k (few_upvalues bytes at₃ n at₄ u) (within at₄) r
+      s4 code at₂ ks at₃ (Err e) c k u r = tt
 
-      s3 : (code : List ℕ) (at₂ : ℕ) (X : Result (List Constant)) → load_code bytes at₁ ≡ done code at₂ → load_constants bytes at₂ ≡ X
+      s3 : (code : List ℕ) (at₂ : ℕ) (X : Outcome (List Constant)) → load_code bytes at₁ ≡ Ok (code, at₂) → load_constants bytes at₂ ≡ X
           → Reads at₀ (bind X (then3 bytes P at₀ at₁ code at₂)) → AllRead bytes (bind X (then3 bytes P at₀ at₁ code at₂))
-      s3 code at₂ (done ks at₃) c k r = s4 code at₂ ks at₃ (load_upvalues bytes at₃) c k refl r
-      s3 code at₂ (refused e) c k r = tt
+      s3 code at₂ (Ok (ks, at₃)) c k r = s4 code at₂ ks at₃ (load_upvalues bytes at₃) c k refl r
+      s3 code at₂ (Err e) c k r = tt
 
-      s2 : (X : Result (List ℕ)) → load_code bytes at₁ ≡ X
+      s2 : (X : Outcome (List ℕ)) → load_code bytes at₁ ≡ X
           → Reads at₀ (bind X (then2 bytes P at₀ at₁)) → AllRead bytes (bind X (then2 bytes P at₀ at₁))
-      s2 (done code at₂) c r = s3 code at₂ (load_constants bytes at₂) c refl r
-      s2 (refused e) c r = tt
+      s2 (Ok (code, at₂)) c r = s3 code at₂ (load_constants bytes at₂) c refl r
+      s2 (Err e) c r = tt
 
-    s1 : (at₀ : ℕ) (X : Result ℕ) → load_head bytes at₀ ≡ X → Reads at₀ (bind X (then1 bytes P at₀)) → AllRead bytes (bind X (then1 bytes P at₀))
-    s1 at₀ (done a at₁) h r = s2 at₀ at₁ a h (load_code bytes at₁) refl r
-    s1 at₀ (refused e) h r = tt
+    s1 : (at₀ : ℕ) (X : Outcome ℕ) → load_head bytes at₀ ≡ X → Reads at₀ (bind X (then1 bytes P at₀)) → AllRead bytes (bind X (then1 bytes P at₀))
+    s1 at₀ (Ok (a, at₁)) h r = s2 at₀ at₁ a h (load_code bytes at₁) refl r
+    s1 at₀ (Err e) h r = tt
 
     one_stands : (at : ℕ) → AllRead bytes (load_function level bytes at)
     unfolding function_with
     one_stands at = s1 at (load_head bytes at) refl refl
 
   module _ (r : Reader (List Function)) (each : (at : ℕ) → AllRead bytes (r bytes at)) where
-    joins : (fs : List Function) (X : Result (List Function)) → AllStand bytes fs → AllRead bytes X → AllRead bytes (bind X (λ more at. done (fs ++ more) at))
-    joins fs (done more at) h k = both fs more h k
-    joins fs (refused e) h k = tt
+    joins : (fs : List Function) (X : Outcome (List Function)) → AllStand bytes fs → AllRead bytes X → AllRead bytes (bind X (λ more at. Ok (fs ++ more, at)))
+    joins fs (Ok (more, at)) h k = both fs more h k
+    joins fs (Err e) h k = tt
 
-    goes-on : (n : ℕ) → ((at : ℕ) → AllRead bytes (several r n bytes at)) → (X : Result (List Function)) → AllRead bytes X
-        → AllRead bytes (bind X (λ fs at₁. bind (several r n bytes at₁) (λ more at₂. done (fs ++ more) at₂)))
-    goes-on n later (done fs at) h = joins fs (several r n bytes at) h (later at)
-    goes-on n later (refused e) h = tt
+    goes-on : (n : ℕ) → ((at : ℕ) → AllRead bytes (several r n bytes at)) → (X : Outcome (List Function)) → AllRead bytes X
+        → AllRead bytes (bind X (λ fs at₁. bind (several r n bytes at₁) (λ more at₂. Ok (fs ++ more, at₂))))
+    goes-on n later (Ok (fs, at)) h = joins fs (several r n bytes at) h (later at)
+    goes-on n later (Err e) h = tt
 
     several_stand : (n at : ℕ) → AllRead bytes (several r n bytes at)
     unfolding several
@@ -120,9 +122,9 @@ module _ (bytes : List ℕ) where
   none_stand zero at = tt
   none_stand (suc n) at = tt
 
-  on : (X : Result ℕ) (k : ℕ → ℕ → Result (List Function)) → ((n at : ℕ) → AllRead bytes (k n at)) → AllRead bytes (bind X k)
-  on (done n at) k h = h n at
-  on (refused e) k h = tt
+  on : (X : Outcome ℕ) (k : ℕ → ℕ → Outcome (List Function)) → ((n at : ℕ) → AllRead bytes (k n at)) → AllRead bytes (bind X k)
+  on (Ok (n, at)) k h = h n at
+  on (Err e) k h = tt
 
   within_stand : (level : ℕ) → level ≤ levels_below → (at : ℕ) → AllRead bytes (load_protos level bytes at)
   unfolding load_protos
@@ -134,9 +136,9 @@ module _ (bytes : List ℕ) where
   pub all_stand : (level : ℕ) → level ≤ levels_below → (at : ℕ) → AllRead bytes (load_function level bytes at)
   all_stand level low = one_stands level low (within_stand level low)
 
-  pub on_unit : {A : Type 0} (X : Result A) (k : ℕ → Result (List Function)) → ((at : ℕ) → AllRead bytes (k at)) → AllRead bytes (bind X (λ _ at. k at))
-  on_unit (done n at) k h = h at
-  on_unit (refused e) k h = tt
+  pub on_unit : {A : Type 0} (X : Outcome A) (k : ℕ → Outcome (List Function)) → ((at : ℕ) → AllRead bytes (k at)) → AllRead bytes (bind X (λ _ at. k at))
+  on_unit (Ok (n, at)) k h = h at
+  on_unit (Err e) k h = tt
 
   chunk_stands : AllRead bytes (undump bytes 0)
   unfolding undump
@@ -150,9 +152,9 @@ module _ (bytes : List ℕ) where
   pick_stands zero (f ∷ fs) at h = h.0
   pick_stands (suc k) (f ∷ fs) at h = pick_stands k fs at h.1
 
-  after : (k : ℕ) (X : Result (List Function)) → AllRead bytes X → OneRead bytes (bind X (pick k))
-  after k (done fs at) h = pick_stands k fs at h
-  after k (refused e) h = tt
+  after : (k : ℕ) (X : Outcome (List Function)) → AllRead bytes X → OneRead bytes (bind X (pick k))
+  after k (Ok (fs, at)) h = pick_stands k fs at h
+  after k (Err e) h = tt
 
   -- the function that is chosen stands where its positions say
   pub chosen_stands : (k : ℕ) → OneRead bytes (chosen k bytes)

@@ -3,10 +3,11 @@
 -- string bytes are the chunk's.
 -- Assumes nothing.
 use Rattle.std.specs.Prelude.{◌≡◌, ◌⊎◌, false, List, ℕ, ◌+◌, ◌≤◌, ◌<◌, length, get_or}
-use Rattle.values.specs.declared.model.Name.TheVariants.{Unnamed, Named}
+use Rattle.std.specs.Prelude.{Some, None}
 use Rattle.values.specs.Values.{span_of, name_of}
 use Rattle.values.specs.Spans.{past, first_name_past}
-use Rattle.loaders.specs.Loaders.{absent, text, Constant, plain, string}
+use Rattle.loaders.specs.declared.constants.Constant.{Constant}
+use Rattle.loaders.specs.Loaders.{absent, text, plain, string}
 use Rattle.lundump.specs.Lundump.{Function}
 use Rattle.lundump.specs.Chunk.{payloads_of, names_of}
 
@@ -38,9 +39,9 @@ pub record Places (bytes : List ℕ) (f : Function) : Type 0 where
       → start + size ≤ length bytes
   pub name_place :
       (i start size : ℕ) → i < length f.names → get_or f.names i absent ≡ text start size
-      → name_of (names_of f) i ≡ Named (record { start = start; len = size })
+      → name_of (names_of f) i ≡ Some (record { start = start; len = size })
   -- "2^64 - 1 meaning unnamed": where there is none, and nowhere else
   pub name_absent : (i : ℕ)
-      → i < length f.names → get_or f.names i absent ≡ absent → name_of (names_of f) i ≡ Unnamed
+      → i < length f.names → get_or f.names i absent ≡ absent → name_of (names_of f) i ≡ None
   -- number 5 finds no name past the bytes
   pub none_past : first_name_past (names_of f) (length bytes) ≡ length (names_of f)

@@ -6,34 +6,22 @@ mod print;
 mod questions;
 
 use std::io::Stdout;
+use vectors::part;
 
 fn ask(out: Stdout, line: &[u8]) {
-    let question = vectors::which(line, b"count|fill|name");
-    if question > 2 {
-        return;
-    }
-    print::text(out, vectors::part(line, 1));
-    match question {
-        0 => {
-            questions::count(out, line);
-        }
-        1 => {
-            questions::fill(out, line);
-        }
+    let question: fn(Stdout, &[u8]) = match part(line, 0) {
+        b"count" => questions::count,
+        b"fill" => questions::fill,
+        b"name" => questions::name,
         _ => {
-            questions::name(out, line);
+            return;
         }
-    }
-}
-
-fn ask_all(out: Stdout, text: &[u8]) {
-    for i in 0..text.len() {
-        ask(out, vectors::line_at(text, i));
-    }
+    };
+    print::text(out, part(line, 1));
+    question(out, line);
 }
 
 fn main(rt: HostRuntime) {
-    let mut page = io::large_buffer();
-    let n = vectors::read(rt.stdin(), &mut page);
-    ask_all(rt.stdout(), pages::first(&page, n));
+    let out = rt.stdout();
+    vectors::ask_each(rt.stdin(), |line| ask(out, line));
 }

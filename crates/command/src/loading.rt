@@ -1,19 +1,35 @@
 // The files that the arguments name, to their end.
-use crate::asking::{Asked, argument};
-use crate::reading::{Reading, read_file};
-use pages::first;
+use crate::asking::argument;
+use crate::reading::{Unread, read_file};
 use std::env::Env;
 use std::fs::{File, Files};
-use std::io::{Error, ErrorKind, Read};
+use std::io::{Error, ErrorKind};
+use weight_file::BadLine;
 
-// What came of a weights file.
+// Why a weights file is not read.
 #[derive(Clone, Copy)]
-pub enum Weighed {
-    // Its weights are read, or none is asked for.
-    Read,
-    // A line that can't be read, from 1; 0 for a file that is too long.
-    BadLine(usize),
-    Failed(Error),
+pub enum NoWeights {
+    BadLine(BadLine),
+    // It is longer than 64 KiB, or can't be read.
+    Unread(Unread),
+}
+
+impl From<Error> for NoWeights {
+    fn from(error: Error) -> NoWeights {
+        NoWeights::Unread(Unread::Failed(error))
+    }
+}
+
+impl From<Unread> for NoWeights {
+    fn from(unread: Unread) -> NoWeights {
+        NoWeights::Unread(unread)
+    }
+}
+
+impl From<BadLine> for NoWeights {
+    fn from(line: BadLine) -> NoWeights {
+        NoWeights::BadLine(line)
+    }
 }
 
 // The file that argument i names. Its name has to be UTF-8, as the paths of std are.
@@ -26,36 +42,17 @@ fn open<R: Env + Files>(rt: &R, i: usize) -> Result<R::File, Error> {
     }
 }
 
-fn weights_in<R: Read>(file: &mut R, weights: &mut [u8]) -> Weighed {
+// The weights in the file that argument i names.
+pub fn load_weights<R: Env + Files>(rt: &R, i: usize, weights: &mut [u8]) -> Result<(), NoWeights> {
+    let mut file = open(rt, i)?;
     let mut text = io::large_buffer();
-    match read_file(file, &mut text) {
-        Reading::Whole(n) => {
-            let line = weight_file::read_weights(first(&text, n), weights);
-            if line != 0 {
-                return Weighed::BadLine(line);
-            }
-            Weighed::Read
-        }
-        Reading::Longer => Weighed::BadLine(0),
-        Reading::Failed(e) => Weighed::Failed(e),
-    }
+    let n = read_file(&mut file, &mut text)?;
+    weight_file::read_weights(&text[..n.min(text.len())], weights)?;
+    Ok(())
 }
 
-// The weights in the file that argument i names; none where i is 0.
-pub fn load_weights<R: Env + Files>(rt: &R, i: usize, weights: &mut [u8]) -> Weighed {
-    if i == 0 {
-        return Weighed::Read;
-    }
-    match open(rt, i) {
-        Ok(mut file) => weights_in(&mut file, weights),
-        Err(e) => Weighed::Failed(e),
-    }
-}
-
-// The script's bytes.
-pub fn load_script<R: Env + Files>(rt: &R, a: Asked, bytes: &mut [u8]) -> Reading {
-    match open(rt, a.file) {
-        Ok(mut file) => read_file(&mut file, bytes),
-        Err(e) => Reading::Failed(e),
-    }
+// The bytes of the script that argument i names: how many there are.
+pub fn load_script<R: Env + Files>(rt: &R, i: usize, bytes: &mut [u8]) -> Result<usize, Unread> {
+    let mut file = open(rt, i)?;
+    read_file(&mut file, bytes)
 }

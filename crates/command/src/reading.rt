@@ -1,49 +1,40 @@
 // A file to its end.
 use std::io::{Error, Read};
-use std::num::wrapping_add_usize;
 
+// Why a file is not read.
 #[derive(Clone, Copy)]
-pub enum Reading {
-    Whole(usize),
+pub enum Unread {
+    // It is longer than the buffer.
     Longer,
     Failed(Error),
 }
 
-// One read into the buffer from a position on; nothing where it is full.
-fn read_some<R: Read>(file: &mut R, buffer: &mut [u8], at: usize) -> Result<usize, Error> {
-    if buffer.len() <= at {
-        return Ok(0);
+impl From<Error> for Unread {
+    fn from(error: Error) -> Unread {
+        Unread::Failed(error)
     }
-    file.read(&mut buffer[at..])
 }
 
 // Whether there is more to read than the buffer took.
 fn has_more<R: Read>(file: &mut R) -> bool {
     let mut more = [0u8; 1];
-    match file.read(&mut more) {
-        Ok(n) => 0 < n,
-        Err(_) => false,
-    }
+    matches!(file.read(&mut more), Ok(1..))
 }
 
-fn ended<R: Read>(file: &mut R, buffer: &[u8], at: usize) -> Reading {
-    if buffer.len() <= at {
-        if has_more(file) {
-            return Reading::Longer;
-        }
-    }
-    Reading::Whole(at)
-}
-
-// Fills the buffer. Each turn but the last reads a byte at least.
-pub fn read_file<R: Read>(file: &mut R, buffer: &mut [u8]) -> Reading {
+// Reads a file into the buffer: how many bytes it has.
+pub fn read_file<R: Read>(file: &mut R, buffer: &mut [u8]) -> Result<usize, Unread> {
+    // Kept: (d) a read says itself how far it came, so that no range has the steps; and `input`'s loop, which
+    // is of standard input, counts an error as its end, while here the error is told.
     let mut at = 0;
-    for turn in 0..buffer.len() {
-        match read_some(file, buffer, at) {
-            Err(e) => return Reading::Failed(e),
-            Ok(0) => return ended(file, buffer, at),
-            Ok(n) => at = wrapping_add_usize(at, n),
+    while at < buffer.len() {
+        let n = file.read(&mut buffer[at..])?;
+        if n == 0 {
+            return Ok(at);
         }
+        at += n;
     }
-    ended(file, buffer, at)
+    if has_more(file) {
+        return Err(Unread::Longer);
+    }
+    Ok(at)
 }

@@ -1,9 +1,9 @@
-pub mod Order
-pub mod Tests
 pub mod Lowest
+pub mod Order
 pub mod Over
+pub mod Position
 pub mod Put
-pub mod Clearing
-pub mod Stores
-pub mod Writing
 pub mod Refusing
+pub mod Stores
+pub mod Tests
+pub mod Writing

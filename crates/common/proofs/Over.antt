@@ -47,6 +47,10 @@ zeros : (i k : ℕ) → replicate k 0 ≡ tabulate (λ p. 0) i k
 zeros i zero = refl
 zeros i (suc k) = ap (λ (l : List ℕ). 0 ∷ l) (zeros (suc i) k)
 
+-- a slice whose first n elements are filled with 0, as `fill` of them leaves it
+pub over_zeros : (n : ℕ) (l : List ℕ) → replicate n 0 ++ drop n l ≡ over (λ p. 0) n l
+over_zeros n l = ap (λ (x : List ℕ). x ++ drop n l) (zeros 0 n)
+
 pub over_laws : OverLaws
 over_laws =
     record {

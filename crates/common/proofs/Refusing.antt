@@ -1,6 +1,6 @@
--- The checks 1, 6 and 7 as one number: which it is, and what it is 0 of.
+-- The checks 1, 6 and 7.
 -- Assumes nothing.
-use mathlib.Core.Path.{◌≡◌, refl}
+use mathlib.Core.Path.{◌≡◌, refl, subst}
 use mathlib.Core.Logic.{⊎_elim}
 use mathlib.Core.Bool.{Bool, true, false, ◌||◌}
 use Prim.Native.Nat.{ℕ, ◌≤◌, ◌<◌, min}
@@ -8,9 +8,11 @@ use native.Mathlib.Nat.{pos_of_ne-zero}
 use native.Mathlib.Omega.{arith}
 use lib.Dec.{ltb, eqb}
 use borrow.Author.Tests.{lt-ltb, le-ltb, ltb-true, ltb-false, eqb-true, eqb-false}
+use Rattle.std.specs.Prelude.{Result, Ok, Err, ⊤}
+use Rattle.common.specs.declared.refusal.Refusal.{Refusal}
+use Rattle.common.specs.declared.refusal.Refusal.TheVariants.{TooManyWords, ShortSlice, NoWords}
 use Rattle.common.specs.Limits.{most_words}
-use Rattle.common.specs.Numbers.{«ACCEPTED», TOO_MANY_WORDS, SHORT_SLICE, NO_WORDS}
-use Rattle.common.specs.Chain.{refuse_if, room_number, sizes_number}
+use Rattle.common.specs.Chain.{refuse_if, room_answer, sizes_answer}
 use Rattle.common.proofs.Order.{split}
 
 -- the shorter of two slices is too short where one of them is
@@ -21,45 +23,51 @@ either_short a b n =
     (λ h. rw (lt-ltb a n h, lt-ltb (min a b) n (omega arith)))
     (split n a)
 
+-- Which refusal it is, and what holds where none refuses.
+abbrev passed : Result ⊤ Refusal
+passed = Ok tt
+
 module _ (n room : ℕ) where
-  -- what holds of each answer where it is given holds of the number
-  module _ (P : ℕ → Type 0) (many : most_words < n → P TOO_MANY_WORDS) (short : n ≤ most_words → room < n → P SHORT_SLICE) where
-    room_all : (n ≤ most_words → n ≤ room → P «ACCEPTED») → P (room_number n room)
-    unfolding room_number
-    room_all passed = go (ltb most_words n) (ltb room n) refl refl
+  module _ (P : Refusal → Type 0) (many : most_words < n → P TooManyWords) (short : n ≤ most_words → room < n → P ShortSlice) where
+    pub room_err : {e : Refusal} → room_answer n room ≡ Err e → P e
+    unfolding room_answer
+    room_err {e} = go (ltb most_words n) (ltb room n) refl refl
       where
-        go : (a b : Bool) → ltb most_words n ≡ a → ltb room n ≡ b → P (refuse_if a TOO_MANY_WORDS (refuse_if b SHORT_SLICE «ACCEPTED»))
-        go true b d e = many (ltb-true most_words n d)
-        go false true d e = short (ltb-false most_words n d) (ltb-true room n e)
-        go false false d e = passed (ltb-false most_words n d) (ltb-false room n e)
+        go : (a b : Bool) → ltb most_words n ≡ a → ltb room n ≡ b → refuse_if a (Err TooManyWords) (refuse_if b (Err ShortSlice) passed) ≡ Err e → P e
+        go true b d f h = let k : TooManyWords ≡ e = cc in subst P k (many (ltb-true most_words n d))
+        go false true d f h = let k : ShortSlice ≡ e = cc in subst P k (short (ltb-false most_words n d) (ltb-true room n f))
+        go false false d f h = absurd cc
 
-    module _ (none : n ≤ most_words → n ≤ room → n ≡ 0 → P NO_WORDS) where
-      sizes_all : (n ≤ most_words → n ≤ room → 0 < n → P «ACCEPTED») → P (sizes_number n room)
-      unfolding sizes_number
-      sizes_all passed = go (ltb most_words n) (ltb room n) (eqb n 0) refl refl refl
-        where
-          go :
-              (a b c : Bool) → ltb most_words n ≡ a → ltb room n ≡ b → eqb n 0 ≡ c
-              → P (refuse_if a TOO_MANY_WORDS (refuse_if b SHORT_SLICE (refuse_if c NO_WORDS «ACCEPTED»)))
-          go true b c d e f = many (ltb-true most_words n d)
-          go false true c d e f = short (ltb-false most_words n d) (ltb-true room n e)
-          go false false true d e f = none (ltb-false most_words n d) (ltb-false room n e) (eqb-true n 0 f)
-          go false false false d e f = passed (ltb-false most_words n d) (ltb-false room n e) (pos_of_ne-zero (eqb-false n 0 f))
+    pub sizes_err : (n ≤ most_words → n ≤ room → n ≡ 0 → P NoWords) → {e : Refusal} → sizes_answer n room ≡ Err e → P e
+    unfolding sizes_answer
+    sizes_err none {e} = go (ltb most_words n) (ltb room n) (eqb n 0) refl refl refl
+      where
+        go :
+            (a b c : Bool) → ltb most_words n ≡ a → ltb room n ≡ b → eqb n 0 ≡ c
+            → refuse_if a (Err TooManyWords) (refuse_if b (Err ShortSlice) (refuse_if c (Err NoWords) passed)) ≡ Err e → P e
+        go true b c d f g h = let k : TooManyWords ≡ e = cc in subst P k (many (ltb-true most_words n d))
+        go false true c d f g h = let k : ShortSlice ≡ e = cc in subst P k (short (ltb-false most_words n d) (ltb-true room n f))
+        go false false true d f g h = let k : NoWords ≡ e = cc in subst P k (none (ltb-false most_words n d) (ltb-false room n f) (eqb-true n 0 g))
+        go false false false d f g h = absurd cc
 
-  -- and of a refusal what holds of each of them
-  module _ (P : ℕ → Type 0) (many : most_words < n → P TOO_MANY_WORDS) (short : n ≤ most_words → room < n → P SHORT_SLICE) where
-    pub room_each : (room_number n room ≡ «ACCEPTED» → ⊥) → P (room_number n room)
-    room_each = room_all (λ (k : ℕ). (k ≡ «ACCEPTED» → ⊥) → P k) (λ h x. many h) (λ f h x. short f h) (λ f h x. absurd (x refl))
+  pub room_ok : {t : ⊤} → room_answer n room ≡ Ok t → (n ≤ most_words) × (n ≤ room)
+  unfolding room_answer
+  room_ok {t} = go (ltb most_words n) (ltb room n) refl refl
+    where
+      go : (a b : Bool) → ltb most_words n ≡ a → ltb room n ≡ b → refuse_if a (Err TooManyWords) (refuse_if b (Err ShortSlice) passed) ≡ Ok t → (n ≤ most_words) × (n ≤ room)
+      go true b d f h = absurd cc
+      go false true d f h = absurd cc
+      go false false d f h = (ltb-false most_words n d, ltb-false room n f)
 
-    pub sizes_each : (n ≤ most_words → n ≤ room → n ≡ 0 → P NO_WORDS) → (sizes_number n room ≡ «ACCEPTED» → ⊥) → P (sizes_number n room)
-    sizes_each none =
-        sizes_all (λ (k : ℕ). (k ≡ «ACCEPTED» → ⊥) → P k) (λ h x. many h) (λ f h x. short f h) (λ f h z x. none f h z) (λ f h s x. absurd (x refl))
-
-  -- where none refuses, there are not too many words, room for each, and some
-  pub room_pass : room_number n room ≡ «ACCEPTED» → (n ≤ most_words) × (n ≤ room)
-  room_pass = room_all (λ (k : ℕ). k ≡ «ACCEPTED» → (n ≤ most_words) × (n ≤ room)) (λ h e. absurd (omega (arith, e))) (λ f h e. absurd (omega (arith, e))) (λ f h e. (f, h))
-
-  pub sizes_pass : sizes_number n room ≡ «ACCEPTED» → (n ≤ most_words) × (n ≤ room) × (0 < n)
-  sizes_pass =
-      sizes_all (λ (k : ℕ). k ≡ «ACCEPTED» → (n ≤ most_words) × (n ≤ room) × (0 < n)) (λ h e. absurd (omega (arith, e)))
-      (λ f h e. absurd (omega (arith, e))) (λ f h z e. absurd (omega (arith, e))) (λ f h s e. (f, h, s))
+  pub sizes_ok : {t : ⊤} → sizes_answer n room ≡ Ok t → (n ≤ most_words) × (n ≤ room) × (0 < n)
+  unfolding sizes_answer
+  sizes_ok {t} = go (ltb most_words n) (ltb room n) (eqb n 0) refl refl refl
+    where
+      go :
+          (a b c : Bool) → ltb most_words n ≡ a → ltb room n ≡ b → eqb n 0 ≡ c
+          → refuse_if a (Err TooManyWords) (refuse_if b (Err ShortSlice) (refuse_if c (Err NoWords) passed)) ≡ Ok t
+          → (n ≤ most_words) × (n ≤ room) × (0 < n)
+      go true b c d f g h = absurd cc
+      go false true c d f g h = absurd cc
+      go false false true d f g h = absurd cc
+      go false false false d f g h = (ltb-false most_words n d, ltb-false room n f, pos_of_ne-zero (eqb-false n 0 g))

@@ -1,6 +1,7 @@
 -- "place: the lowest", "place: lowest index": where a test holds first.
 -- Assumes nothing.
-use Rattle.std.specs.Prelude.{◌≡◌, Bool, true, false, cond, ℕ, zero, suc, ◌+◌, ◌-◌, ◌≤◌, ◌<◌}
+use Rattle.std.specs.Prelude.{◌≡◌, Bool, true, false, cond, Option, Some, None, ℕ, zero, suc, ◌+◌, ◌-◌, ◌≤◌}
+use Rattle.std.specs.Prelude.{◌<◌, ltb}
 
 -- the lowest number from i on at which the test holds, of k numbers; the number after them if there is none
 unfoldable pub lowest_from : (ℕ → Bool) → ℕ → ℕ → ℕ
@@ -10,6 +11,10 @@ lowest_from t i (suc k) = cond (t i) i (lowest_from t (i + 1) k)
 -- of the numbers below n; n if there is none
 abbrev pub lowest : (ℕ → Bool) → ℕ → ℕ
 lowest t n = lowest_from t 0 n
+
+-- what a search of the numbers below n finds, where it comes to q
+abbrev pub found : ℕ → ℕ → Option ℕ
+found n q = cond (ltb q n) (Some q) None
 
 -- a is where the test holds first, of the k numbers from i on, or the number after them
 pub record First (t : ℕ → Bool) (i k a : ℕ) : Type 0 where

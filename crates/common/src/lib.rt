@@ -1,14 +1,13 @@
-// Beneath the layers, over nothing: what they share. Limits, refusals by name, the answer of number and
-// place, for C too, and the larger and smaller of two.
+// Beneath the layers, over nothing: what they share. Limits, refusals, what refuses words by sizes alone, the
+// answer of number and place for C.
 #![tactic(auto)]
 
-pub mod answer;
 pub mod c;
 pub mod inner;
 pub mod limits;
 pub mod numbers;
+pub mod refusal;
 pub mod sizes;
 mod text;
-pub mod widths;
 
-pub use answer::Answer;
+pub use refusal::Refusal;

@@ -1,5 +1,6 @@
 // Document 01, "Refused inputs", RULES 8, and document 02: each condition's number, by name.
 // specs/Numbers.antt has the same for definitions.
+// Kept: C and the output of programs have these numbers. Code names a refusal by `Refusal`.
 
 pub const ACCEPTED: u8 = 0;
 

@@ -1,34 +1,32 @@
 // What refuses words before one is read, by sizes alone.
 ghost use Rattle.std.specs.Prelude.{◌≡◌};
-ghost use Rattle.common.specs.Chain.{room_number, sizes_number};
+ghost use Rattle.common.specs.Chain.{room_answer, sizes_answer};
 
 use crate::limits::MOST_WORDS;
-use crate::numbers::{ACCEPTED, NO_WORDS, SHORT_SLICE, TOO_MANY_WORDS};
+use crate::refusal::Refusal;
 
-// Numbers 1 and 6, in this order: of n words, where the shortest lent result slice has so much room. 0 if
-// neither refuses. The place is 0.
-pub fn room_refusal(n: usize, room: usize) -> u8
-    ensures { result ≡ room_number n room }
+// Numbers 1 and 6, in this order: of n words, where the shortest lent result slice has so much room.
+#[tactic(auto, unfolding(crate::specs::Chain::room_answer))]
+pub fn check_room(n: usize, room: usize) -> Result<(), Refusal>
+    ensures { result ≡ room_answer n room }
 {
     if MOST_WORDS < n {
-        return TOO_MANY_WORDS;
+        return Err(Refusal::TooManyWords);
     }
     if room < n {
-        return SHORT_SLICE;
+        return Err(Refusal::ShortSlice);
     }
-    ACCEPTED
+    Ok(())
 }
 
 // The same, and 7 after them.
-pub fn size_refusal(n: usize, room: usize) -> u8
-    ensures { result ≡ sizes_number n room }
+#[tactic(auto, unfolding(crate::specs::Chain::room_answer, crate::specs::Chain::sizes_answer))]
+pub fn check_sizes(n: usize, room: usize) -> Result<(), Refusal>
+    ensures { result ≡ sizes_answer n room }
 {
-    let number = room_refusal(n, room);
-    if number != ACCEPTED {
-        return number;
-    }
+    check_room(n, room)?;
     if n == 0 {
-        return NO_WORDS;
+        return Err(Refusal::NoWords);
     }
-    ACCEPTED
+    Ok(())
 }

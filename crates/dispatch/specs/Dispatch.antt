@@ -2,14 +2,14 @@
 -- with its corners. The arms themselves stand in crates families and objects.
 -- Assumes nothing.
 use Rattle.std.specs.Prelude.{ℕ, ◌+◌, ◌-◌, ◌^◌, true, false, List, eqb, leb, ltb, ℤ, pos, negsuc, ◌+ℤ◌}
-use Rattle.std.specs.Prelude.{neg_ℤ, length, get_or}
+use Rattle.std.specs.Prelude.{neg_ℤ, length, get_or, Some, None}
 use Rattle.std.specs.Float.{binary64}
 use Rattle.std.specs.Float.Ieee.{of_int}
 use Rattle.fields.specs.declared.lua54.word.RawInstruction54.{RawInstruction54}
 use Rattle.fields.specs.lua54.Opcodes as op
 use Rattle.fields.specs.lua54.Word.{opcode_of, bx_of, ax_of, sj_of}
 use Rattle.values.specs.declared.ir.TypedOperand.TheVariants as O
-use Rattle.values.specs.declared.ir.ImplicitEffect.TheVariants.{NoEffect, ConditionalSkip, CompanionPair}
+use Rattle.values.specs.declared.ir.ImplicitEffect.TheVariants.{ConditionalSkip, CompanionPair}
 use Rattle.values.specs.declared.ir.CompanionRole.TheVariants as role
 use Rattle.common.specs.Chain.{choose}
 use Rattle.builders.specs.declared.builders.Body.{Body}
@@ -47,14 +47,15 @@ back pc word raw = objects.loop_jump raw (neg_ℤ (pos (bx_of word))) (pc + 1 - 
 unfoldable pub loads : List ℕ → List ℕ → List ℕ → ℕ → RawInstruction54 → ℕ → Body
 loads words tags payloads pc raw opcode =
     choose (eqb opcode op.OP_MOVE) (F.unary raw)
-    (choose (eqb opcode op.OP_LOADI) (F.load raw (O.ImmediateInt raw.sbx) NoEffect)
-    (choose (eqb opcode op.OP_LOADF) (F.load raw (O.ImmediateFloat (of_int binary64 raw.sbx)) NoEffect)
-    (choose (eqb opcode op.OP_LOADK) (F.load_constant_body tags payloads raw raw.bx NoEffect)
+    (choose (eqb opcode op.OP_LOADI) (F.load raw (O.ImmediateInt raw.sbx) None)
+    (choose (eqb opcode op.OP_LOADF) (F.load raw (O.ImmediateFloat (of_int binary64 raw.sbx)) None)
+    (choose (eqb opcode op.OP_LOADK) (F.load_constant_body tags payloads raw raw.bx None)
     (choose (eqb opcode op.OP_LOADKX)
-    (F.load_constant_body tags payloads raw (extended_index words pc) (CompanionPair (pc + 1) role.ExtraArg))
-    (choose (eqb opcode op.OP_LOADFALSE) (F.load raw (O.Flag false) NoEffect)
-    (choose (eqb opcode op.OP_LFALSESKIP) (F.load raw (O.Flag false) (ConditionalSkip (pc + 2)))
-    (choose (eqb opcode op.OP_LOADTRUE) (F.load raw (O.Flag true) NoEffect)
+    (F.load_constant_body tags payloads raw (extended_index words pc)
+    (Some (CompanionPair (pc + 1) role.ExtraArg)))
+    (choose (eqb opcode op.OP_LOADFALSE) (F.load raw (O.Flag false) None)
+    (choose (eqb opcode op.OP_LFALSESKIP) (F.load raw (O.Flag false) (Some (ConditionalSkip (pc + 2))))
+    (choose (eqb opcode op.OP_LOADTRUE) (F.load raw (O.Flag true) None)
     -- LOADNIL
     (F.loadnil raw))))))))
 
@@ -100,11 +101,11 @@ control pc word raw opcode =
     (choose (eqb opcode op.OP_TBC) (F.tbc raw)
     (choose (eqb opcode op.OP_JMP) (F.jmp raw (jmp_target pc word))
     -- EQ, LT, LE, EQK
-    (choose (leb opcode op.OP_EQK) (F.bare (ConditionalSkip (pc + 2)))
+    (choose (leb opcode op.OP_EQK) (F.bare (Some (ConditionalSkip (pc + 2))))
     -- EQI, LTI, LEI, GTI, GEI
     (choose (leb opcode op.OP_GEI) (F.test_immediate raw (pc + 2))
     -- TEST, TESTSET
-    (F.bare (ConditionalSkip (pc + 2)))))))
+    (F.bare (Some (ConditionalSkip (pc + 2))))))))
 
 -- CALL to EXTRAARG, and unknown opcodes: "then operands, effects, fallback, target and companion are empty"
 unfoldable pub calls : ℕ → ℕ → RawInstruction54 → ℕ → Body
@@ -112,7 +113,7 @@ calls pc word raw opcode =
     choose (eqb opcode op.OP_CALL) (objects.call raw)
     (choose (eqb opcode op.OP_TAILCALL) (objects.tailcall raw)
     (choose (eqb opcode op.OP_RETURN) (objects.return raw)
-    (choose (eqb opcode op.OP_RETURN0) (F.bare NoEffect)
+    (choose (eqb opcode op.OP_RETURN0) (F.bare None)
     (choose (eqb opcode op.OP_RETURN1) (objects.return1 raw)
     (choose (eqb opcode op.OP_FORLOOP) (back pc word raw)
     (choose (eqb opcode op.OP_FORPREP) (ahead pc word raw)
@@ -125,7 +126,7 @@ calls pc word raw opcode =
     (choose (eqb opcode op.OP_VARARGPREP) (objects.varargprep raw)
     (choose (eqb opcode op.OP_EXTRAARG) (objects.extraarg raw)
     -- unknown
-    (F.bare NoEffect)))))))))))))))
+    (F.bare None)))))))))))))))
 
 unfoldable pub record_body : List ℕ → List ℕ → List ℕ → List ℕ → ℕ → ℕ → RawInstruction54 → ℕ → Body
 record_body words tags payloads names pc word raw opcode =

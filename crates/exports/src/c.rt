@@ -10,16 +10,17 @@ ghost use Rattle.exports.specs.Flat.{flat_fields, numbers_after, lift_answer};
 
 use common::c::FlatAnswer;
 use fields::lua54::lookup::mode;
-use fields::lua54::word::{RawInstruction54, decode};
+use fields::lua54::word::decode;
 use fields::version::Version;
 use lifted::inner::{RECORD_LENGTH, put_records};
-use runs::c::{FlatRun, FlatSuccessors, flat_run, flat_successors};
-use tables::refusals::planned;
+use runs::c::{FlatRun, FlatSuccessors};
+use tables::refusals::check;
+use values::model::Prototype;
 
 pub fn lawendeb_successors(words: &[u32], p: usize) -> FlatSuccessors
     ensures { result ≡ flat_successors (successors_of words.now p) }
 {
-    flat_successors(steps::lua54::successors::successors(words, p))
+    FlatSuccessors::from(steps::lua54::successors::successors(words, p))
 }
 
 pub fn lawendeb_longest_run_3(
@@ -35,7 +36,7 @@ pub fn lawendeb_longest_run_3(
     ensures lengths_after { lengths.new ≡ lengths_after (lua54 words.now) weights.now
         marks.old lengths.old }
 {
-    flat_run(runs::longest_run(Version::Lua54, words, weights, marks, lengths))
+    FlatRun::from(runs::longest_run(Version::Lua54, words, weights, marks, lengths))
 }
 
 #[repr(C)]
@@ -55,33 +56,37 @@ pub struct FlatFields {
     pub sj: i32,
 }
 
-fn flat_fields(mode: u8, f: RawInstruction54) -> FlatFields
-    ensures { result ≡ flat_fields mode f }
-{
-    FlatFields {
-        mode: mode as u32,
-        opcode: f.opcode_num as u32,
-        a: f.a as u32,
-        k: f.k as u32,
-        b: f.b as u32,
-        c: f.c as u32,
-        bx: f.bx,
-        ax: f.ax,
-        sb: f.sb,
-        sc: f.sc,
-        sbx: f.sbx,
-        sj: f.sj,
+impl From<u32> for FlatFields {
+    ghost from_gives = { λ word flat. flat
+        ≡ flat_fields (mode_number (mode_of (opcode_of word))) (fields_of word) };
+
+    fn from(word: u32) -> FlatFields {
+        let f = decode(word);
+        FlatFields {
+            mode: u32::from(mode(word)),
+            opcode: u32::from(f.opcode_num),
+            a: u32::from(f.a),
+            k: u32::from(f.k),
+            b: u32::from(f.b),
+            c: u32::from(f.c),
+            bx: f.bx,
+            ax: f.ax,
+            sb: f.sb,
+            sc: f.sc,
+            sbx: f.sbx,
+            sj: f.sj,
+        }
     }
 }
 
 pub fn lawendeb_decode(word: u32) -> FlatFields
     ensures { result ≡ flat_fields (mode_number (mode_of (opcode_of word))) (fields_of word) }
 {
-    flat_fields(mode(word), decode(word))
+    FlatFields::from(word)
 }
 
-// Lifts a whole function. All decisions are the plan's: a refusal is a loop of no turns,
-// so that nothing is written.
+// Lifts a whole function: all records are written or, where it is refused, none.
+// Kept: slices where the lifter has a Prototype, since C lends them so (include/lawendeb.h).
 pub fn lawendeb_lift<'a, 'b>(
     words: &'a [u32],
     tags: &'a [u8],
@@ -95,18 +100,16 @@ pub fn lawendeb_lift<'a, 'b>(
     ensures numbers_after { numbers.new ≡ numbers_after words.now tags.now
         payloads.now names.now (length bytes.now) numbers.old }
 {
-    let plan = planned(
+    let proto = Prototype {
         words,
         tags,
         payloads,
         names,
         bytes,
-        numbers.len() / RECORD_LENGTH,
-    );
-    let count = plan.count;
-    put_records(words, tags, payloads, names, count, numbers);
-    FlatAnswer {
-        number: plan.answer.number as u64,
-        place: plan.answer.place as u64,
+    };
+    let answer = check(&proto, numbers.len() / RECORD_LENGTH);
+    if answer.is_ok() {
+        put_records(&proto, numbers);
     }
+    FlatAnswer::from(answer)
 }

@@ -2,87 +2,71 @@
 ghost use Rattle.std.specs.Prelude.{◌≡◌};
 ghost use Rattle.families.specs.Families as F;
 
-use builders::builders::*;
+use builders::builders::Body;
 use builders::parts::*;
 use fields::lua54::word::RawInstruction54;
-use values::ir::{EffectTarget, ImplicitEffect, OptionalPc, TypedOperand};
+use values::few::Few;
+use values::ir::{EffectTarget, ImplicitEffect, TypedOperand};
 
 pub fn lift_close(raw: RawInstruction54) -> Body
     ensures { result ≡ F.close raw }
 {
-    let operands = operands1(TypedOperand::Register { index: raw.a });
-    let reads = reads0();
-    let writes = writes0();
-    Body {
-        operands,
-        reads,
-        writes,
-        implicit_effect: ImplicitEffect::CloseUpvalues {
+    Body::new(
+        Few::of([TypedOperand::Register { index: raw.a }]),
+        Few::of([]),
+        Few::of([]),
+        Some(ImplicitEffect::CloseUpvalues {
             min_register: raw.a,
-        },
-        jump_target: OptionalPc::NoPc,
-    }
+        }),
+        None,
+    )
 }
 
 pub fn lift_tbc(raw: RawInstruction54) -> Body
     ensures { result ≡ F.tbc raw }
 {
-    let operands = operands1(TypedOperand::Register { index: raw.a });
-    let reads = reads0();
-    let writes = writes0();
-    plain(operands, reads, writes)
+    Body::plain(
+        Few::of([TypedOperand::Register { index: raw.a }]),
+        Few::of([]),
+        Few::of([]),
+    )
 }
 
 pub fn lift_jmp(raw: RawInstruction54, dest: usize) -> Body
     ensures { result ≡ F.jmp raw dest }
 {
-    let operands = operands1(TypedOperand::Jump {
-        offset: raw.sj,
-        target_pc: dest,
-    });
-    let reads = reads1(EffectTarget::JumpTarget { pc: dest });
-    let writes = writes0();
-    Body {
-        operands,
-        reads,
-        writes,
-        implicit_effect: ImplicitEffect::NoEffect,
-        jump_target: OptionalPc::Pc(dest),
-    }
+    Body::new(
+        Few::of([TypedOperand::Jump {
+            offset: raw.sj,
+            target_pc: dest,
+        }]),
+        Few::of([EffectTarget::JumpTarget { pc: dest }]),
+        Few::of([]),
+        None,
+        Some(dest),
+    )
 }
 
 pub fn lift_test_immediate(raw: RawInstruction54, skip: usize) -> Body
     ensures { result ≡ F.test_immediate raw skip }
 {
-    let operands = operands3(
-        TypedOperand::Register { index: raw.a },
-        immediate(raw.sb),
-        TypedOperand::Flag { value: raw.k != 0 },
-    );
-    let reads = reads1(EffectTarget::Register { index: raw.a });
-    let writes = writes0();
-    Body {
-        operands,
-        reads,
-        writes,
-        implicit_effect: ImplicitEffect::ConditionalSkip {
+    Body::new(
+        Few::of([
+            TypedOperand::Register { index: raw.a },
+            immediate(i64::from(raw.sb)),
+            TypedOperand::Flag { value: raw.k != 0 },
+        ]),
+        Few::of([EffectTarget::Register { index: raw.a }]),
+        Few::of([]),
+        Some(ImplicitEffect::ConditionalSkip {
             skip_target_pc: skip,
-        },
-        jump_target: OptionalPc::NoPc,
-    }
+        }),
+        None,
+    )
 }
 
-pub fn lift_bare(effect: ImplicitEffect) -> Body
+pub fn lift_bare(effect: Option<ImplicitEffect>) -> Body
     ensures { result ≡ F.bare effect }
 {
-    let operands = operands0();
-    let reads = reads0();
-    let writes = writes0();
-    Body {
-        operands,
-        reads,
-        writes,
-        implicit_effect: effect,
-        jump_target: OptionalPc::NoPc,
-    }
+    Body::new(Few::of([]), Few::of([]), Few::of([]), effect, None)
 }

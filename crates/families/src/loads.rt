@@ -2,76 +2,73 @@
 ghost use Rattle.std.specs.Prelude.{◌≡◌};
 ghost use Rattle.families.specs.Families as F;
 
-use builders::builders::*;
+use builders::builders::Body;
 use builders::parts::*;
 use fields::lua54::word::RawInstruction54;
-use values::ir::{EffectTarget, ImplicitEffect, OptionalPc, TypedOperand};
+use values::few::Few;
+use values::ir::{EffectTarget, ImplicitEffect, TypedOperand};
+use values::model::Prototype;
 
 pub fn lift_unary(raw: RawInstruction54) -> Body
     ensures { result ≡ F.unary raw }
 {
-    let operands = operands2(
-        TypedOperand::Register { index: raw.a },
-        TypedOperand::Register { index: raw.b },
-    );
-    let reads = reads1(EffectTarget::Register { index: raw.b });
-    let writes = writes1(EffectTarget::Register { index: raw.a });
-    plain(operands, reads, writes)
+    Body::plain(
+        Few::of([
+            TypedOperand::Register { index: raw.a },
+            TypedOperand::Register { index: raw.b },
+        ]),
+        Few::of([EffectTarget::Register { index: raw.b }]),
+        Few::of([EffectTarget::Register { index: raw.a }]),
+    )
 }
 
-pub fn lift_load(raw: RawInstruction54, value: TypedOperand, effect: ImplicitEffect) -> Body
+pub fn lift_load(raw: RawInstruction54, value: TypedOperand, effect: Option<ImplicitEffect>) -> Body
     ensures { result ≡ F.load raw value effect }
 {
-    let operands = operands2(TypedOperand::Register { index: raw.a }, value);
-    let reads = reads0();
-    let writes = writes1(EffectTarget::Register { index: raw.a });
-    Body {
-        operands,
-        reads,
-        writes,
-        implicit_effect: effect,
-        jump_target: OptionalPc::NoPc,
-    }
+    Body::new(
+        Few::of([TypedOperand::Register { index: raw.a }, value]),
+        Few::of([]),
+        Few::of([EffectTarget::Register { index: raw.a }]),
+        effect,
+        None,
+    )
 }
 
 pub fn lift_load_constant(
-    tags: &[u8],
-    payloads: &[u64],
+    proto: &Prototype<'_>,
     raw: RawInstruction54,
     index: usize,
-    effect: ImplicitEffect,
+    effect: Option<ImplicitEffect>,
 ) -> Body
-    ensures { result ≡ F.load_constant_body tags.now payloads.now raw index effect }
+    ensures { result ≡ F.load_constant_body proto.now.tags.now proto.now.payloads.now raw index effect }
 {
-    let operands = operands2(
-        TypedOperand::Register { index: raw.a },
-        constant_operand(tags, payloads, index),
-    );
-    let reads = reads1(EffectTarget::Constant { index });
-    let writes = writes1(EffectTarget::Register { index: raw.a });
-    Body {
-        operands,
-        reads,
-        writes,
-        implicit_effect: effect,
-        jump_target: OptionalPc::NoPc,
-    }
+    Body::new(
+        Few::of([
+            TypedOperand::Register { index: raw.a },
+            constant_operand(proto, index),
+        ]),
+        Few::of([EffectTarget::Constant { index }]),
+        Few::of([EffectTarget::Register { index: raw.a }]),
+        effect,
+        None,
+    )
 }
 
 pub fn lift_loadnil(raw: RawInstruction54) -> Body
     ensures { result ≡ F.loadnil raw }
 {
-    let operands = operands2(
-        TypedOperand::Register { index: raw.a },
-        TypedOperand::Count {
-            value: raw.b as usize + 1,
-            is_variable: false,
-        },
-    );
-    let reads = reads0();
-    let writes = writes1(EffectTarget::RegisterRange {
-        start: raw.a,
-        end: register_plus(raw.a, raw.b),
-    });
-    plain(operands, reads, writes)
+    Body::plain(
+        Few::of([
+            TypedOperand::Register { index: raw.a },
+            TypedOperand::Count {
+                value: usize::from(raw.b) + 1,
+                is_variable: false,
+            },
+        ]),
+        Few::of([]),
+        Few::of([EffectTarget::RegisterRange {
+            start: raw.a,
+            end: raw.a.saturating_add(raw.b),
+        }]),
+    )
 }

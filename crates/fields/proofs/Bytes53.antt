@@ -14,9 +14,9 @@ pub steps_byte : (o : ℕ) → o < 64 → byte_of (eight_of companion_and_class 
 unfolding eight_of class_of companion_of
 steps_byte = byte_at companion_and_class 64 tt
 
-pub mode-byte : (o : ℕ) → o < 64 → byte_of (eight_of mode_byte (o / 8)) o ≡ mode_byte o
+pub mode_byte_at : (o : ℕ) → o < 64 → byte_of (eight_of mode_byte (o / 8)) o ≡ mode_byte o
 unfolding eight_of mode_of
-mode-byte = byte_at mode_byte 64 tt
+mode_byte_at = byte_at mode_byte 64 tt
 
 class_low : (x : StepClass) → class_number x < 16
 class_low following = omega arith

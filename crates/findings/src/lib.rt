@@ -2,10 +2,10 @@
 // which functions come first.
 #![tactic(auto)]
 
-mod order;
+mod key;
 mod rooms;
 mod script;
 
-pub use order::{is_refused_in, key_at, longest_in};
-pub use rooms::{marks, words};
-pub use script::{brief, load, order_all, place_in, source};
+pub use key::Key;
+pub use rooms::Rooms;
+pub use script::Script;

@@ -1,10 +1,12 @@
 // A function of a compiled script, as it is told. Nothing else here calls the libraries of compiled files,
 // of the path and of registers.
-use crate::order::{is_refused_in, key, key_at, longest_in, number_in, parent_in, set_key, sort};
-use crate::rooms;
-use found::Function;
+use crate::key::Key;
+use crate::rooms::Rooms;
+use common::Refusal;
+use common::limits::MOST_WORDS;
+use fields::version::Version;
+use found::{Function, Longest};
 use lines::{Choice, FlatHead};
-use pages::{first, first_words, rest};
 use witness::PathRun;
 
 // As a head tells that a function has no source of its own.
@@ -13,205 +15,115 @@ const NO_SOURCE: u64 = 18446744073709551615;
 // 2^32: a name's place is its start and so many times its length.
 const SPAN: u64 = 4294967296;
 
-// The name of the source, as the head at a place gives it; empty where there is none.
-pub fn source(bytes: &[u8], at: usize) -> &[u8] {
-    let head = lines::head_from(bytes, at);
-    if head.source == NO_SOURCE {
-        return first(bytes, 0);
-    }
-    first(
-        rest(bytes, (head.source % SPAN) as usize),
-        (head.source / SPAN) as usize,
-    )
+// A compiled script's bytes, what its opcodes weigh, and where its functions stand.
+#[derive(Clone, Copy)]
+pub struct Script<'a> {
+    pub bytes: &'a [u8],
+    pub weights: &'a [u8],
+    pub places: &'a [u64],
 }
 
-// A function that is refused: nothing of its run is told, nor counts for the most.
-fn refused(f: Function, number: u64, place: u64) -> Function {
-    Function {
-        number,
-        place,
-        k: f.k,
-        parent: f.parent,
-        words: f.words,
-        first_line: f.first_line,
-        last_line: f.last_line,
-        parameters: f.parameters,
-        longest: 0,
-        start: 0,
-        count: 0,
-    }
+fn longest_of(run: Result<PathRun, Refusal>) -> Result<Longest, Refusal> {
+    let PathRun { run, count } = run?;
+    Ok(Longest {
+        longest: u64::from(run.longest),
+        start: run.first,
+        count,
+    })
 }
 
-// The function of a key, of n words, by its head: no word of its run is told yet.
-fn with_head(key: u64, head: FlatHead, n: usize) -> Function {
+// The function of a key, of n words, by its head and its run.
+fn function(key: Key, head: FlatHead, n: usize, run: Result<Longest, Refusal>) -> Function {
     Function {
-        number: 0,
-        place: 0,
-        k: number_in(key),
-        parent: parent_in(key),
+        k: key.number(),
+        parent: key.parent(),
         words: n,
         first_line: head.linedefined,
         last_line: head.lastlinedefined,
         parameters: head.numparams,
-        longest: longest_in(key),
-        start: 0,
-        count: 0,
+        run,
     }
-}
-
-// The same, by its run.
-fn with_run(key: u64, head: FlatHead, n: usize, run: PathRun) -> Function {
-    let f = with_head(key, head, n);
-    match run {
-        PathRun::Accepted {
-            longest,
-            first,
-            count,
-        } => Function {
-            number: 0,
-            place: 0,
-            k: f.k,
-            parent: f.parent,
-            words: f.words,
-            first_line: f.first_line,
-            last_line: f.last_line,
-            parameters: f.parameters,
-            longest: longest as u64,
-            start: first,
-            count,
-        },
-        PathRun::Refused { number, place } => refused(f, number as u64, place as u64),
-    }
-}
-
-// The function of a key, at its place: its words, and the longest run of them with the words that make it.
-fn measured(
-    bytes: &[u8],
-    key: u64,
-    at: usize,
-    weights: &[u8],
-    words: &mut [u32],
-    marks: &mut [u8],
-    lengths: &mut [u32],
-    path: &mut [u32],
-) -> Function {
-    let head = lines::head_from(bytes, at);
-    let counts = lines::words_by(bytes, Choice::Place(at), words);
-    let n = counts.words as usize;
-    let run = witness::longest_path(first_words(words, n), weights, marks, lengths, path);
-    with_run(key, head, n, run)
-}
-
-// The lines of its words, 0 where the file has none.
-fn fill_lines(bytes: &[u8], at: usize, lines: &mut [u32]) {
-    lines::lines_by(bytes, Choice::Place(at), lines);
 }
 
 // The same function, refused where some way reads a register that nothing has set. The marks are used.
-fn checked(f: Function, words: &[u32], marks: &mut [u8]) -> Function {
-    if f.number != 0 {
+fn checked(f: Function, rooms: &mut Rooms) -> Function {
+    if f.run.is_err() {
         return f;
     }
-    let a = assignment::definite_assignment(
-        first_words(words, f.words),
-        (f.parameters % 256) as u8,
-        marks,
-    );
-    if a.number == 0 {
-        return f;
-    }
-    refused(f, a.number as u64, a.place as u64)
-}
-
-// The function of a key, all of it.
-pub fn load(
-    bytes: &[u8],
-    places: &[u64],
-    key: u64,
-    weights: &[u8],
-    words: &mut [u32],
-    lines: &mut [u32],
-    marks: &mut [u8],
-    lengths: &mut [u32],
-    path: &mut [u32],
-) -> Function {
-    let at = place_in(places, number_in(key));
-    fill_lines(bytes, at, lines);
-    let m = measured(bytes, key, at, weights, words, marks, lengths, path);
-    if is_refused_in(key) {
-        return checked(m, words, marks);
-    }
-    m
-}
-
-// The function of a key that is not refused, without its words: what a line of its own tells.
-pub fn brief(bytes: &[u8], places: &[u64], key: u64) -> Function {
-    let at = place_in(places, number_in(key));
-    with_head(key, lines::head_from(bytes, at), 0)
-}
-
-pub fn place_in(places: &[u64], k: u64) -> usize {
-    key_at(places, k as usize) as usize
-}
-
-// The key of a function that is measured and checked.
-fn key_of(f: Function) -> u64 {
-    let refused = if f.number == 0 { 0 } else { 1 };
-    key(f.longest, f.k, f.parent, refused)
-}
-
-// Puts a key for function k where the number of the one that it stands in was.
-fn measure_one(
-    bytes: &[u8],
-    weights: &[u8],
-    places: &[u64],
-    k: usize,
-    keys: &mut [u64],
-    words: &mut [u32],
-    marks: &mut [u8],
-    lengths: &mut [u32],
-    path: &mut [u32],
-) {
-    let own = key(0, k as u64, key_at(keys, k), 0);
-    let at = place_in(places, k as u64);
-    let m = measured(bytes, own, at, weights, words, marks, lengths, path);
-    let f = checked(m, words, marks);
-    set_key(keys, k, key_of(f));
-}
-
-// A key for each function.
-fn measure_all(
-    bytes: &[u8],
-    weights: &[u8],
-    places: &[u64],
-    n: usize,
-    keys: &mut [u64],
-    words: &mut [u32],
-    marks: &mut [u8],
-    lengths: &mut [u32],
-    path: &mut [u32],
-) {
-    for k in 0..n {
-        measure_one(bytes, weights, places, k, keys, words, marks, lengths, path);
+    let words = &rooms.words[..f.words.min(MOST_WORDS)];
+    match assignment::definite_assignment(words, (f.parameters % 256) as u8, &mut rooms.marks) {
+        Ok(()) => f,
+        Err(refusal) => Function {
+            run: Err(refusal),
+            ..f
+        },
     }
 }
 
-// A key for each function, the greatest first, where the numbers of those that they stand in were.
-pub fn order_all(bytes: &[u8], weights: &[u8], places: &[u64], n: usize, keys: &mut [u64]) {
-    let mut words = rooms::words();
-    let mut marks = rooms::marks();
-    let mut lengths = rooms::words();
-    let mut path = rooms::words();
-    measure_all(
-        bytes,
-        weights,
-        places,
-        n,
-        keys,
-        &mut words,
-        &mut marks,
-        &mut lengths,
-        &mut path,
-    );
-    sort(keys, n);
+impl<'a> Script<'a> {
+    fn place_of(self, k: u64) -> usize {
+        self.places.get(k as usize).map_or(0, |at| *at as usize)
+    }
+
+    // The name of the source, as the main function's head gives it, if it has one.
+    pub fn source(self) -> Option<&'a [u8]> {
+        let head = lines::head_from(self.bytes, self.place_of(0));
+        if head.source == NO_SOURCE {
+            return None;
+        }
+        let rest = self.bytes.get((head.source % SPAN) as usize..)?;
+        let name = &rest[..rest.len().min((head.source / SPAN) as usize)];
+        Some(name).filter(|name| !name.is_empty())
+    }
+
+    // The function of a key: its words, and the longest run of them with the words that make it.
+    fn measured(self, key: Key, rooms: &mut Rooms) -> Function {
+        let at = self.place_of(key.number());
+        let head = lines::head_from(self.bytes, at);
+        let counts = lines::words_by(self.bytes, Choice::Place(at), &mut rooms.words);
+        let n = (counts.words as usize).min(MOST_WORDS);
+        let run = witness::longest_path(
+            Version::Lua54,
+            &rooms.words[..n],
+            self.weights,
+            &mut rooms.marks,
+            &mut rooms.lengths,
+            &mut rooms.path,
+        );
+        function(key, head, n, longest_of(run))
+    }
+
+    // The function of a key, all of it.
+    pub fn load(self, key: Key, rooms: &mut Rooms) -> Function {
+        let at = self.place_of(key.number());
+        lines::lines_by(self.bytes, Choice::Place(at), &mut rooms.lines);
+        let f = self.measured(key, rooms);
+        if key.is_refused() {
+            checked(f, rooms)
+        } else {
+            f
+        }
+    }
+
+    // The function of a key that is not refused, without its words: what a line of its own tells.
+    pub fn brief(self, key: Key) -> Function {
+        let head = lines::head_from(self.bytes, self.place_of(key.number()));
+        let run = Longest {
+            longest: key.longest(),
+            start: 0,
+            count: 0,
+        };
+        function(key, head, 0, Ok(run))
+    }
+
+    // A key for each function, the greatest first, where the numbers of those that they stand in were.
+    pub fn order_all(self, keys: &mut [u64], rooms: &mut Rooms) {
+        for (k, key) in keys.iter_mut().enumerate() {
+            let own = Key::new(0, k as u64, *key, false);
+            let f = checked(self.measured(own, rooms), rooms);
+            let longest = f.run.map_or(0, |run| run.longest);
+            *key = Key::new(longest, f.k, f.parent, f.run.is_err()).0;
+        }
+        keys.sort_unstable_by(|a, b| b.cmp(a));
+    }
 }

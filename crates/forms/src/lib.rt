@@ -3,4 +3,4 @@
 
 mod parts;
 
-pub use parts::{Options, put_function, put_head, put_refused, put_sum, put_too_long};
+pub use parts::Form;

@@ -2,9 +2,9 @@
 #![tactic(auto)]
 
 mod function;
-mod noting;
-mod rows;
+mod run;
+mod way;
 
-pub use function::Function;
-pub use noting::{Way, has_call, landing};
-pub use rows::{is_straight, next, part, remains, row_end, way_behind};
+pub use function::{Function, Longest};
+pub use run::Run;
+pub use way::{Way, landing};

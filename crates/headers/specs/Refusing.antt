@@ -2,13 +2,12 @@
 -- chunk", "version mismatch", "format mismatch", "corrupted chunk", "Instruction size mismatch" and so on,
 -- of which request C-11 keeps one number, 14.
 -- Assumes nothing.
-use Rattle.std.specs.Prelude.{Bool, not, ◌&&◌, List, ℕ, leb, eqb, length, get_or}
+use Rattle.std.specs.Prelude.{Bool, not, ◌&&◌, List, ℕ, leb, eqb, length, get_or, Result, Err}
 use Rattle.common.specs.Chain.{refuse_if}
-use Rattle.loaders.specs.declared.reading.Refusal.TheVariants as refusal
-use Rattle.loaders.specs.declared.reading.Cursor.{Cursor}
-use Rattle.loaders.specs.declared.reading.Cursor.TheVariants.{At, Refused}
+use Rattle.common.specs.declared.refusal.Refusal.{Refusal}
+use Rattle.common.specs.declared.refusal.Refusal.TheVariants.{HeaderDiffers}
 use Rattle.lundump.specs.Lundump.{check_header}
-use Rattle.loaders.specs.Cursors.{cursor_of, none}
+use Rattle.loaders.specs.Reading.{past_of}
 use Rattle.headers.specs.declared.refusing.Why.{Why}
 use Rattle.headers.specs.declared.refusing.Why.TheVariants.{
   NotLua,
@@ -28,13 +27,9 @@ signed bytes =
     && eqb (get_or bytes 3 0) 97)))
 
 -- behind the version: a byte of checkHeader differs, or none does as far as there are bytes
-abbrev pub header_reason : Cursor → Why
-header_reason (At at v) = Damaged
-header_reason (Refused refusal.Header) = OtherNumbers
-header_reason (Refused refusal.Malformed) = Damaged
-header_reason (Refused refusal.TooDeep) = Damaged
-header_reason (Refused (refusal.UnknownTag i)) = Damaged
-header_reason (Refused refusal.Short) = Damaged
+abbrev pub header_reason : Result ℕ Refusal → Why
+header_reason (Err HeaderDiffers) = OtherNumbers
+header_reason _ = Damaged
 
 -- LUAC_VERSION is 0x53 of Lua 5.3 and 0x54 of 5.4
 unfoldable pub why_refused : List ℕ → Why
@@ -43,4 +38,4 @@ why_refused bytes =
     (refuse_if (leb (length bytes) 4) Damaged
     (refuse_if (eqb (get_or bytes 4 0) 83) Lua53
     (refuse_if (not (eqb (get_or bytes 4 0) 84)) OtherVersion
-    (header_reason (cursor_of none (check_header bytes 0))))))
+    (header_reason (past_of (check_header bytes 0))))))

@@ -1,9 +1,9 @@
 // Why a file is no chunk that is read here, for a program that says it in words. Numbers 14 and 15 do not
 // tell a Lua of another version from a picture.
 ghost use Rattle.std.specs.Prelude.{◌≡◌};
-ghost use Rattle.headers.specs.Refusing.{signed, why_refused, header_reason};
+ghost use Rattle.headers.specs.Refusing.{why_refused};
 
-use loaders::{Cursor, Refusal};
+use common::Refusal;
 use lundump::inner::header;
 
 #[derive(Drop)]
@@ -20,56 +20,20 @@ pub enum Why {
     Damaged,
 }
 
-// LUA_SIGNATURE, "\x1bLua"
-fn is_signed(chunk: &[u8]) -> bool
-    ensures { result ≡ signed chunk.now }
-{
-    if chunk.len() < 4 {
-        return false;
-    }
-    if chunk[0] != 27 {
-        return false;
-    }
-    if chunk[1] != 76 {
-        return false;
-    }
-    if chunk[2] != 117 {
-        return false;
-    }
-    chunk[3] == 97
-}
-
-fn by_header(c: Cursor) -> Why
-    ensures { result ≡ header_reason c }
-{
-    match c {
-        Cursor::At(_, _) => Why::Damaged,
-        Cursor::Refused(e) => match e {
-            Refusal::Header => Why::OtherNumbers,
-            Refusal::Malformed => Why::Damaged,
-            Refusal::TooDeep => Why::Damaged,
-            Refusal::UnknownTag(_) => Why::Damaged,
-            Refusal::Short => Why::Damaged,
-        },
-    }
-}
-
 // The reason, whatever the number is: of a chunk that is accepted it is `Damaged`, which says nothing then.
+// The first four bytes are LUA_SIGNATURE, "\x1bLua".
+#[tactic(auto, unfolding(crate::specs::Refusing::signed, crate::specs::Refusing::why_refused))]
 pub fn why_refused(chunk: &[u8]) -> Why
     ensures { result ≡ why_refused chunk.now }
 {
-    if !is_signed(chunk) {
-        return Why::NotLua;
+    match chunk {
+        [27, 76, 117, 97] => Why::Damaged,
+        [27, 76, 117, 97, 83, ..] => Why::Lua53,
+        [27, 76, 117, 97, 84, ..] => match header(chunk) {
+            Err(Refusal::HeaderDiffers) => Why::OtherNumbers,
+            _ => Why::Damaged,
+        },
+        [27, 76, 117, 97, _, ..] => Why::OtherVersion,
+        _ => Why::NotLua,
     }
-    if chunk.len() <= 4 {
-        return Why::Damaged;
-    }
-    let version = chunk[4];
-    if version == 83 {
-        return Why::Lua53;
-    }
-    if version != 84 {
-        return Why::OtherVersion;
-    }
-    by_header(header(chunk))
 }

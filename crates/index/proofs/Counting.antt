@@ -1,212 +1,212 @@
 -- All functions of a chunk: how many there are, and what is told and stored of them. Assumes nothing.
-use mathlib.Core.Path.{◌≡◌, refl, sym, ap, subst, ◌∙◌}
-use mathlib.Core.Bool.{Bool, true, false, cond, ◌&&◌, true≢false}
-use mathlib.Core.List.{List, [], ◌∷◌}
-use Prim.Native.Nat.{ℕ, zero, suc, ◌-◌, ◌≤◌, ◌<◌}
-use native.Mathlib.Omega.{arith}
-use lib.Dec.{leb}
-use lib.ListN.{length}
+use Rattle.std.proofs.Common.{◌≡◌, ℕ, zero, suc, ◌-◌, ◌≤◌, ◌<◌, min, Bool, true, false, cond, ◌&&◌, List, [], ◌∷◌, length, leb}
+use Rattle.std.proofs.Common.{Result, Ok, Err, refl, sym, ap, subst, ◌∙◌, arith}
 use borrow.Author.Tests.{leb-true, le-leb, lt-leb}
 use Rattle.common.proofs.Put.{put_laws}
 use Rattle.common.specs.Limits.{most_bytes, levels_below}
-use Rattle.loaders.specs.declared.reading.Refusal.{Refusal}
-use Rattle.loaders.specs.declared.reading.Refusal.TheVariants.{Malformed, Short}
-use Rattle.loaders.specs.declared.reading.Cursor.{Cursor}
+use Rattle.common.specs.declared.refusal.Refusal.{Refusal}
+use Rattle.common.specs.declared.refusal.Refusal.TheVariants.{MalformedChunk, ShortSlice}
 use Rattle.lundump.specs.declared.functions.Layout.{Layout}
-use Rattle.lundump.specs.declared.functions.Search.{Search}
-use Rattle.lundump.specs.declared.functions.Search.TheVariants.{Left, Found}
-use Rattle.lundump.specs.declared.functions.Walk.{Walk}
-use Rattle.lundump.specs.declared.functions.Walk.TheVariants.{Past, Stopped}
-use Rattle.loaders.specs.Reading.{Result, done, refused, bind, only}
+use Rattle.loaders.specs.Reading.{Outcome, bind, only, read_as, past_of}
 use Rattle.loaders.specs.Loaders.{load_byte}
+use Rattle.loaders.proofs.Same.{ended, end_refused, same_value}
 use Rattle.lundump.specs.Lundump.{Function, load_function, check_header, undump}
-use Rattle.loaders.specs.Cursors.{step, cursor_of, same, none}
-use Rattle.lundump.specs.Search.{search, walk_of, walk}
+use Rattle.lundump.specs.Search.{search}
+use Rattle.lundump.specs.Stands.{ReadBetween}
 use Rattle.chunk.proofs.Laws.{laws}
-use Rattle.index.specs.declared.listing.Listed.{Listed}
-use Rattle.index.specs.declared.listing.FunctionTally.{FunctionTally}
-use Rattle.index.specs.declared.listing.FunctionTally.TheVariants as tally
 use Rattle.index.specs.Listing.{functions_of, places_of, parents_of, no_function, listed_of, room_for_all, listed_in, after_all}
-use Rattle.index.specs.Noting.{tallied, told, roomy, Wrote, WroteBy, WroteAt}
+use Rattle.index.specs.Noting.{main_from, tallied, told, Wrote, WroteAt}
+use Rattle.index.proofs.Parents.{fewer}
 
--- ---- a search for more functions than there are says how many are missing
-search_left : (k : ℕ) (fs : List Function) → length fs ≤ k → search (Left k) fs ≡ Left (k - length fs)
-unfolding search
-search_left k [] h = let z : k ≡ k - 0 = omega arith in ap Left z
-search_left zero (f ∷ fs) h = absurd (omega arith)
-search_left (suc k) (f ∷ fs) h = let z : k - length fs ≡ suc k - length (f ∷ fs) = omega arith in search_left k fs (omega arith) ∙ ap Left z
-
+-- ---- where the main function stands
 module _ (bytes : List ℕ) where
-  -- the walk from the first byte behind the header on is that of the whole chunk
-  from_byte : (s : Search) (X : Result ℕ) → walk (load_function 31) bytes (cursor_of same X) s ≡ walk_of s (bind X (λ _ at. load_function 31 bytes at))
-  unfolding walk
-  from_byte s (done b at) = refl
-  from_byte s (refused e) = refl
-
-  from_header : (s : Search) (X : Result (Unit {0})) → walk (load_function 31) bytes (step same load_byte bytes (cursor_of none X)) s
-      ≡ walk_of s (bind X (λ _ at. bind (load_byte bytes at) (λ _ at₁. load_function 31 bytes at₁)))
-  unfolding step walk
-  from_header s (done u at) = from_byte s (load_byte bytes at)
-  from_header s (refused e) = refl
-
-  module _ (h c : Cursor) (eh : h ≡ cursor_of none (check_header bytes 0)) (ec : c ≡ step same load_byte bytes h) where
-    walked : (s : Search) (w : Walk) → w ≡ walk (load_function 31) bytes c s → w ≡ walk_of s (undump bytes 0)
-    unfolding undump
-    walked s w e = e ∙ (rw (ec, eh) (from_header s (check_header bytes 0)))
-
-  all_of : length bytes ≤ most_bytes → functions_of bytes ≡ undump bytes 0
-  unfolding functions_of
-  all_of l = rw (le-leb (length bytes) most_bytes l)
-
-  pub too_long : most_bytes < length bytes → tally.Not Malformed ≡ tallied (functions_of bytes)
-  unfolding functions_of
+  pub too_long : most_bytes < length bytes → main_from bytes ≡ Err MalformedChunk
+  unfolding main_from
   too_long l = rw (lt-leb (length bytes) most_bytes l)
 
-  module _ (l : length bytes ≤ most_bytes) (h c : Cursor) (w : Walk) (eh : h ≡ cursor_of none (check_header bytes 0)) (ec : c ≡ step same load_byte bytes h)
-      (ew : w ≡ walk (load_function 31) bytes c (Left most_bytes)) where
-    found : (fs : List Function) (at : ℕ) → undump bytes 0 ≡ done fs at → (length fs ≤ most_bytes) × (w ≡ Past at (Left (most_bytes - length fs)))
-    found fs at e =
-        let f : length fs ≤ most_bytes = omega (arith, l, (laws.numbered bytes fs at l e).few) in
-        (f, walked h c eh ec (Left most_bytes) w ew ∙ ap (walk_of (Left most_bytes)) e ∙ ap (Past at) (search_left most_bytes fs f))
+  module _ (few : length bytes ≤ most_bytes) where
+    pub no_header : (e : Refusal) → past_of (check_header bytes 0) ≡ Err e → main_from bytes ≡ Err e
+    unfolding main_from
+    no_header e h = rw (le-leb (length bytes) most_bytes few, end_refused (check_header bytes 0) e h)
 
-    stopped : (e : Refusal) → undump bytes 0 ≡ refused e → w ≡ Stopped e
-    stopped e d = walked h c eh ec (Left most_bytes) w ew ∙ ap (walk_of (Left most_bytes)) d
+    module _ (at : ℕ) (h : past_of (check_header bytes 0) ≡ Ok at) where
+      pub no_byte : (e : Refusal) → load_byte bytes at ≡ Err e → main_from bytes ≡ Err e
+      unfolding main_from
+      no_byte e k = rw (le-leb (length bytes) most_bytes few, (ended (check_header bytes 0) at h).is, k)
 
-    pub left_all : (at n : ℕ) (s : Search) → w ≡ Past at s → s ≡ Left n → (n ≤ most_bytes) × (tally.All (most_bytes - n) ≡ tallied (functions_of bytes))
-    left_all at n s p q = go (undump bytes 0) refl
-      where
-        go : (X : Result (List Function)) → undump bytes 0 ≡ X → (n ≤ most_bytes) × (tally.All (most_bytes - n) ≡ tallied (functions_of bytes))
-        go (done fs past) e =
-            let f = found fs past e in
-            let g : Past at (Left n) ≡ Past past (Left (most_bytes - length fs)) = ap (Past at) (sym q) ∙ sym p ∙ f.1 in
-            let y : n ≡ most_bytes - length fs = cc in
-            let z : most_bytes - n ≡ length fs = omega (arith, y, f.0) in
-            (omega (arith, y), ap tally.All z ∙ ap tallied (sym (all_of l ∙ e)))
-        go (refused x) e =
-            let g : Past at s ≡ Stopped x = sym p ∙ stopped x e in
-            absurd (true≢false (cc))
+      pub main_there : (b main : ℕ) → load_byte bytes at ≡ Ok (b, main) → main_from bytes ≡ Ok main
+      unfolding main_from
+      main_there b main k = rw (le-leb (length bytes) most_bytes few, (ended (check_header bytes 0) at h).is, k)
 
-    pub none_found : (at : ℕ) (s : Search) (a : Layout) → w ≡ Past at s → s ≡ Found a → tally.Not Malformed ≡ tallied (functions_of bytes)
-    none_found at s a p q = go (undump bytes 0) refl
-      where
-        go : (X : Result (List Function)) → undump bytes 0 ≡ X → tally.Not Malformed ≡ tallied (functions_of bytes)
-        go (done fs past) e =
-            let f = found fs past e in
-            let g : Past at (Found a) ≡ Past past (Left (most_bytes - length fs)) = ap (Past at) (sym q) ∙ sym p ∙ f.1 in
-            absurd (true≢false (cc))
-        go (refused x) e =
-            let g : Past at s ≡ Stopped x = sym p ∙ stopped x e in
-            absurd (true≢false (cc))
+  -- so that all functions are read from there on
+  functions_none : (e : Refusal) → main_from bytes ≡ Err e → functions_of bytes ≡ Err e
+  unfolding main_from functions_of undump
+  functions_none e h = go (leb (length bytes) most_bytes) (check_header bytes 0) h
+    where
+      go : (t : Bool) (X : Outcome (Unit {0})) → past_of (only t (bind X (λ _ at. load_byte bytes at))) ≡ Err e
+          → only t (bind X (λ _ at. bind (load_byte bytes at) (λ _ at₁. load_function levels_below bytes at₁))) ≡ Err e
+      go true (Ok (u, at)) k = byte (load_byte bytes at) k
+        where
+          byte : (Y : Outcome ℕ) → past_of Y ≡ Err e → bind Y (λ _ at₁. load_function levels_below bytes at₁) ≡ Err e
+          byte (Ok (b, p)) d = absurd (cc)
+          byte (Err x) d = let y : x ≡ e = cc in ap (λ (z : Refusal). Err z) y
+      go true (Err x) k = let y : x ≡ e = cc in ap (λ (z : Refusal). Err z) y
+      go false X k = let y : MalformedChunk ≡ e = cc in ap (λ (z : Refusal). Err z) y
 
-    pub was_stopped : (e : Refusal) → w ≡ Stopped e → tally.Not e ≡ tallied (functions_of bytes)
-    was_stopped e p = go (undump bytes 0) refl
-      where
-        go : (X : Result (List Function)) → undump bytes 0 ≡ X → tally.Not e ≡ tallied (functions_of bytes)
-        go (done fs past) d =
-            let f = found fs past d in
-            let g : Stopped e ≡ Past past (Left (most_bytes - length fs)) = sym p ∙ f.1 in
-            absurd (true≢false (cc))
-        go (refused x) d =
-            let g : Stopped e ≡ Stopped x = sym p ∙ stopped x d in
-            let y : e ≡ x = cc in
-            ap tally.Not y ∙ ap tallied (sym (all_of l ∙ d))
+  functions_some : (main : ℕ) → main_from bytes ≡ Ok main → functions_of bytes ≡ load_function levels_below bytes main
+  unfolding main_from functions_of undump
+  functions_some main h = go (leb (length bytes) most_bytes) (check_header bytes 0) h
+    where
+      go : (t : Bool) (X : Outcome (Unit {0})) → past_of (only t (bind X (λ _ at. load_byte bytes at))) ≡ Ok main
+          → only t (bind X (λ _ at. bind (load_byte bytes at) (λ _ at₁. load_function levels_below bytes at₁)))
+          ≡ load_function levels_below bytes main
+      go true (Ok (u, at)) k = byte (load_byte bytes at) k
+        where
+          byte : (Y : Outcome ℕ) → past_of Y ≡ Ok main
+              → bind Y (λ _ at₁. load_function levels_below bytes at₁) ≡ load_function levels_below bytes main
+          byte (Ok (b, p)) d = let y : p ≡ main = cc in ap (λ (z : ℕ). load_function levels_below bytes z) y
+          byte (Err x) d = absurd (cc)
+      go true (Err x) k = absurd (cc)
+      go false X k = absurd (cc)
+
+  pub no_main : (e : Refusal) → main_from bytes ≡ Err e → tallied (functions_of bytes) ≡ Err e
+  no_main e h = ap tallied (functions_none e h)
+
+  pub from_main : (main : ℕ) → main_from bytes ≡ Ok main → tallied (functions_of bytes) ≡ tallied (load_function 31 bytes main)
+  from_main main h = ap tallied (functions_some main h)
+
+-- ---- a search for more functions than there are says how many are missing
+search_left : (k : ℕ) (fs : List Function) → length fs ≤ k → search (Err k) fs ≡ Err (k - length fs)
+unfolding search
+search_left k [] h = let z : k - 0 ≡ k = omega arith in rw z
+search_left zero (f ∷ fs) h = absurd (omega arith)
+search_left (suc k) (f ∷ fs) h = let z : k - length fs ≡ suc k - length (f ∷ fs) = omega arith in search_left k fs (omega arith) ∙ ap (λ (n : ℕ). Err n) z
+
+module _ (bytes : List ℕ) (at : ℕ) (few : length bytes ≤ most_bytes) where
+  record Left (n : ℕ) : Type 0 where
+    pub low : n ≤ most_bytes
+    pub is : tallied (load_function 31 bytes at) ≡ Ok (most_bytes - n)
+
+  left_by : (X : Outcome (List Function)) → ReadBetween (length bytes) at X → (s : Result Layout ℕ) (past : ℕ)
+      → read_as (search (Err most_bytes)) X ≡ Ok (s, past)
+      → (n : ℕ) × ((s ≡ Err n) × ((n ≤ most_bytes) × (tallied X ≡ Ok (most_bytes - n))))
+  left_by (Ok (fs, end)) b s past h =
+      let f : length fs ≤ most_bytes = omega (arith, fewer (length bytes) at end fs b) in
+      let e : s ≡ Err (most_bytes - length fs) = sym (same_value (search (Err most_bytes) fs) s end past h) ∙ search_left most_bytes fs f in
+      let z : length fs ≡ most_bytes - (most_bytes - length fs) = omega arith in
+      (most_bytes - length fs, (e, (omega arith, ap (λ (n : ℕ). Ok n) z)))
+  left_by (Err x) b s past h = absurd (cc)
+
+  pub left_few : (n past : ℕ) → read_as (search (Err most_bytes)) (load_function 31 bytes at) ≡ Ok (Err n, past) → n ≤ most_bytes
+  left_few n past h =
+      let l = left_by (load_function 31 bytes at) (laws.all_between 31 bytes at) (Err n) past h in
+      let e : n ≡ l.0 = same_error n l.0 l.1.0 in
+      omega (arith, l.1.1.0)
+    where
+      same_error : (a b : ℕ) → ◌≡◌ {A = Result Layout ℕ} (Err a) (Err b) → a ≡ b
+      same_error a b e = cc
+
+  pub left_all : (n past : ℕ) → read_as (search (Err most_bytes)) (load_function 31 bytes at) ≡ Ok (Err n, past)
+      → tallied (load_function 31 bytes at) ≡ Ok (most_bytes - n)
+  left_all n past h =
+      let l = left_by (load_function 31 bytes at) (laws.all_between 31 bytes at) (Err n) past h in
+      let e : l.0 ≡ n = same_error l.0 n (sym l.1.0) in
+      l.1.1.1 ∙ ap (λ (m : ℕ). Ok (most_bytes - m)) e
+    where
+      same_error : (a b : ℕ) → ◌≡◌ {A = Result Layout ℕ} (Err a) (Err b) → a ≡ b
+      same_error a b e = cc
+
+  pub none_found : (a : Layout) (past : ℕ) → read_as (search (Err most_bytes)) (load_function 31 bytes at) ≡ Ok (Ok a, past)
+      → tallied (load_function 31 bytes at) ≡ Err MalformedChunk
+  none_found a past h =
+      let l = left_by (load_function 31 bytes at) (laws.all_between 31 bytes at) (Ok a) past h in
+      absurd (not_both a l.0 l.1.0)
+    where
+      not_both : (a : Layout) (n : ℕ) → ◌≡◌ {A = Result Layout ℕ} (Ok a) (Err n) → ⊥
+      not_both a n e = cc
+
+  pub was_stopped : (e : Refusal) → read_as (search (Err most_bytes)) (load_function 31 bytes at) ≡ Err e
+      → tallied (load_function 31 bytes at) ≡ Err e
+  was_stopped e h = go (load_function 31 bytes at) h
+    where
+      go : (X : Outcome (List Function)) → read_as (search (Err most_bytes)) X ≡ Err e → tallied X ≡ Err e
+      go (Ok (fs, past)) d = absurd (cc)
+      go (Err x) d = let y : x ≡ e = cc in ap (λ (z : Refusal). Err z) y
 
 -- ---- what is told
-told_is : (X : Result (List Function)) → told (tallied X) ≡ listed_of X
-told_is (done fs at) = refl
-told_is (refused e) = refl
-
-pub counted_is : (X : Result (List Function)) (t : FunctionTally) (r : Listed) → t ≡ tallied X → r ≡ told t → r ≡ listed_of X
-counted_is X t r e h = h ∙ ap told e ∙ told_is X
-
-room_is : (a b : ℕ) (X : Result (List Function)) → roomy a b (tallied X) ≡ tallied (bind X (room_for_all a b))
-unfolding roomy
-room_is a b (done fs at) = go (leb (length fs) a && leb (length fs) b)
-  where
-    go : (t : Bool) → cond t (tally.All (length fs)) (tally.Not Short) ≡ tallied (cond t (done fs at) (refused Short))
-    go true = refl
-    go false = refl
-room_is a b (refused e) = refl
-
-pub with_room_is : (bytes : List ℕ) (a b : ℕ) (t s : FunctionTally) → t ≡ tallied (functions_of bytes) → s ≡ roomy a b t → s ≡ tallied (listed_in bytes a b)
-unfolding listed_in
-with_room_is bytes a b t s e h = h ∙ ap (roomy a b) e ∙ room_is a b (functions_of bytes)
+pub told_is : (X : Outcome (List Function)) → told (tallied X) ≡ listed_of X
+told_is (Ok (fs, at)) = refl
+told_is (Err e) = refl
 
 -- ---- what is stored
-module _ (bytes : List ℕ) (a b : ℕ) (t : FunctionTally) (h : t ≡ tallied (listed_in bytes a b)) where
-  refusal-of : (e : Refusal) → t ≡ tally.Not e → listed_in bytes a b ≡ refused e
-  refusal-of e k = go (listed_in bytes a b) (sym h ∙ k)
-    where
-      go : (X : Result (List Function)) → tallied X ≡ tally.Not e → X ≡ refused e
-      go (done fs at) d = absurd (true≢false (cc))
-      go (refused x) d = let y : x ≡ e = cc in ap refused y
+-- a refusal is told, and nothing is altered
+pub record Nothing (bytes : List ℕ) (pl pa : List ℕ) (e : Refusal) : Type 0 where
+  pub value : tallied (listed_in bytes (length pl) (length pa)) ≡ Err e
+  pub places : after_all places_of (listed_in bytes (length pl) (length pa)) pl ≡ pl
+  pub parents : after_all parents_of (listed_in bytes (length pl) (length pa)) pa ≡ pa
 
-  pub nothing_stored : (part : List Function → List ℕ) (e : Refusal) (out : List ℕ) → t ≡ tally.Not e → out ≡ after_all part (listed_in bytes a b) out
+module _ (bytes pl pa : List ℕ) where
+  nothing : (e : Refusal) → listed_in bytes (length pl) (length pa) ≡ Err e → Nothing bytes pl pa e
   unfolding after_all
-  nothing_stored part e out k = rw (refusal-of e k)
+  nothing e h = record { value = rw h; places = rw h; parents = rw h }
 
-record Room (bytes : List ℕ) (a b : ℕ) (X : Result (List Function)) : Type 0 where
-  pub functions : List Function
-  pub past : ℕ
-  pub is : X ≡ done functions past
-  pub all : undump bytes 0 ≡ done functions past
-  pub for_places : length functions ≤ a
-  pub for_parents : length functions ≤ b
+  pub nothing_read : (e : Refusal) → main_from bytes ≡ Err e → Nothing bytes pl pa e
+  unfolding listed_in
+  nothing_read e h = nothing e (rw (functions_none bytes e h))
 
-module _ (bytes : List ℕ) (a b : ℕ) where
-  fitting : (fs : List Function) (at : ℕ) (s t : Bool) → leb (length fs) a ≡ s → leb (length fs) b ≡ t → undump bytes 0 ≡ done fs at → (n : ℕ)
-      → tallied (cond (s && t) (done fs at) (refused Short)) ≡ tally.All n → Room bytes a b (cond (s && t) (done fs at) (refused Short))
-  fitting fs at true true ea eb u n d =
-      record {
-        functions = fs;
-        past = at;
-        is = refl;
-        all = u;
-        for_places = leb-true (length fs) a ea;
-        for_parents = leb-true (length fs) b eb;
-      }
-  fitting fs at true false ea eb u n d = absurd (true≢false (cc))
-  fitting fs at false t ea eb u n d = absurd (true≢false (cc))
+  module _ (main : ℕ) (h : main_from bytes ≡ Ok main) where
+    pub nothing_counted : (e : Refusal) → tallied (load_function 31 bytes main) ≡ Err e → Nothing bytes pl pa e
+    unfolding listed_in
+    nothing_counted e k = nothing e (rw (functions_some bytes main h) (go (load_function 31 bytes main) k))
+      where
+        go : (X : Outcome (List Function)) → tallied X ≡ Err e → bind X (room_for_all (length pl) (length pa)) ≡ Err e
+        go (Ok (fs, at)) d = absurd (cc)
+        go (Err x) d = let y : x ≡ e = cc in ap (λ (z : Refusal). Err z) y
 
-  in_room : (s : Bool) (X : Result (List Function)) → undump bytes 0 ≡ X → (n : ℕ)
-      → tallied (bind (only s X) (room_for_all a b)) ≡ tally.All n
-      → Room bytes a b (bind (only s X) (room_for_all a b))
-  in_room true (done fs at) u n d = fitting fs at (leb (length fs) a) (leb (length fs) b) refl refl u n d
-  in_room true (refused x) u n d = absurd (true≢false (cc))
-  in_room false X u n d = absurd (true≢false (cc))
+    -- all of them, so many
+    record All (n : ℕ) : Type 0 where
+      pub functions : List Function
+      pub past : ℕ
+      pub is : load_function 31 bytes main ≡ Ok (functions, past)
+      pub count : length functions ≡ n
 
-  room_for : (t : FunctionTally) (n : ℕ) → t ≡ tallied (listed_in bytes a b) → t ≡ tally.All n → Room bytes a b (listed_in bytes a b)
-  unfolding listed_in functions_of
-  room_for t n e k = in_room (leb (length bytes) most_bytes) (undump bytes 0) refl n (sym e ∙ k)
+    all_of : (n : ℕ) (X : Outcome (List Function)) → load_function 31 bytes main ≡ X → tallied X ≡ Ok n → All n
+    all_of n (Ok (fs, at)) e d = record { functions = fs; past = at; is = e; count = (let y : length fs ≡ n = cc in y) }
+    all_of n (Err x) e d = absurd (cc)
 
-module _ (bytes : List ℕ) (h c : Cursor) (eh : h ≡ cursor_of none (check_header bytes 0)) (ec : c ≡ step same load_byte bytes h) (pl pa pl' pa' : List ℕ)
-    (w : WroteAt (load_function levels_below) bytes c no_function 0 pl pa pl' pa') where
-  -- what was written is what the whole chunk says
-  by_byte : (X : Result ℕ) → WroteBy (load_function 31) bytes (cursor_of same X) no_function 0 pl pa pl' pa'
-      → Wrote (bind X (λ _ at. load_function 31 bytes at)) no_function 0 pl pa pl' pa'
-  by_byte (done b at) v = v
-  by_byte (refused e) v = tt
+    module _ (n : ℕ) (k : tallied (load_function 31 bytes main) ≡ Ok n) where
+      a : All n
+      a = all_of n (load_function 31 bytes main) refl k
 
-  by_header : (X : Result (Unit {0})) → WroteBy (load_function 31) bytes (step same load_byte bytes (cursor_of none X)) no_function 0 pl pa pl' pa'
-      → Wrote (bind X (λ _ at. bind (load_byte bytes at) (λ _ at₁. load_function 31 bytes at₁))) no_function 0 pl pa pl' pa'
-  unfolding step
-  by_header (done u at) v = by_byte (load_byte bytes at) v
-  by_header (refused e) v = tt
+      listed_by : listed_in bytes (length pl) (length pa)
+          ≡ cond (leb (length a.functions) (length pl) && leb (length a.functions) (length pa)) (Ok (a.functions, a.past)) (Err ShortSlice)
+      unfolding listed_in
+      listed_by = rw (functions_some bytes main h, a.is)
 
-  whole : Wrote (undump bytes 0) no_function 0 pl pa pl' pa'
-  unfolding undump
-  whole =
-      by_header (check_header bytes 0)
-      (subst (λ (d : Cursor). WroteBy (load_function 31) bytes d no_function 0 pl pa pl' pa')
-      (ec ∙ ap (step same load_byte bytes) eh) w.written)
+      pub no_room : min (length pl) (length pa) < n → Nothing bytes pl pa ShortSlice
+      no_room l = nothing ShortSlice (listed_by ∙ go (leb (length a.functions) (length pl)) (leb (length a.functions) (length pa)) refl refl)
+        where
+          go : (x y : Bool) → leb (length a.functions) (length pl) ≡ x → leb (length a.functions) (length pa) ≡ y
+              → cond {A = Outcome (List Function)} (x && y) (Ok (a.functions, a.past)) (Err ShortSlice) ≡ Err ShortSlice
+          go true true p q = absurd (omega (arith, leb-true _ _ p, leb-true _ _ q, a.count))
+          go true false p q = refl
+          go false y p q = refl
 
-  pub all_stored : (t : FunctionTally) (n : ℕ) → t ≡ tallied (listed_in bytes (length pl) (length pa)) → t ≡ tally.All n
-      → (pl' ≡ after_all places_of (listed_in bytes (length pl) (length pa)) pl) × (pa' ≡ after_all parents_of (listed_in bytes (length pl) (length pa)) pa)
-  unfolding after_all
-  all_stored t n e k =
-      let r = room_for bytes (length pl) (length pa) t n e k in
-      let v = subst (λ (X : Result (List Function)). Wrote X no_function 0 pl pa pl' pa') r.all whole
-      (omega (arith, r.for_places)) (omega (arith, r.for_parents)) in (
-        rw r.is (v.0 ∙ put_laws.start pl (places_of r.functions)),
-        rw r.is (v.1 ∙ put_laws.start pa (parents_of r.functions)),
-      )
+      pub record Stored (pl' pa' : List ℕ) : Type 0 where
+        pub value : tallied (listed_in bytes (length pl) (length pa)) ≡ Ok n
+        pub places : after_all places_of (listed_in bytes (length pl) (length pa)) pl ≡ pl'
+        pub parents : after_all parents_of (listed_in bytes (length pl) (length pa)) pa ≡ pa'
+
+      pub all_stored : n ≤ length pl → n ≤ length pa → (pl' pa' : List ℕ)
+          → WroteAt (load_function levels_below) bytes main no_function 0 pl pa pl' pa' → Stored pl' pa'
+      unfolding after_all
+      all_stored l m pl' pa' w =
+          let e : listed_in bytes (length pl) (length pa) ≡ Ok (a.functions, a.past) =
+          listed_by ∙ rw (le-leb (length a.functions) (length pl) (omega (arith, a.count)), le-leb (length a.functions) (length pa) (omega (arith, a.count))) in
+          let v = subst (λ (X : Outcome (List Function)). Wrote X no_function 0 pl pa pl' pa') a.is w.written
+          (omega (arith, a.count)) (omega (arith, a.count)) in
+          record {
+            value = rw e (ap (λ (k : ℕ). Ok k) a.count);
+            places = rw e (sym (v.0 ∙ put_laws.start pl (places_of a.functions)));
+            parents = rw e (sym (v.1 ∙ put_laws.start pa (parents_of a.functions)));
+          }

@@ -12,12 +12,14 @@ use lib.Seq.{drop-cons}
 use borrow.Author.Tests.{ltb-true, ltb-false, leb-true, le-leb}
 use Rattle.common.proofs.Order.{split}
 use Rattle.common.specs.Limits.{most_bytes, levels_below}
-use Rattle.loaders.specs.declared.reading.Refusal.{Refusal}
-use Rattle.loaders.specs.declared.reading.Refusal.TheVariants.{Short}
-use Rattle.loaders.specs.Reading.{Result, done, refused, bind, only}
+use Rattle.common.specs.declared.refusal.Refusal.{Refusal}
+use Rattle.common.specs.declared.refusal.Refusal.TheVariants.{MalformedChunk, ShortSlice}
+use Rattle.std.proofs.Common.{Ok, Err}
+use Rattle.loaders.specs.Reading.{Outcome, bind, only}
 use Rattle.loaders.specs.Loaders.{load_byte}
-use Rattle.lundump.specs.Lundump.{Function, load_function, check_header, undump}
-use Rattle.lundump.specs.Chunk.{pick, chosen, values_of, counts_of, Rooms, fits, room_for, filled, after}
+use Rattle.lundump.specs.Lundump.{Function, load_protos, load_function, check_header, undump}
+use Rattle.lundump.specs.Chunk.{pick, chosen, values_of, counts_of, fits, room_for, filled, after}
+use Rattle.lundump.specs.declared.functions.Rooms.{Rooms}
 use Rattle.lundump.specs.Stands.{Stands, OneRead, StandBetween, ReadBetween}
 use Rattle.chunk.proofs.Laws as chunk
 use Rattle.lines.specs.declared.choosing.Choice.TheVariants.{Number, Place}
@@ -27,33 +29,33 @@ use Rattle.index.specs.Listing.{functions_of, places_of, stands_in, parents_from
 use Rattle.index.specs.Laws.{AtItsPlace, Inner, Listing, Laws}
 use Rattle.index.proofs.Levels.{levels_grow}
 use Rattle.index.proofs.Parents.{places_count, parents_count, ends}
-use Rattle.index.proofs.Notes.{function_read}
+use Rattle.index.proofs.Notes.{main_first}
 
 -- ---- by its place
-module _ (bytes : List ℕ) (short : length bytes ≤ most_bytes) (k : ℕ) (f : Function) (at : ℕ) (e : chosen k bytes ≡ done f at) where
-  stood : (X : Result Function) → X ≡ done f at → OneRead bytes X → Stands bytes f
+module _ (bytes : List ℕ) (short : length bytes ≤ most_bytes) (k : ℕ) (f : Function) (at : ℕ) (e : chosen k bytes ≡ Ok (f, at)) where
+  stood : (X : Outcome Function) → X ≡ Ok (f, at) → OneRead bytes X → Stands bytes f
   stood X d o = rw d at o
 
-  same : function_at f.first_at bytes ≡ done f f.end_at
+  same : function_at f.first_at bytes ≡ Ok (f, f.end_at)
   unfolding function_at pick
   same =
       let s = stood (chosen k bytes) e ((chunk.laws).stands k bytes) in
       rw (le-leb (length bytes) most_bytes short, levels_grow bytes s.level levels_below s.few_levels f.first_at (f ∷ s.within) f.end_at s.whole)
 
   module _ (rooms : Rooms) where
-    at_place : filled_by (Place f.first_at) bytes rooms ≡ cond (fits f rooms) (done f f.end_at) (refused Short)
+    at_place : filled_by (Place f.first_at) bytes rooms ≡ cond (fits f rooms) (Ok (f, f.end_at)) (Err ShortSlice)
     unfolding filled_by
-    at_place = ap (λ (X : Result Function). bind X (room_for rooms)) same
+    at_place = ap (λ (X : Outcome Function). bind X (room_for rooms)) same
 
-    at_number : filled_by (Number k) bytes rooms ≡ cond (fits f rooms) (done f at) (refused Short)
+    at_number : filled_by (Number k) bytes rooms ≡ cond (fits f rooms) (Ok (f, at)) (Err ShortSlice)
     unfolding filled_by
-    at_number = ap (λ (X : Result Function). bind X (room_for rooms)) e
+    at_number = ap (λ (X : Outcome Function). bind X (room_for rooms)) e
 
     counts : counts_of (filled_by (Place f.first_at) bytes rooms) ≡ counts_of (filled_by (Number k) bytes rooms)
     unfolding counts_of
     counts = rw (at_place, at_number) (go (fits f rooms))
       where
-        go : (b : Bool) → counts_of (cond b (done f f.end_at) (refused Short)) ≡ counts_of (cond b (done f at) (refused Short))
+        go : (b : Bool) → counts_of (cond b (Ok (f, f.end_at)) (Err ShortSlice)) ≡ counts_of (cond b (Ok (f, at)) (Err ShortSlice))
         go true = refl
         go false = refl
 
@@ -63,7 +65,7 @@ module _ (bytes : List ℕ) (short : length bytes ≤ most_bytes) (k : ℕ) (f :
     unfolding after
     slices part out = rw (at_place, at_number) (go (fits f rooms))
       where
-        go : (b : Bool) → after part (cond b (done f f.end_at) (refused Short)) out ≡ after part (cond b (done f at) (refused Short)) out
+        go : (b : Bool) → after part (cond b (Ok (f, f.end_at)) (Err ShortSlice)) out ≡ after part (cond b (Ok (f, at)) (Err ShortSlice)) out
         go true = refl
         go false = refl
 
@@ -159,41 +161,41 @@ below size lo hi (f ∷ fs) (suc k) d b h = below size (f.first_at + 1) hi fs k 
 -- ---- the whole chunk is a function
 record FromFirst (bytes : List ℕ) (fs : List Function) (at : ℕ) : Type 0 where
   pub first : ℕ
-  pub whole : load_function levels_below bytes first ≡ done fs at
+  pub whole : load_function levels_below bytes first ≡ Ok (fs, at)
 
 module _ (bytes : List ℕ) (fs : List Function) (at : ℕ) where
-  from_byte : (X : Result ℕ) → bind X (λ _ p. load_function 31 bytes p) ≡ done fs at → FromFirst bytes fs at
-  from_byte (done b p) e = record { first = p; whole = e }
-  from_byte (refused x) e = absurd (true≢false (cc))
+  from_byte : (X : Outcome ℕ) → bind X (λ _ p. load_function 31 bytes p) ≡ Ok (fs, at) → FromFirst bytes fs at
+  from_byte (Ok (b, p)) e = record { first = p; whole = e }
+  from_byte (Err x) e = absurd (true≢false (cc))
 
-  from_header : (X : Result (Unit {0})) → bind X (λ _ p. bind (load_byte bytes p) (λ _ q. load_function 31 bytes q)) ≡ done fs at → FromFirst bytes fs at
-  from_header (done u p) e = from_byte (load_byte bytes p) e
-  from_header (refused x) e = absurd (true≢false (cc))
+  from_header : (X : Outcome (Unit {0})) → bind X (λ _ p. bind (load_byte bytes p) (λ _ q. load_function 31 bytes q)) ≡ Ok (fs, at) → FromFirst bytes fs at
+  from_header (Ok (u, p)) e = from_byte (load_byte bytes p) e
+  from_header (Err x) e = absurd (true≢false (cc))
 
-  from_first : undump bytes 0 ≡ done fs at → FromFirst bytes fs at
+  from_first : undump bytes 0 ≡ Ok (fs, at) → FromFirst bytes fs at
   unfolding undump
   from_first e = from_header (check_header bytes 0) e
 
   record Both : Type 0 where
     pub short : length bytes ≤ most_bytes
-    pub all : undump bytes 0 ≡ done fs at
+    pub all : undump bytes 0 ≡ Ok (fs, at)
 
-  both : functions_of bytes ≡ done fs at → Both
+  both : functions_of bytes ≡ Ok (fs, at) → Both
   unfolding functions_of
   both e = go (leb (length bytes) most_bytes) refl e
     where
-      go : (b : Bool) → leb (length bytes) most_bytes ≡ b → only b (undump bytes 0) ≡ done fs at → Both
+      go : (b : Bool) → leb (length bytes) most_bytes ≡ b → only b (undump bytes 0) ≡ Ok (fs, at) → Both
       go true h d = record { short = leb-true (length bytes) most_bytes h; all = d }
       go false h d = absurd (true≢false (cc))
 
-  module _ (e : functions_of bytes ≡ done fs at) where
+  module _ (e : functions_of bytes ≡ Ok (fs, at)) where
     -- every byte of the functions is the main one's
     main_encloses : (k : ℕ) (d : Function) → k < length fs → (get_or fs k d).first_at < (get_or fs 0 d).end_at
     main_encloses k d h =
         let w = from_first (both e).all in
-        let f = function_read levels_below bytes w.first fs at 0 w.whole in
+        let f = main_first (load_protos levels_below) bytes w.first fs at w.whole in
         let b : StandBetween (length bytes) w.first fs at = subst
-        (λ (X : Result (List Function)). ReadBetween (length bytes) w.first X) w.whole
+        (λ (X : Outcome (List Function)). ReadBetween (length bytes) w.first X) w.whole
         ((chunk.laws).all_between levels_below bytes w.first) in
         let z : (get_or fs 0 d).end_at ≡ at = ap (λ (gs : List Function). (get_or gs 0 d).end_at) f.is ∙ f.last in
         omega (arith, z, below (length bytes) w.first at fs k d b h)
@@ -230,7 +232,7 @@ module _ (bytes : List ℕ) (fs : List Function) (at : ℕ) where
         go [] q = absurd (omega arith)
         go (g ∷ gs) q = refl
 
-listing : (bytes : List ℕ) (fs : List Function) (at : ℕ) → functions_of bytes ≡ done fs at → Listing bytes fs at
+listing : (bytes : List ℕ) (fs : List Function) (at : ℕ) → functions_of bytes ≡ Ok (fs, at) → Listing bytes fs at
 listing bytes fs at e =
     let b = both bytes fs at e in
     let n = (chunk.laws).numbered bytes fs at b.short b.all in
@@ -247,17 +249,17 @@ listing bytes fs at e =
       parent = inner bytes fs at e;
     }
 
-refusing : (bytes : List ℕ) (e : Refusal) (k : ℕ) → functions_of bytes ≡ refused e → chosen k bytes ≡ refused e
+refusing : (bytes : List ℕ) (e : Refusal) (k : ℕ) → functions_of bytes ≡ Err e → chosen k bytes ≡ Err e
 unfolding functions_of chosen
 refusing bytes e k h = go (leb (length bytes) most_bytes) (undump bytes 0) h
   where
-    go : (b : Bool) (X : Result (List Function)) → only b X ≡ refused e → only b (bind X (pick k)) ≡ refused e
-    go true (done fs at) d = absurd (true≢false (cc))
-    go true (refused x) d = let y : x ≡ e = cc in ap refused y
+    go : (b : Bool) (X : Outcome (List Function)) → only b X ≡ Err e → only b (bind X (pick k)) ≡ Err e
+    go true (Ok (fs, at)) d = absurd (true≢false (cc))
+    go true (Err x) d = let y : x ≡ e = cc in ap (λ (z : Refusal). Err z) y
     go false X d = let y = d in again y
       where
-        again : only {A = List Function} false X ≡ refused e → only {A = Function} false (bind X (pick k)) ≡ refused e
-        again q = let w : Rattle.loaders.specs.declared.reading.Refusal.TheVariants.Malformed ≡ e = cc in ap refused w
+        again : only {A = List Function} false X ≡ Err e → only {A = Function} false (bind X (pick k)) ≡ Err e
+        again q = let w : MalformedChunk ≡ e = cc in ap (λ (z : Refusal). Err z) w
 
 by_number : (k : ℕ) (bytes : List ℕ) (rooms : Rooms) → filled_by (Number k) bytes rooms ≡ filled k bytes rooms
 unfolding filled_by filled

@@ -4,26 +4,27 @@ use mathlib.Core.Bool.{true≢false}
 use mathlib.Core.List.{List}
 use Prim.Native.Nat.{ℕ, zero, suc, ◌≤◌}
 use native.Mathlib.Omega.{arith}
-use Rattle.loaders.specs.Reading.{Result, done, refused, Reader, bind}
+use Rattle.std.proofs.Common.{Ok, Err}
+use Rattle.loaders.specs.Reading.{Outcome, Reader, bind}
 use Rattle.loaders.specs.Loaders.{load_int}
 use Rattle.lundump.specs.Lundump.{Function, load_head, load_code, load_constants, load_upvalues}
 use Rattle.lundump.specs.Lundump.{function_with, several, none_of, load_protos, load_function}
 use Rattle.index.proofs.Thens.{then1, then2, then3, then4, then5}
 
-bind_same : {A B : Type 0} (X : Result A) (f g : A → ℕ → Result B) (b : B) (p : ℕ) → ((a : A) (at : ℕ) → f a at ≡ done b p → g a at ≡ done b p)
-    → bind X f ≡ done b p → bind X g ≡ done b p
-bind_same (done a at) f g b p h e = h a at e
-bind_same (refused x) f g b p h e = e
+bind_same : {A B : Type 0} (X : Outcome A) (f g : A → ℕ → Outcome B) (b : B) (p : ℕ) → ((a : A) (at : ℕ) → f a at ≡ Ok (b, p) → g a at ≡ Ok (b, p))
+    → bind X f ≡ Ok (b, p) → bind X g ≡ Ok (b, p)
+bind_same (Ok (a, at)) f g b p h e = h a at e
+bind_same (Err x) f g b p h e = e
 
-bind_grows : {A B : Type 0} (X Y : Result A) (f g : A → ℕ → Result B) (b : B) (p : ℕ) → ((a : A) (at : ℕ) → X ≡ done a at → Y ≡ done a at)
-    → ((a : A) (at : ℕ) → f a at ≡ done b p → g a at ≡ done b p) → bind X f ≡ done b p → bind Y g ≡ done b p
-bind_grows (done a at) Y f g b p y h e = rw (y a at refl) (h a at e)
-bind_grows (refused x) Y f g b p y h e = absurd (true≢false (cc))
+bind_grows : {A B : Type 0} (X Y : Outcome A) (f g : A → ℕ → Outcome B) (b : B) (p : ℕ) → ((a : A) (at : ℕ) → X ≡ Ok (a, at) → Y ≡ Ok (a, at))
+    → ((a : A) (at : ℕ) → f a at ≡ Ok (b, p) → g a at ≡ Ok (b, p)) → bind X f ≡ Ok (b, p) → bind Y g ≡ Ok (b, p)
+bind_grows (Ok (a, at)) Y f g b p y h e = rw (y a at refl) (h a at e)
+bind_grows (Err x) Y f g b p y h e = absurd (true≢false (cc))
 
 module _ (bytes : List ℕ) where
   -- what one reader reads, the other does
   abbrev Grows : Reader (List Function) → Reader (List Function) → Type 0
-  Grows r s = (at : ℕ) (fs : List Function) (p : ℕ) → r bytes at ≡ done fs p → s bytes at ≡ done fs p
+  Grows r s = (at : ℕ) (fs : List Function) (p : ℕ) → r bytes at ≡ Ok (fs, p) → s bytes at ≡ Ok (fs, p)
 
   module _ (P Q : Reader (List Function)) (grow : Grows P Q) where
     function_grows : Grows (function_with P) (function_with Q)
@@ -43,7 +44,7 @@ module _ (bytes : List ℕ) where
         bind_grows (r bytes at) (s bytes at) _ _ fs p (grow at) (λ gs at₁.
         bind_grows (several r n bytes at₁) (several s n bytes at₁) _ _ fs p (several_grows n at₁) (λ more at₂ k. k)) e
 
-  none_grows : (s : Reader (List Function)) (n at : ℕ) (fs : List Function) (p : ℕ) → none_of n bytes at ≡ done fs p → several s n bytes at ≡ done fs p
+  none_grows : (s : Reader (List Function)) (n at : ℕ) (fs : List Function) (p : ℕ) → none_of n bytes at ≡ Ok (fs, p) → several s n bytes at ≡ Ok (fs, p)
   unfolding none_of several
   none_grows s zero at fs p e = e
   none_grows s (suc n) at fs p e = absurd (true≢false (cc))

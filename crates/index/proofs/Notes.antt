@@ -1,203 +1,209 @@
 -- What is stored of the functions that are read. Assumes nothing.
 use mathlib.Core.Path.{◌≡◌, refl, sym, ap, subst, ◌∙◌}
-use mathlib.Core.Bool.{true≢false}
 use mathlib.Core.List.{List, [], ◌∷◌, ◌++◌}
 use Prim.Native.Nat.{ℕ, zero, suc, ◌+◌, ◌-◌, ◌≤◌, ◌<◌}
 use native.Mathlib.Omega.{arith}
-use native.Mathlib.Numerals.{add-one}
 use lib.ListN.{length, length-append}
 use Rattle.common.specs.Lists.{put}
 use Rattle.common.proofs.Put.{put_laws}
-use Rattle.loaders.specs.declared.reading.Refusal.{Refusal}
-use Rattle.loaders.specs.declared.reading.Refusal.TheVariants.{TooDeep}
-use Rattle.loaders.specs.declared.reading.Cursor.{Cursor}
-use Rattle.loaders.specs.declared.reading.Cursor.TheVariants.{At, Refused}
-use Rattle.loaders.specs.Reading.{Result, done, refused, Reader, bind}
-use Rattle.loaders.specs.Loaders.{Constant, Text, load_int}
+use Rattle.common.specs.declared.refusal.Refusal.{Refusal}
+use Rattle.common.specs.declared.refusal.Refusal.TheVariants.{TooDeep}
+use Rattle.std.proofs.Common.{Ok, Err}
+use Rattle.loaders.specs.Reading.{Outcome, Reader, bind, read_as, past_of}
+use Rattle.loaders.specs.Loaders.{Text, load_int}
+use Rattle.loaders.specs.declared.constants.Constant.{Constant}
+use Rattle.loaders.proofs.Same.{Was, was, was_refused, Ended, ended, end_refused, same_value, same_past}
 use Rattle.lundump.specs.Lundump.{Function, load_head, load_code, load_constants}
 use Rattle.lundump.specs.Lundump.{load_upvalues, load_lines, load_names, function_with, several, none_of, load_protos}
 use Rattle.lundump.specs.Lundump.{load_function}
 use Rattle.lundump.specs.Chunk.{values_of}
-use Rattle.loaders.specs.Cursors.{step, cursor_of, valued, position_of, cursor_value, same, none}
 use Rattle.lundump.specs.Stands.{StandBetween, ReadBetween}
 use Rattle.chunk.proofs.Laws.{laws}
 use Rattle.index.specs.Listing.{places_of, parents_from}
-use Rattle.index.specs.Noting.{Noted, Wrote, WroteBy, WroteAt}
-use Rattle.lines.proofs.Cursors.{refused_is, done_is}
+use Rattle.index.specs.Noting.{Noted, Wrote, WroteAt}
 use Rattle.index.proofs.Thens.{own, then1, then2, then3, then4, then5, then6, then7}
 use Rattle.index.proofs.Parents.{places_both, places_count, parents_count, ends, fewer, parents_both, parents_function}
 
--- ---- the answer: how many functions were read
-module _ (bytes : List ℕ) (P : Reader (List Function)) where
-  abbrev end : Cursor → Cursor → Cursor
-  end w n = valued (cursor_value w + 1) n
+-- what the code gives, and what it leaves
+pub record Gave (r : Reader (List Function)) (bytes : List ℕ) (at outer i : ℕ) (pl pa pl' pa' : List ℕ) (count : Outcome ℕ) : Type 0 where
+  pub value : count ≡ read_as length (r bytes at)
+  pub wrote_at : WroteAt r bytes at outer i pl pa pl' pa'
 
-  abbrev from6 : Cursor → Cursor → Cursor → Cursor
-  from6 u w l = end w (step none (load_names (cursor_value u)) bytes l)
+module _ (r : Reader (List Function)) (bytes : List ℕ) (at outer i : ℕ) (pl pa pl' pa' : List ℕ)
+    (sp : length pl' ≡ length pl) (sq : length pa' ≡ length pa) where
+  pub gave_refused : (e : Refusal) → r bytes at ≡ Err e → Gave r bytes at outer i pl pa pl' pa' (Err e)
+  gave_refused e h =
+      record {
+        value = rw h;
+        wrote_at = record {
+          places_same = sp;
+          parents_same = sq;
+          written = subst (λ (X : Outcome (List Function)). Wrote X outer i pl pa pl' pa') (sym h) tt;
+        };
+      }
 
-  abbrev from5 : Cursor → Cursor → Cursor
-  from5 u w = from6 u w (step length load_lines bytes w)
+  pub gave : (X : Outcome (List Function)) → r bytes at ≡ X → (count : Outcome ℕ) → count ≡ read_as length X
+      → Wrote X outer i pl pa pl' pa' → Gave r bytes at outer i pl pa pl' pa' count
+  gave X h count e v =
+      record {
+        value = rw h e;
+        wrote_at = record {
+          places_same = sp;
+          parents_same = sq;
+          written = subst (λ (Y : Outcome (List Function)). Wrote Y outer i pl pa pl' pa') (sym h) v;
+        };
+      }
 
-  abbrev from4 : Cursor → Cursor
-  from4 u = from5 u (step length P bytes u)
+-- ---- one function: its parts in order, up to the first that is refused
+pub record FunctionRead (P : Reader (List Function)) (bytes : List ℕ) (at from behind count past : ℕ) : Type 0 where
+  pub main : Function
+  pub inner : List Function
+  pub is : function_with P bytes at ≡ Ok (main ∷ inner, past)
+  pub first : main.first_at ≡ at
+  pub last : main.end_at ≡ past
+  pub within : P bytes from ≡ Ok (inner, behind)
+  pub counted : length inner ≡ count
 
-  abbrev from3 : Cursor → Cursor
-  from3 q = from4 (step same load_upvalues bytes q)
+-- by what each part was read to
+module _ (bytes : List ℕ) (P : Reader (List Function)) (at₀ : ℕ)
+    (stack at₁ : ℕ) (h : load_head bytes at₀ ≡ Ok (stack, at₁))
+    (code : List ℕ) (at₂ : ℕ) (k : load_code bytes at₁ ≡ Ok (code, at₂))
+    (ks : List Constant) (at₃ : ℕ) (q : load_constants bytes at₂ ≡ Ok (ks, at₃))
+    (n at₄ : ℕ) (u : load_upvalues bytes at₃ ≡ Ok (n, at₄))
+    (gs : List Function) (at₅ : ℕ) (w : P bytes at₄ ≡ Ok (gs, at₅)) (inner : ℕ) (ei : length gs ≡ inner)
+    (locals : List ℕ) (at₆ : ℕ) (l : load_lines bytes at₅ ≡ Ok (locals, at₆))
+    (names : List Text) (at₇ : ℕ) (m : load_names n bytes at₆ ≡ Ok (names, at₇)) where
+  read_by : FunctionRead P bytes at₀ at₄ at₅ inner at₇
+  unfolding function_with
+  read_by =
+      record {
+        main = own at₀ at₁ code at₂ ks n at₅ at₆ names at₇;
+        inner = gs;
+        is = rw (h, k, q, u, w, l, m);
+        first = refl;
+        last = refl;
+        within = w;
+        counted = ei;
+      }
 
-  abbrev from2 : Cursor → Cursor
-  from2 k = from3 (step length load_constants bytes k)
+module _ (bytes : List ℕ) (P : Reader (List Function)) (at₀ : ℕ) where
+  abbrev whole-of : Outcome (List Function)
+  whole-of = function_with P bytes at₀
 
-  abbrev from1 : Cursor → Cursor
-  from1 h = from2 (step length load_code bytes h)
+  pub no_head : (e : Refusal) → load_head bytes at₀ ≡ Err e → whole-of ≡ Err e
+  unfolding function_with
+  no_head e h = rw h
 
-  a7 : (at₀ at₁ : ℕ) (code : List ℕ) (at₂ : ℕ) (ks : List Constant) (n : ℕ) (inner : List Function) (at₅ at₆ : ℕ) (X : Result (List Text))
-      → end (At at₅ (length inner)) (cursor_of none X) ≡ cursor_of length (bind X (then7 bytes P at₀ at₁ code at₂ ks n inner at₅ at₆))
-  a7 at₀ at₁ code at₂ ks n inner at₅ at₆ (done names at₇) = ap (At at₇) (add-one (length inner))
-  a7 at₀ at₁ code at₂ ks n inner at₅ at₆ (refused e) = refl
+  module _ (stack at₁ : ℕ) (h : load_head bytes at₀ ≡ Ok (stack, at₁)) where
+    pub no_code : (e : Refusal) → read_as length (load_code bytes at₁) ≡ Err e → whole-of ≡ Err e
+    unfolding function_with
+    no_code e k = rw (h, was_refused length (load_code bytes at₁) e k)
 
-  a6 : (at₀ at₁ : ℕ) (code : List ℕ) (at₂ : ℕ) (ks : List Constant) (n at₄ : ℕ) (inner : List Function) (at₅ : ℕ) (X : Result (List ℕ))
-      → from6 (At at₄ n) (At at₅ (length inner)) (cursor_of length X) ≡ cursor_of length (bind X (then6 bytes P at₀ at₁ code at₂ ks n inner at₅))
-  unfolding step
-  a6 at₀ at₁ code at₂ ks n at₄ inner at₅ (done z at₆) = a7 at₀ at₁ code at₂ ks n inner at₅ at₆ (load_names n bytes at₆)
-  a6 at₀ at₁ code at₂ ks n at₄ inner at₅ (refused e) = refl
+    module _ (words at₂ : ℕ) (k : read_as length (load_code bytes at₁) ≡ Ok (words, at₂)) where
+      abbrev code : Was length (load_code bytes at₁) words at₂
+      code = was length (load_code bytes at₁) words at₂ k
 
-  a5 : (at₀ at₁ : ℕ) (code : List ℕ) (at₂ : ℕ) (ks : List Constant) (n at₄ : ℕ) (X : Result (List Function))
-      → from5 (At at₄ n) (cursor_of length X) ≡ cursor_of length (bind X (then5 bytes P at₀ at₁ code at₂ ks n))
-  unfolding step
-  a5 at₀ at₁ code at₂ ks n at₄ (done inner at₅) = a6 at₀ at₁ code at₂ ks n at₄ inner at₅ (load_lines bytes at₅)
-  a5 at₀ at₁ code at₂ ks n at₄ (refused e) = refl
+      pub no_constants : (e : Refusal) → read_as length (load_constants bytes at₂) ≡ Err e → whole-of ≡ Err e
+      unfolding function_with
+      no_constants e q = rw (h, code.is, was_refused length (load_constants bytes at₂) e q)
 
-  a4 : (at₀ at₁ : ℕ) (code : List ℕ) (at₂ : ℕ) (ks : List Constant) (X : Result ℕ)
-      → from4 (cursor_of same X) ≡ cursor_of length (bind X (then4 bytes P at₀ at₁ code at₂ ks))
-  unfolding step
-  a4 at₀ at₁ code at₂ ks (done n at₄) = a5 at₀ at₁ code at₂ ks n at₄ (P bytes at₄)
-  a4 at₀ at₁ code at₂ ks (refused e) = refl
+      module _ (constants at₃ : ℕ) (q : read_as length (load_constants bytes at₂) ≡ Ok (constants, at₃)) where
+        abbrev ks : Was length (load_constants bytes at₂) constants at₃
+        ks = was length (load_constants bytes at₂) constants at₃ q
 
-  a3 : (at₀ at₁ : ℕ) (code : List ℕ) (at₂ : ℕ) (X : Result (List Constant))
-      → from3 (cursor_of length X) ≡ cursor_of length (bind X (then3 bytes P at₀ at₁ code at₂))
-  unfolding step
-  a3 at₀ at₁ code at₂ (done ks at₃) = a4 at₀ at₁ code at₂ ks (load_upvalues bytes at₃)
-  a3 at₀ at₁ code at₂ (refused e) = refl
+        pub no_upvalues : (e : Refusal) → load_upvalues bytes at₃ ≡ Err e → whole-of ≡ Err e
+        unfolding function_with
+        no_upvalues e u = rw (h, code.is, ks.is, u)
 
-  a2 : (at₀ at₁ : ℕ) (X : Result (List ℕ)) → from2 (cursor_of length X) ≡ cursor_of length (bind X (then2 bytes P at₀ at₁))
-  unfolding step
-  a2 at₀ at₁ (done code at₂) = a3 at₀ at₁ code at₂ (load_constants bytes at₂)
-  a2 at₀ at₁ (refused e) = refl
+        module _ (n at₄ : ℕ) (u : load_upvalues bytes at₃ ≡ Ok (n, at₄)) where
+          pub no_protos : (e : Refusal) → read_as length (P bytes at₄) ≡ Err e → whole-of ≡ Err e
+          unfolding function_with
+          no_protos e w = rw (h, code.is, ks.is, u, was_refused length (P bytes at₄) e w)
 
-  a1 : (at₀ : ℕ) (X : Result ℕ) → from1 (cursor_of same X) ≡ cursor_of length (bind X (then1 bytes P at₀))
-  unfolding step
-  a1 at₀ (done a at₁) = a2 at₀ at₁ (load_code bytes at₁)
-  a1 at₀ (refused e) = refl
+          module _ (inner at₅ : ℕ) (w : read_as length (P bytes at₄) ≡ Ok (inner, at₅)) where
+            abbrev within : Was length (P bytes at₄) inner at₅
+            within = was length (P bytes at₄) inner at₅ w
 
-  a0 : (c : Cursor) → from1 (step same load_head bytes c) ≡ step length (function_with P) bytes c
-  unfolding step function_with
-  a0 (At at v) = a1 at (load_head bytes at)
-  a0 (Refused e) = refl
+            pub no_lines : (e : Refusal) → past_of (load_lines bytes at₅) ≡ Err e → whole-of ≡ Err e
+            unfolding function_with
+            no_lines e l = rw (h, code.is, ks.is, u, within.is, end_refused (load_lines bytes at₅) e l)
 
-  -- the code's steps, one after another
-  pub function_counted : (c h k q u w l n x : Cursor) (v t : ℕ)
-      → h ≡ step same load_head bytes c
-      → k ≡ step length load_code bytes h
-      → q ≡ step length load_constants bytes k
-      → u ≡ step same load_upvalues bytes q
-      → w ≡ step length P bytes u
-      → l ≡ step length load_lines bytes w
-      → v ≡ cursor_value u
-      → n ≡ step none (load_names v) bytes l
-      → t ≡ cursor_value w
-      → x ≡ valued (t + 1) n
-      → x ≡ step length (function_with P) bytes c
-  function_counted c h k q u w l n x v t eh ek eq eu ew el ev en et ex = ex ∙ (rw (et, en, ev, el, ew, eu, eq, ek, eh) (a0 c))
+            module _ (at₆ : ℕ) (l : past_of (load_lines bytes at₅) ≡ Ok at₆) where
+              abbrev locals : Ended (load_lines bytes at₅) at₆
+              locals = ended (load_lines bytes at₅) at₆ l
 
--- ---- a function that was read: those within it were read behind its upvalues
-pub record FunctionRead (level : ℕ) (bytes : List ℕ) (at : ℕ) (u : Cursor) (fs : List Function) (past : ℕ) : Type 0 where
+              pub no_names : (e : Refusal) → past_of (load_names n bytes at₆) ≡ Err e → whole-of ≡ Err e
+              unfolding function_with
+              no_names e m = rw (h, code.is, ks.is, u, within.is, locals.is, end_refused (load_names n bytes at₆) e m)
+
+              pub function_read : (at₇ : ℕ) → past_of (load_names n bytes at₆) ≡ Ok at₇ → FunctionRead P bytes at₀ at₄ at₅ inner at₇
+              function_read at₇ m =
+                  let names = ended (load_names n bytes at₆) at₇ m in
+                  read_by bytes P at₀ stack at₁ h code.value at₂ code.is ks.value at₃ ks.is n at₄ u within.value at₅ within.is inner within.gives
+                  locals.value at₆ locals.is names.value at₇ names.is
+
+-- ---- a function that was read is the first of those that were
+pub record MainFirst (at : ℕ) (fs : List Function) (past : ℕ) : Type 0 where
   pub main : Function
   pub inner : List Function
   pub is : fs ≡ main ∷ inner
   pub first : main.first_at ≡ at
   pub last : main.end_at ≡ past
-  pub count : ℕ
-  pub from : ℕ
-  pub behind : ℕ
-  pub cursor : u ≡ At from count
-  pub within : load_protos level bytes from ≡ done inner behind
 
-module _ (level : ℕ) (bytes : List ℕ) (at₀ : ℕ) (fs : List Function) (past : ℕ) where
-  abbrev P : Reader (List Function)
-  P = load_protos level
+module _ (P : Reader (List Function)) (bytes : List ℕ) (at₀ : ℕ) (gs : List Function) (past : ℕ) where
+  abbrev Is : Outcome (List Function) → Type 0
+  Is X = X ≡ Ok (gs, past)
 
-  abbrev Is : Result (List Function) → Type 0
-  Is X = X ≡ done fs past
+  i7 : (at₁ : ℕ) (code : List ℕ) (at₂ : ℕ) (ks : List Constant) (n : ℕ) (inner : List Function) (at₅ at₆ : ℕ) (X : Outcome (List Text))
+      → Is (bind X (then7 bytes P at₀ at₁ code at₂ ks n inner at₅ at₆)) → MainFirst at₀ gs past
+  i7 at₁ code at₂ ks n inner at₅ at₆ (Ok (names, at₇)) e =
+      let m = own at₀ at₁ code at₂ ks n at₅ at₆ names at₇ in
+      record { main = m; inner = inner; is = sym (same_value (m ∷ inner) gs at₇ past e); first = refl; last = same_past (m ∷ inner) gs at₇ past e }
+  i7 at₁ code at₂ ks n inner at₅ at₆ (Err x) e = absurd (cc)
 
-  i7 : (at₁ : ℕ) (code : List ℕ) (at₂ : ℕ) (ks : List Constant) (n at₄ : ℕ) (inner : List Function) (at₅ at₆ : ℕ) → P bytes at₄ ≡ done inner at₅
-      → (X : Result (List Text)) → Is (bind X (then7 bytes P at₀ at₁ code at₂ ks n inner at₅ at₆)) → FunctionRead level bytes at₀ (At at₄ n) fs past
-  i7 at₁ code at₂ ks n at₄ inner at₅ at₆ p (done names at₇) e =
-      record {
-        main = own at₀ at₁ code at₂ ks n at₅ at₆ names at₇;
-        inner = inner;
-        is = (let z : own at₀ at₁ code at₂ ks n at₅ at₆ names at₇ ∷ inner ≡ fs = cc in sym z);
-        first = refl;
-        last = (let z : at₇ ≡ past = cc in z);
-        count = n;
-        from = at₄;
-        behind = at₅;
-        cursor = refl;
-        within = p;
-      }
-  i7 at₁ code at₂ ks n at₄ inner at₅ at₆ p (refused x) e = absurd (true≢false (cc))
+  i6 : (at₁ : ℕ) (code : List ℕ) (at₂ : ℕ) (ks : List Constant) (n : ℕ) (inner : List Function) (at₅ : ℕ) (X : Outcome (List ℕ))
+      → Is (bind X (then6 bytes P at₀ at₁ code at₂ ks n inner at₅)) → MainFirst at₀ gs past
+  i6 at₁ code at₂ ks n inner at₅ (Ok (z, at₆)) e = i7 at₁ code at₂ ks n inner at₅ at₆ (load_names n bytes at₆) e
+  i6 at₁ code at₂ ks n inner at₅ (Err x) e = absurd (cc)
 
-  i6 : (at₁ : ℕ) (code : List ℕ) (at₂ : ℕ) (ks : List Constant) (n at₄ : ℕ) (inner : List Function) (at₅ : ℕ) → P bytes at₄ ≡ done inner at₅
-      → (X : Result (List ℕ)) → Is (bind X (then6 bytes P at₀ at₁ code at₂ ks n inner at₅)) → FunctionRead level bytes at₀ (At at₄ n) fs past
-  i6 at₁ code at₂ ks n at₄ inner at₅ p (done z at₆) e = i7 at₁ code at₂ ks n at₄ inner at₅ at₆ p (load_names n bytes at₆) e
-  i6 at₁ code at₂ ks n at₄ inner at₅ p (refused x) e = absurd (true≢false (cc))
+  i5 : (at₁ : ℕ) (code : List ℕ) (at₂ : ℕ) (ks : List Constant) (n : ℕ) (X : Outcome (List Function))
+      → Is (bind X (then5 bytes P at₀ at₁ code at₂ ks n)) → MainFirst at₀ gs past
+  i5 at₁ code at₂ ks n (Ok (inner, at₅)) e = i6 at₁ code at₂ ks n inner at₅ (load_lines bytes at₅) e
+  i5 at₁ code at₂ ks n (Err x) e = absurd (cc)
 
-  i5 : (at₁ : ℕ) (code : List ℕ) (at₂ : ℕ) (ks : List Constant) (n at₄ : ℕ) (X : Result (List Function)) → P bytes at₄ ≡ X
-      → Is (bind X (then5 bytes P at₀ at₁ code at₂ ks n)) → FunctionRead level bytes at₀ (At at₄ n) fs past
-  i5 at₁ code at₂ ks n at₄ (done inner at₅) p e = i6 at₁ code at₂ ks n at₄ inner at₅ p (load_lines bytes at₅) e
-  i5 at₁ code at₂ ks n at₄ (refused x) p e = absurd (true≢false (cc))
+  i4 : (at₁ : ℕ) (code : List ℕ) (at₂ : ℕ) (ks : List Constant) (X : Outcome ℕ)
+      → Is (bind X (then4 bytes P at₀ at₁ code at₂ ks)) → MainFirst at₀ gs past
+  i4 at₁ code at₂ ks (Ok (n, at₄)) e = i5 at₁ code at₂ ks n (P bytes at₄) e
+  i4 at₁ code at₂ ks (Err x) e = absurd (cc)
 
-  i4 : (at₁ : ℕ) (code : List ℕ) (at₂ : ℕ) (ks : List Constant) (X : Result ℕ)
-      → Is (bind X (then4 bytes P at₀ at₁ code at₂ ks)) → FunctionRead level bytes at₀ (cursor_of same X) fs past
-  i4 at₁ code at₂ ks (done n at₄) e = i5 at₁ code at₂ ks n at₄ (P bytes at₄) refl e
-  i4 at₁ code at₂ ks (refused x) e = absurd (true≢false (cc))
+  i3 : (at₁ : ℕ) (code : List ℕ) (at₂ : ℕ) (X : Outcome (List Constant))
+      → Is (bind X (then3 bytes P at₀ at₁ code at₂)) → MainFirst at₀ gs past
+  i3 at₁ code at₂ (Ok (ks, at₃)) e = i4 at₁ code at₂ ks (load_upvalues bytes at₃) e
+  i3 at₁ code at₂ (Err x) e = absurd (cc)
 
-  i3 : (at₁ : ℕ) (code : List ℕ) (at₂ : ℕ) (X : Result (List Constant))
-      → Is (bind X (then3 bytes P at₀ at₁ code at₂)) → FunctionRead level bytes at₀ (step same load_upvalues bytes (cursor_of length X)) fs past
-  unfolding step
-  i3 at₁ code at₂ (done ks at₃) e = i4 at₁ code at₂ ks (load_upvalues bytes at₃) e
-  i3 at₁ code at₂ (refused x) e = absurd (true≢false (cc))
+  i2 : (at₁ : ℕ) (X : Outcome (List ℕ)) → Is (bind X (then2 bytes P at₀ at₁)) → MainFirst at₀ gs past
+  i2 at₁ (Ok (code, at₂)) e = i3 at₁ code at₂ (load_constants bytes at₂) e
+  i2 at₁ (Err x) e = absurd (cc)
 
-  i2 : (at₁ : ℕ) (X : Result (List ℕ)) → Is (bind X (then2 bytes P at₀ at₁))
-      → FunctionRead level bytes at₀ (step same load_upvalues bytes (step length load_constants bytes (cursor_of length X))) fs past
-  unfolding step
-  i2 at₁ (done code at₂) e = i3 at₁ code at₂ (load_constants bytes at₂) e
-  i2 at₁ (refused x) e = absurd (true≢false (cc))
+  i1 : (X : Outcome ℕ) → Is (bind X (then1 bytes P at₀)) → MainFirst at₀ gs past
+  i1 (Ok (a, at₁)) e = i2 at₁ (load_code bytes at₁) e
+  i1 (Err x) e = absurd (cc)
 
-  i1 : (X : Result ℕ) → Is (bind X (then1 bytes P at₀))
-      → FunctionRead level bytes at₀ (step same load_upvalues bytes (step length load_constants bytes (step length load_code bytes (cursor_of same X)))) fs past
-  unfolding step
-  i1 (done a at₁) e = i2 at₁ (load_code bytes at₁) e
-  i1 (refused x) e = absurd (true≢false (cc))
-
-  pub function_read : (v : ℕ) → load_function level bytes at₀ ≡ done fs past
-      → FunctionRead level bytes at₀
-      (step same load_upvalues bytes (step length load_constants bytes
-      (step length load_code bytes (step same load_head bytes (At at₀ v)))))
-      fs past
-  unfolding step function_with
-  function_read v e = i1 (load_head bytes at₀) e
+  pub main_first : function_with P bytes at₀ ≡ Ok (gs, past) → MainFirst at₀ gs past
+  unfolding function_with
+  main_first e = i1 (load_head bytes at₀) e
 
 -- ---- what is stored of it
-renumbered : (X : Result (List Function)) (outer i j : ℕ) (pl pa pl' pa' : List ℕ) → (i ≤ length pl → j ≡ i)
+renumbered : (X : Outcome (List Function)) (outer i j : ℕ) (pl pa pl' pa' : List ℕ) → (i ≤ length pl → j ≡ i)
     → Wrote X outer j pl pa pl' pa' → Wrote X outer i pl pa pl' pa'
-renumbered (done fs at) outer i j pl pa pl' pa' e w = λ a b. subst (λ (k : ℕ). Wrote (done fs at) outer k pl pa pl' pa') (e (omega arith)) w a b
-renumbered (refused x) outer i j pl pa pl' pa' e w = tt
+renumbered (Ok (fs, at)) outer i j pl pa pl' pa' e w = λ a b. subst (λ (k : ℕ). Wrote (Ok (fs, at)) outer k pl pa pl' pa') (e (omega arith)) w a b
+renumbered (Err x) outer i j pl pa pl' pa' e w = tt
 
 module _ (level : ℕ) (bytes : List ℕ) (outer i : ℕ) (pl pa pl₁ pa₁ pl₂ pa₂ : List ℕ) where
   one_more :
       (at past from behind : ℕ) (main : Function) (inner : List Function) → main.first_at ≡ at → main.end_at ≡ past
       → StandBetween (length bytes) at (main ∷ inner) past → Noted i at outer pl pa pl₁ pa₁
-      → Wrote (done inner behind) i (i + 1) pl₁ pa₁ pl₂ pa₂ → Wrote (done (main ∷ inner) past) outer i pl pa pl₂ pa₂
+      → Wrote (Ok (inner, behind)) i (i + 1) pl₁ pa₁ pl₂ pa₂ → Wrote (Ok (main ∷ inner, past)) outer i pl pa pl₂ pa₂
   unfolding values_of
   one_more at past from behind main inner ea ep b o w x y =
       let z : i + 1 + length inner ≡ i + length (main ∷ inner) = omega arith in
@@ -213,93 +219,63 @@ module _ (level : ℕ) (bytes : List ℕ) (outer i : ℕ) (pl pa pl₁ pa₁ pl�
             ∙ ap (put pa i) (sym (parents_function (length bytes) outer (main.first_at + 1) past i main inner b.1.1.1 (omega (arith, ep)))),
       )
 
-  all-read : (at v : ℕ) (u : Cursor)
-      → u ≡ step same load_upvalues bytes
-      (step length load_constants bytes (step length load_code bytes (step same load_head bytes (At at v))))
-      → Noted i at outer pl pa pl₁ pa₁ → WroteBy (load_protos level) bytes u i (i + 1) pl₁ pa₁ pl₂ pa₂
-      → (X : Result (List Function)) → load_function level bytes at ≡ X → ReadBetween (length bytes) at X → Wrote X outer i pl pa pl₂ pa₂
-  all-read at v u eu o w (done fs past) e b =
-      let f = function_read level bytes at fs past v e in
-      let w' : Wrote (done f.inner f.behind) i (i + 1) pl₁ pa₁ pl₂ pa₂ =
-      subst (λ (Y : Result (List Function)). Wrote Y i (i + 1) pl₁ pa₁ pl₂ pa₂) f.within
-      (subst (λ (d : Cursor). WroteBy (load_protos level) bytes d i (i + 1) pl₁ pa₁ pl₂ pa₂) (eu ∙ f.cursor) w) in
-      subst (λ (gs : List Function). Wrote (done gs past) outer i pl pa pl₂ pa₂) (sym f.is)
-      (one_more at past f.from f.behind f.main f.inner f.first f.last
-      (subst (λ (gs : List Function). StandBetween (length bytes) at gs past) f.is b) o w')
-  all-read at v u eu o w (refused x) e b = tt
-
-  by_cursor : (c u : Cursor) (p : ℕ)
-      → u ≡ step same load_upvalues bytes
-      (step length load_constants bytes (step length load_code bytes (step same load_head bytes c)))
-      → p ≡ position_of c → Noted i p outer pl pa pl₁ pa₁ → WroteBy (load_protos level) bytes u i (i + 1) pl₁ pa₁ pl₂ pa₂
-      → WroteBy (load_function level) bytes c outer i pl pa pl₂ pa₂
-  by_cursor (At at v) u p eu ep o w =
-      all-read at v u eu (subst (λ (k : ℕ). Noted i k outer pl pa pl₁ pa₁) ep o) w (load_function level bytes at) refl (laws.all_between level bytes at)
-  by_cursor (Refused e) u p eu ep o w = tt
-
-  renumbered_by : (u : Cursor) (j : ℕ) → (i + 1 ≤ length pl₁ → j ≡ i + 1)
-      → WroteBy (load_protos level) bytes u i j pl₁ pa₁ pl₂ pa₂
-      → WroteBy (load_protos level) bytes u i (i + 1) pl₁ pa₁ pl₂ pa₂
-  renumbered_by (At at v) j e w = renumbered (load_protos level bytes at) i (i + 1) j pl₁ pa₁ pl₂ pa₂ e w
-  renumbered_by (Refused x) j e w = tt
-
-  pub function_wrote : (c h k q u : Cursor) (p j : ℕ)
-      → h ≡ step same load_head bytes c
-      → k ≡ step length load_code bytes h
-      → q ≡ step length load_constants bytes k
-      → u ≡ step same load_upvalues bytes q
-      → p ≡ position_of c → Noted i p outer pl pa pl₁ pa₁ → (i + 1 ≤ length pl₁ → j ≡ i + 1)
-      → WroteAt (load_protos level) bytes u i j pl₁ pa₁ pl₂ pa₂ → WroteAt (load_function level) bytes c outer i pl pa pl₂ pa₂
-  function_wrote c h k q u p j eh ek eq eu ep o ej w =
-      record {
-        places_same = w.places_same ∙ o.places_same;
-        parents_same = w.parents_same ∙ o.parents_same;
-        written = by_cursor c u p (eu ∙ (rw (eq, ek, eh))) ep o (renumbered_by u j ej w.written);
-      }
+  pub function_gave : (at from behind count past next : ℕ) → FunctionRead (load_protos level) bytes at from behind count past
+      → Noted i at outer pl pa pl₁ pa₁ → (i + 1 ≤ length pl₁ → next ≡ i + 1)
+      → WroteAt (load_protos level) bytes from i next pl₁ pa₁ pl₂ pa₂
+      → Gave (load_function level) bytes at outer i pl pa pl₂ pa₂ (Ok (count + 1, past))
+  function_gave at from behind count past next f o e v =
+      let w : Wrote (Ok (f.inner, behind)) i (i + 1) pl₁ pa₁ pl₂ pa₂ =
+      renumbered (Ok (f.inner, behind)) i (i + 1) next pl₁ pa₁ pl₂ pa₂ e
+      (subst (λ (X : Outcome (List Function)). Wrote X i next pl₁ pa₁ pl₂ pa₂) f.within v.written) in
+      let b : StandBetween (length bytes) at (f.main ∷ f.inner) past =
+      subst (λ (X : Outcome (List Function)). ReadBetween (length bytes) at X) f.is (laws.all_between level bytes at) in
+      let c : count + 1 ≡ length (f.main ∷ f.inner) = omega (arith, f.counted) in
+      gave (load_function level) bytes at outer i pl pa pl₂ pa₂ (v.places_same ∙ o.places_same) (v.parents_same ∙ o.parents_same)
+      (Ok (f.main ∷ f.inner, past)) f.is (Ok (count + 1, past)) (ap (λ (n : ℕ). Ok (n, past)) c)
+      (one_more at past from behind f.main f.inner f.first f.last b o w)
 
 -- those within are fewer than the bytes
-within_few : (level : ℕ) (bytes : List ℕ) (at : ℕ) (X : Result (List Function))
-    → ReadBetween (length bytes) at X → cursor_value (cursor_of length X) ≤ length bytes
-within_few level bytes at (done fs past) b = let h = fewer (length bytes) at past fs b in omega arith
-within_few level bytes at (refused e) b = omega arith
-
-pub count_few : (level : ℕ) (bytes : List ℕ) (u w : Cursor) (t : ℕ) → w ≡ step length (load_protos level) bytes u → t ≡ cursor_value w → t ≤ length bytes
-unfolding step
-count_few level bytes (At at v) w t ew et = rw (et, ew) (within_few level bytes at (load_protos level bytes at) (laws.within_between level bytes at))
-count_few level bytes (Refused e) w t ew et = rw (et, ew) (omega arith)
+pub count_few : (level : ℕ) (bytes : List ℕ) (at n past : ℕ) → read_as length (load_protos level bytes at) ≡ Ok (n, past) → n ≤ length bytes
+count_few level bytes at n past h = go (load_protos level bytes at) (laws.within_between level bytes at) h
+  where
+    go : (X : Outcome (List Function)) → ReadBetween (length bytes) at X → read_as length X ≡ Ok (n, past) → n ≤ length bytes
+    go (Ok (fs, p)) b d = let f = fewer (length bytes) at p fs b in let e : length fs ≡ n = same_value (length fs) n p past d in omega arith
+    go (Err e) b d = absurd (cc)
 
 -- ---- several functions
-abbrev pub totalled : ℕ → Result (List Function) → Cursor
-totalled total (done fs at) = At at (total + length fs)
-totalled total (refused e) = Refused e
+abbrev pub totalled : ℕ → Outcome (List Function) → Outcome ℕ
+totalled total (Ok (fs, at)) = Ok (total + length fs, at)
+totalled total (Err e) = Err e
 
-totalled_none : (X : Result (List Function)) → totalled 0 X ≡ cursor_of length X
-totalled_none (done fs at) = let z : 0 + length fs ≡ length fs = omega arith in ap (At at) z
-totalled_none (refused e) = refl
+totalled_none : (X : Outcome (List Function)) → totalled 0 X ≡ read_as length X
+totalled_none (Ok (fs, at)) = let z : 0 + length fs ≡ length fs = omega arith in ap (λ (n : ℕ). Ok (n, at)) z
+totalled_none (Err e) = refl
 
 module _ (level : ℕ) (bytes : List ℕ) where
   abbrev R : Reader (List Function)
   R = load_function level
 
-  totalled_more : (m total at₁ : ℕ) (fs : List Function) (X : Result (List Function))
-      → totalled total (bind X (λ more at₂. done (fs ++ more) at₂)) ≡ totalled (total + length fs) X
-  totalled_more m total at₁ fs (done more at₂) = ap (At at₂) (omega (arith, length-append fs more))
-  totalled_more m total at₁ fs (refused e) = refl
+  totalled_more : (m total at₁ : ℕ) (fs : List Function) (X : Outcome (List Function))
+      → totalled total (bind X (λ more at₂. Ok (fs ++ more, at₂))) ≡ totalled (total + length fs) X
+  totalled_more m total at₁ fs (Ok (more, at₂)) =
+      let z : total + length (fs ++ more) ≡ total + length fs + length more = omega (arith, length-append fs more) in
+      ap (λ (n : ℕ). Ok (n, at₂)) z
+  totalled_more m total at₁ fs (Err e) = refl
 
-  one_totalled : (m total at : ℕ) (fs : List Function) (at₁ : ℕ) → R bytes at ≡ done fs at₁
+  one_totalled : (m total at : ℕ) (fs : List Function) (at₁ : ℕ) → R bytes at ≡ Ok (fs, at₁)
       → totalled total (several R (suc m) bytes at) ≡ totalled (total + length fs) (several R m bytes at₁)
   unfolding several
   one_totalled m total at fs at₁ e = rw e (totalled_more m total at₁ fs (several R m bytes at₁))
 
-  one_refused : (m total at : ℕ) (x : Refusal) → R bytes at ≡ refused x → several R (suc m) bytes at ≡ refused x
+  one_refused : (m at : ℕ) (x : Refusal) → R bytes at ≡ Err x → several R (suc m) bytes at ≡ Err x
   unfolding several
-  one_refused m total at x e = rw e
+  one_refused m at x e = rw e
 
   module _ (outer i : ℕ) (pl pa pl₁ pa₁ pl₂ pa₂ : List ℕ) (samePl : length pl₁ ≡ length pl) (samePa : length pa₁ ≡ length pa) where
     both_wrote :
         (lo mid hi : ℕ) (fs more : List Function) → StandBetween (length bytes) lo fs mid → StandBetween (length bytes) mid more hi
-        → Wrote (done fs mid) outer i pl pa pl₁ pa₁ → Wrote (done more hi) outer (i + length fs) pl₁ pa₁ pl₂ pa₂
-        → Wrote (done (fs ++ more) hi) outer i pl pa pl₂ pa₂
+        → Wrote (Ok (fs, mid)) outer i pl pa pl₁ pa₁ → Wrote (Ok (more, hi)) outer (i + length fs) pl₁ pa₁ pl₂ pa₂
+        → Wrote (Ok (fs ++ more, hi)) outer i pl pa pl₂ pa₂
     both_wrote lo mid hi fs more b c w v x y =
         let n = length-append fs more in
         let q = w (omega (arith, x, n)) (omega (arith, y, n)) in
@@ -314,20 +290,20 @@ module _ (level : ℕ) (bytes : List ℕ) where
         )
 
     then_wrote :
-        (lo mid : ℕ) (fs : List Function) (X : Result (List Function)) → StandBetween (length bytes) lo fs mid → ReadBetween (length bytes) mid X
-        → Wrote (done fs mid) outer i pl pa pl₁ pa₁ → Wrote X outer (i + length fs) pl₁ pa₁ pl₂ pa₂
-        → Wrote (bind X (λ more at₂. done (fs ++ more) at₂)) outer i pl pa pl₂ pa₂
-    then_wrote lo mid fs (done more hi) b c w v = both_wrote lo mid hi fs more b c w v
-    then_wrote lo mid fs (refused e) b c w v = tt
+        (lo mid : ℕ) (fs : List Function) (X : Outcome (List Function)) → StandBetween (length bytes) lo fs mid → ReadBetween (length bytes) mid X
+        → Wrote (Ok (fs, mid)) outer i pl pa pl₁ pa₁ → Wrote X outer (i + length fs) pl₁ pa₁ pl₂ pa₂
+        → Wrote (bind X (λ more at₂. Ok (fs ++ more, at₂))) outer i pl pa pl₂ pa₂
+    then_wrote lo mid fs (Ok (more, hi)) b c w v = both_wrote lo mid hi fs more b c w v
+    then_wrote lo mid fs (Err e) b c w v = tt
 
     one_wrote :
-        (m at : ℕ) (fs : List Function) (at₁ : ℕ) → R bytes at ≡ done fs at₁ → Wrote (done fs at₁) outer i pl pa pl₁ pa₁
+        (m at : ℕ) (fs : List Function) (at₁ : ℕ) → R bytes at ≡ Ok (fs, at₁) → Wrote (Ok (fs, at₁)) outer i pl pa pl₁ pa₁
         → Wrote (several R m bytes at₁) outer (i + length fs) pl₁ pa₁ pl₂ pa₂ → Wrote (several R (suc m) bytes at) outer i pl pa pl₂ pa₂
     unfolding several
     one_wrote m at fs at₁ e w v =
         rw e
         (then_wrote at at₁ fs (several R m bytes at₁)
-        (subst (λ (X : Result (List Function)). ReadBetween (length bytes) at X) e
+        (subst (λ (X : Outcome (List Function)). ReadBetween (length bytes) at X) e
         (laws.all_between level bytes at))
         (laws.several_between level m bytes at₁) w v)
 
@@ -344,7 +320,7 @@ pub record Midway (level : ℕ) (bytes : List ℕ) (start n outer first : ℕ) (
 
 module _ (level : ℕ) (bytes : List ℕ) (start n outer first : ℕ) (pl₀ pa₀ : List ℕ) where
   -- all of them
-  abbrev whole : Result (List Function)
+  abbrev whole : Outcome (List Function)
   whole = several (load_function level) n bytes start
 
   pub midway_none : Midway level bytes start n outer first pl₀ pa₀ pl₀ pa₀ start 0 0
@@ -365,90 +341,69 @@ module _ (level : ℕ) (bytes : List ℕ) (start n outer first : ℕ) (pl₀ pa�
 
   module _ {pl pa : List ℕ} {at total i : ℕ} (m : Midway level bytes start n outer first pl₀ pa₀ pl pa at total i) where
     -- one more
-    module _ (h : i < n) (j : ℕ) (ej : first + total ≤ length pl → j ≡ first + total) (pl₁ pa₁ : List ℕ)
-        (w : WroteAt (load_function level) bytes (At at 0) outer j pl pa pl₁ pa₁) where
+    module _ (h : i < n) where
       abbrev Still : Type 0
       Still = n - i ≡ suc (n - (i + 1))
 
       still : Still
       still = omega arith
 
-      more_by : (fs : List Function) (behind : ℕ) → load_function level bytes at ≡ done fs behind
-          → Midway level bytes start n outer first pl₀ pa₀ pl₁ pa₁ behind (total + length fs) (i + 1)
-      more_by fs behind e =
-          let b : StandBetween (length bytes) at fs behind = subst
-          (λ (X : Result (List Function)). ReadBetween (length bytes) at X) e
-          (laws.all_between level bytes at) in
-          let l = ends (length bytes) at behind fs b in
-          record {
-            upto = omega arith;
-            low = omega (arith, m.low, l);
-            places_same = w.places_same ∙ m.places_same;
-            parents_same = w.parents_same ∙ m.parents_same;
-            counted =
-                m.counted ∙ ap (λ (k : ℕ). totalled total (several (load_function level) k bytes at)) still
-                ∙ one_totalled level bytes (n - (i + 1)) total at fs behind e;
-            rest =
-                λ pl' pa' v.
-                let y : first + (total + length fs) ≡ first + total + length fs = omega arith in
-                m.rest pl' pa'
-                (subst (λ (k : ℕ). Wrote (several (load_function level) k bytes at) outer (first + total) pl pa pl' pa') (sym still)
-                (one_wrote level bytes outer (first + total) pl pa pl₁ pa₁ pl' pa' w.places_same w.parents_same (n - (i + 1)) at fs behind e
-                (renumbered (done fs behind) outer (first + total) j pl pa pl₁ pa₁ ej
-                (subst (λ (X : Result (List Function)). Wrote X outer j pl pa pl₁ pa₁) e w.written))
-                (subst (λ (k : ℕ). Wrote (several (load_function level) (n - (i + 1)) bytes behind) outer k pl₁ pa₁ pl' pa') y v)));
-          }
+      module _ (j : ℕ) (ej : first + total ≤ length pl → j ≡ first + total) (pl₁ pa₁ : List ℕ)
+          (w : WroteAt (load_function level) bytes at outer j pl pa pl₁ pa₁) where
+        more_by : (fs : List Function) (behind : ℕ) → load_function level bytes at ≡ Ok (fs, behind)
+            → Midway level bytes start n outer first pl₀ pa₀ pl₁ pa₁ behind (total + length fs) (i + 1)
+        more_by fs behind e =
+            let b : StandBetween (length bytes) at fs behind = subst
+            (λ (X : Outcome (List Function)). ReadBetween (length bytes) at X) e
+            (laws.all_between level bytes at) in
+            let l = ends (length bytes) at behind fs b in
+            record {
+              upto = omega arith;
+              low = omega (arith, m.low, l);
+              places_same = w.places_same ∙ m.places_same;
+              parents_same = w.parents_same ∙ m.parents_same;
+              counted =
+                  m.counted ∙ ap (λ (k : ℕ). totalled total (several (load_function level) k bytes at)) still
+                  ∙ one_totalled level bytes (n - (i + 1)) total at fs behind e;
+              rest =
+                  λ pl' pa' v.
+                  let y : first + (total + length fs) ≡ first + total + length fs = omega arith in
+                  m.rest pl' pa'
+                  (subst (λ (k : ℕ). Wrote (several (load_function level) k bytes at) outer (first + total) pl pa pl' pa') (sym still)
+                  (one_wrote level bytes outer (first + total) pl pa pl₁ pa₁ pl' pa' w.places_same w.parents_same (n - (i + 1)) at fs behind e
+                  (renumbered (Ok (fs, behind)) outer (first + total) j pl pa pl₁ pa₁ ej
+                  (subst (λ (X : Outcome (List Function)). Wrote X outer j pl pa pl₁ pa₁) e w.written))
+                  (subst (λ (k : ℕ). Wrote (several (load_function level) (n - (i + 1)) bytes behind) outer k pl₁ pa₁ pl' pa') y v)));
+            }
 
-      pub midway_more :
-          (next : Cursor) (behind more : ℕ) → next ≡ step length (load_function level) bytes (At at 0) → next ≡ At behind more
-          → (total + more ≤ behind) × Midway level bytes start n outer first pl₀ pa₀ pl₁ pa₁ behind (total + more) (i + 1)
-      unfolding step
-      midway_more next behind more e k = go (load_function level bytes at) refl (sym e ∙ k)
-        where
-          go : (X : Result (List Function)) → load_function level bytes at ≡ X → cursor_of length X ≡ At behind more
-              → (total + more ≤ behind) × Midway level bytes start n outer first pl₀ pa₀ pl₁ pa₁ behind (total + more) (i + 1)
-          go (done fs past) d q =
-              let x : past ≡ behind = cc in
-              let y : length fs ≡ more = cc in
-              let r = more_by fs past d in (
-                omega (arith, r.low, x, y),
-                subst (λ (t : ℕ). Midway level bytes start n outer first pl₀ pa₀ pl₁ pa₁ behind (total + t) (i + 1)) y
-                    (subst (λ (b : ℕ). Midway level bytes start n outer first pl₀ pa₀ pl₁ pa₁ b (total + length fs) (i + 1)) x r),
-              )
-          go (refused x) d q = absurd (true≢false (cc))
+        pub midway_more : (more behind : ℕ) → read_as length (load_function level bytes at) ≡ Ok (more, behind)
+            → (total + more ≤ behind) × Midway level bytes start n outer first pl₀ pa₀ pl₁ pa₁ behind (total + more) (i + 1)
+        midway_more more behind e =
+            let f = was length (load_function level bytes at) more behind e in
+            let r = more_by f.value behind f.is in (
+              omega (arith, r.low, f.gives),
+              subst (λ (t : ℕ). Midway level bytes start n outer first pl₀ pa₀ pl₁ pa₁ behind (total + t) (i + 1)) f.gives r,
+            )
 
       -- or a refusal
-      pub midway_refused :
-          (next : Cursor) (e : Refusal) → next ≡ step length (load_function level) bytes (At at 0) → next ≡ Refused e
-          → (next ≡ cursor_of length whole)
-          × Wrote whole outer first pl₀ pa₀ pl₁ pa₁
-      unfolding step
-      midway_refused next x e k = go (load_function level bytes at) refl (sym e ∙ k)
+      pub midway_refused : (e : Refusal) → read_as length (load_function level bytes at) ≡ Err e → whole ≡ Err e
+      midway_refused e k =
+          let s : several (load_function level) (n - i) bytes at ≡ Err e =
+          ap (λ (k : ℕ). several (load_function level) k bytes at) still
+          ∙ one_refused level bytes (n - (i + 1)) at e (was_refused length (load_function level bytes at) e k) in
+          refusal-of whole (m.counted ∙ ap (totalled total) s)
         where
-          go : (X : Result (List Function)) → load_function level bytes at ≡ X → cursor_of length X ≡ Refused x
-              → (next ≡ cursor_of length whole)
-              × Wrote whole outer first pl₀ pa₀ pl₁ pa₁
-          go (done fs past) d q = absurd (true≢false (cc))
-          go (refused y) d q =
-              let s : several (load_function level) (n - i) bytes at ≡ refused y =
-              ap (λ (k : ℕ). several (load_function level) k bytes at) still ∙ one_refused level bytes (n - (i + 1)) total at y d in
-              let t : whole ≡ refused y =
-              refusal-of whole
-              (m.counted ∙ ap (totalled total) s) in
-              (k ∙ sym q ∙ ap (cursor_of length) (sym t), subst (λ (X : Result (List Function)). Wrote X outer first pl₀ pa₀ pl₁ pa₁) (sym t) tt)
-            where
-              refusal-of : (X : Result (List Function)) → totalled 0 X ≡ Refused y → X ≡ refused y
-              refusal-of (done fs past) r = absurd (true≢false (cc))
-              refusal-of (refused z) r = let v : z ≡ y = cc in ap refused v
+          refusal-of : (X : Outcome (List Function)) → totalled 0 X ≡ Err e → X ≡ Err e
+          refusal-of (Ok (fs, past)) r = absurd (cc)
+          refusal-of (Err z) r = let v : z ≡ e = cc in ap (λ (y : Refusal). Err y) v
 
     pub midway_done : n ≤ i
-        → (At at total ≡ cursor_of length whole)
-        × Wrote whole outer first pl₀ pa₀ pl pa
+        → (◌≡◌ {A = Outcome ℕ} (Ok (total, at)) (read_as length whole)) × Wrote whole outer first pl₀ pa₀ pl pa
     unfolding several values_of parents_from
     midway_done h =
         let z : n - i ≡ 0 = omega arith in
         let y : total + 0 ≡ total = omega arith in (
-          ap (At at) (sym y) ∙ ap (λ (k : ℕ). totalled total (several (load_function level) k bytes at)) (sym z) ∙ sym m.counted
+          ap (λ (t : ℕ). Ok (t, at)) (sym y) ∙ ap (λ (k : ℕ). totalled total (several (load_function level) k bytes at)) (sym z) ∙ sym m.counted
               ∙ totalled_none whole,
           m.rest pl pa
               (subst (λ (k : ℕ). Wrote (several (load_function level) k bytes at) outer (first + total) pl pa pl pa) (sym z)
@@ -456,101 +411,34 @@ module _ (level : ℕ) (bytes : List ℕ) (start n outer first : ℕ) (pl₀ pa�
         )
 
 -- ---- loadProtos
-module _ (bytes : List ℕ) (level : ℕ) (c count : Cursor) (e : count ≡ step same load_int bytes c) (outer first : ℕ) (pl pa : List ℕ) where
-  abbrev Done : Cursor → List ℕ → List ℕ → Type 0
-  Done r pl' pa' = (r ≡ step length (load_protos level) bytes c) × WroteAt (load_protos level) bytes c outer first pl pa pl' pa'
-
-  finish : (at v : ℕ) → c ≡ At at v → (X : Result (List Function)) → load_protos level bytes at ≡ X → (r : Cursor) (pl' pa' : List ℕ)
-      → length pl' ≡ length pl → length pa' ≡ length pa → r ≡ cursor_of length X → Wrote X outer first pl pa pl' pa' → Done r pl' pa'
-  unfolding step
-  finish at v h X k r pl' pa' sp sq er w = (
-    rw (h, k) er,
-    record {
-      places_same = sp;
-      parents_same = sq;
-      written =
-          subst (λ (d : Cursor). WroteBy (load_protos level) bytes d outer first pl pa pl' pa') (sym h)
-          (subst (λ (Y : Result (List Function)). Wrote Y outer first pl pa pl' pa') (sym k) w);
-    },
-  )
-
-  refused_all : (level' : ℕ) (x : Refusal) (at : ℕ) → load_int bytes at ≡ refused x → load_protos level' bytes at ≡ refused x
+module _ (bytes : List ℕ) (level at : ℕ) where
+  pub no_count : (e : Refusal) → load_int bytes at ≡ Err e → load_protos level bytes at ≡ Err e
   unfolding load_protos
-  refused_all zero x at h = rw h
-  refused_all (suc l) x at h = rw h
-
-  pub no_count : (x : Refusal) → count ≡ Refused x → Done count pl pa
-  unfolding step
-  no_count x h = go c refl (sym e ∙ h)
+  no_count e h = go level
     where
-      go : (d : Cursor) → c ≡ d → step same load_int bytes d ≡ Refused x → Done count pl pa
-      go (At at v) k q =
-          finish at v k (refused x)
-          (refused_all level x at
-          (refused_is same (load_int bytes at) (cursor_of same (load_int bytes at)) x refl q))
-          count pl pa refl refl h tt
-      go (Refused y) k q =
-          let r : count ≡ step length (load_protos level) bytes (Refused y) = h ∙ sym q in (
-            subst (λ (d : Cursor). count ≡ step length (load_protos level) bytes d) (sym k) r,
-            record {
-              places_same = refl;
-              parents_same = refl;
-              written = subst (λ (d : Cursor). WroteBy (load_protos level) bytes d outer first pl pa pl pa) (sym k) tt;
-            },
-          )
+      go : (l : ℕ) → load_protos l bytes at ≡ Err e
+      go zero = rw h
+      go (suc l) = rw h
 
-  module _ (start n : ℕ) (h : count ≡ At start n) where
-    record Counted : Type 0 where
-      pub at : ℕ
-      pub value : ℕ
-      pub cursor : c ≡ At at value
-      pub int : load_int bytes at ≡ done n start
-
-    counted : Counted
-    unfolding step
-    counted = go c refl (sym e ∙ h)
-      where
-        go : (d : Cursor) → c ≡ d → step same load_int bytes d ≡ At start n → Counted
-        go (At at v) k q = record { at = at; value = v; cursor = k; int = done_is (load_int bytes at) (cursor_of same (load_int bytes at)) start n refl q }
-        go (Refused y) k q = absurd (true≢false (cc))
-
-    pub none_within : level ≡ 0 → n ≡ 0 → Done (At start 0) pl pa
-    unfolding load_protos none_of values_of parents_from
-    none_within l z =
-        finish counted.at counted.value counted.cursor (done [] start)
-        (is level n l z counted.int) (At start 0) pl pa refl refl refl nothing
-      where
-        is : (l' m : ℕ) → l' ≡ 0 → m ≡ 0 → load_int bytes counted.at ≡ done m start → load_protos l' bytes counted.at ≡ done [] start
-        is zero zero a b d = rw d
-        is zero (suc m) a b d = absurd (omega arith)
-        is (suc l') m a b d = absurd (omega arith)
-
-        nothing : Wrote (done [] start) outer first pl pa pl pa
-        nothing a b = (put_laws.none pl first, put_laws.none pa first)
-
-    pub too_deep : level ≡ 0 → (n ≡ 0 → ⊥) → Done (Refused TooDeep) pl pa
+  module _ (n start : ℕ) (h : load_int bytes at ≡ Ok (n, start)) where
+    none_within : level ≡ 0 → n ≡ 0 → load_protos level bytes at ≡ Ok ([], start)
     unfolding load_protos none_of
-    too_deep l z =
-        finish counted.at counted.value counted.cursor (refused TooDeep)
-        (is level n l z counted.int) (Refused TooDeep) pl pa refl refl refl tt
-      where
-        is : (l' m : ℕ) → l' ≡ 0 → (m ≡ 0 → ⊥) → load_int bytes counted.at ≡ done m start → load_protos l' bytes counted.at ≡ refused TooDeep
-        is zero zero a b d = absurd (b refl)
-        is zero (suc m) a b d = rw d
-        is (suc l') m a b d = absurd (omega arith)
+    none_within z y = rw (z, h, y)
 
-    pub several_within :
-        (level ≡ 0 → ⊥) → (r : Cursor) (pl' pa' : List ℕ) → length pl' ≡ length pl → length pa' ≡ length pa
-        → (r ≡ cursor_of length (several (load_function (level - 1)) n bytes start))
-        × Wrote (several (load_function (level - 1)) n bytes start) outer first pl pa pl' pa'
-        → Done r pl' pa'
+    pub gave_none : (outer first : ℕ) (pl pa : List ℕ) → level ≡ 0 → n ≡ 0
+        → Gave (load_protos level) bytes at outer first pl pa pl pa (Ok (0, start))
+    unfolding values_of parents_from
+    gave_none outer first pl pa z y =
+        gave (load_protos level) bytes at outer first pl pa pl pa refl refl (Ok ([], start)) (none_within z y) (Ok (0, start)) refl
+        (λ a b. (put_laws.none pl first, put_laws.none pa first))
+
+    pub too_deep : level ≡ 0 → (n ≡ 0 → ⊥) → load_protos level bytes at ≡ Err TooDeep
+    unfolding load_protos none_of
+    too_deep z y = let e : n ≡ suc (n - 1) = omega arith in rw (z, h, e)
+
+    pub deeper : (level ≡ 0 → ⊥) → load_protos level bytes at ≡ several (load_function (level - 1)) n bytes start
     unfolding load_protos
-    several_within l r pl' pa' sp sq w =
-        finish counted.at counted.value counted.cursor
-        (several (load_function (level - 1)) n bytes start) (is level l counted.int) r pl' pa' sp sq
-        w.0 w.1
+    deeper z = let e : level ≡ suc (level - 1) = omega arith in below level (level - 1) e
       where
-        is : (l' : ℕ) → (l' ≡ 0 → ⊥) → load_int bytes counted.at ≡ done n start
-            → load_protos l' bytes counted.at ≡ several (load_function (l' - 1)) n bytes start
-        is zero b d = absurd (b refl)
-        is (suc l') b d = let y : l' ≡ suc l' - 1 = omega arith in rw d (ap (λ (k : ℕ). several (load_function k) n bytes start) y)
+        below : (m l : ℕ) → m ≡ suc l → load_protos m bytes at ≡ several (load_function l) n bytes start
+        below m l e = rw (e, h)

@@ -2,11 +2,12 @@
 -- proofs/Laws.antt proves it.
 -- Assumes nothing.
 use Rattle.std.specs.Prelude.{◌≡◌, List, ℕ, ◌≤◌, ◌<◌, length, get_or}
-use Rattle.loaders.specs.declared.reading.Refusal.{Refusal}
-use Rattle.loaders.specs.declared.reading.Refusal.TheVariants.{Malformed}
-use Rattle.loaders.specs.Reading.{done, refused}
+use Rattle.common.specs.declared.refusal.Refusal.{Refusal}
+use Rattle.common.specs.declared.refusal.Refusal.TheVariants.{MalformedChunk}
+use Rattle.std.specs.Prelude.{Ok, Err}
 use Rattle.lundump.specs.Lundump.{Function}
-use Rattle.lundump.specs.Chunk.{chosen, counts_of, Rooms, filled, after}
+use Rattle.lundump.specs.Chunk.{chosen, counts_of, filled, after}
+use Rattle.lundump.specs.declared.functions.Rooms.{Rooms}
 use Rattle.lines.specs.declared.choosing.Choice.TheVariants.{Number, Place}
 use Rattle.lines.specs.Choices.{function_at, filled_by}
 use Rattle.lines.specs.Heads.{head_of, head_from}
@@ -15,7 +16,7 @@ use Rattle.index.specs.Listing.{functions_of, places_of, parents_of, no_function
 -- function k of a chunk, f, and the place that is listed for it
 pub record AtItsPlace (k : ℕ) (bytes : List ℕ) (f : Function) : Type 0 where
   -- the function that is read from there is f, to its own end
-  pub same : function_at f.first_at bytes ≡ done f f.end_at
+  pub same : function_at f.first_at bytes ≡ Ok (f, f.end_at)
   -- so that all that is told and filled of it is as for its number, whatever the slices are
   pub counts : (rooms : Rooms)
       → counts_of (filled_by (Place f.first_at) bytes rooms) ≡ counts_of (filled_by (Number k) bytes rooms)
@@ -37,8 +38,8 @@ pub record Inner (fs : List Function) (j k : ℕ) : Type 0 where
 -- a chunk that is read to its end
 pub record Listing (bytes : List ℕ) (fs : List Function) (at : ℕ) : Type 0 where
   -- as many as the numbers that choose one
-  pub chosen_each : (k : ℕ) (d : Function) → k < length fs → chosen k bytes ≡ done (get_or fs k d) at
-  pub chosen_none : (k : ℕ) → length fs ≤ k → chosen k bytes ≡ refused Malformed
+  pub chosen_each : (k : ℕ) (d : Function) → k < length fs → chosen k bytes ≡ Ok (get_or fs k d, at)
+  pub chosen_none : (k : ℕ) → length fs ≤ k → chosen k bytes ≡ Err MalformedChunk
   pub some : 0 < length fs
   pub few : length fs ≤ length bytes
   -- a place for each, and a function that it stands in
@@ -52,10 +53,10 @@ pub record Listing (bytes : List ℕ) (fs : List Function) (at : ℕ) : Type 0 w
 
 pub record Laws : Type 0 where
   pub listing : (bytes : List ℕ) (fs : List Function) (at : ℕ)
-      → functions_of bytes ≡ done fs at → Listing bytes fs at
+      → functions_of bytes ≡ Ok (fs, at) → Listing bytes fs at
   -- of one that is not, every number is refused as the list is
   pub refusing : (bytes : List ℕ) (e : Refusal) (k : ℕ)
-      → functions_of bytes ≡ refused e → chosen k bytes ≡ refused e
+      → functions_of bytes ≡ Err e → chosen k bytes ≡ Err e
   -- by its number a function is filled as crate `chunk` fills it
   pub by_number : (k : ℕ) (bytes : List ℕ) (rooms : Rooms)
       → filled_by (Number k) bytes rooms ≡ filled k bytes rooms

@@ -3,15 +3,16 @@
 use Rattle.std.specs.Prelude.{cond, ◌&&◌, List, [], ◌∷◌, ◌++◌, ℕ, ◌+◌, ltb, leb, length, drop}
 use Rattle.common.specs.Numbers.{«ACCEPTED»}
 use Rattle.common.specs.Limits.{most_bytes}
-use Rattle.loaders.specs.declared.reading.Refusal.TheVariants.{Short}
-use Rattle.lundump.specs.Numbers.{refusal_number, refusal_place}
-use Rattle.loaders.specs.Reading.{Result, done, refused, bind, only}
+use Rattle.common.specs.declared.refusal.Refusal.TheVariants.{ShortSlice}
+use Rattle.common.specs.Refusals.{refusal_number, refusal_place}
+use Rattle.std.specs.Prelude.{Ok, Err}
+use Rattle.loaders.specs.Reading.{Outcome, bind, only}
 use Rattle.lundump.specs.Lundump.{Function, undump}
 use Rattle.lundump.specs.Chunk.{values_of}
 use Rattle.index.specs.declared.listing.Listed.{Listed}
 
 -- "The chunk's length is checked first"; then all of it is read
-unfoldable pub functions_of : List ℕ → Result (List Function)
+unfoldable pub functions_of : List ℕ → Outcome (List Function)
 functions_of bytes = only (leb (length bytes) most_bytes) (undump bytes 0)
 
 -- where the first byte of each stands
@@ -39,20 +40,20 @@ abbrev pub parents_of : List Function → List ℕ
 parents_of fs = parents_from no_function [] 0 fs
 
 -- the answer: "a refusal reports 0 for every number but its own and its place"
-abbrev pub listed_of : Result (List Function) → Listed
-listed_of (done fs at) = record { number = «ACCEPTED»; place = 0; functions = length fs }
-listed_of (refused e) = record { number = refusal_number e; place = refusal_place e; functions = 0 }
+abbrev pub listed_of : Outcome (List Function) → Listed
+listed_of (Ok (fs, at)) = record { number = «ACCEPTED»; place = 0; functions = length fs }
+listed_of (Err e) = record { number = refusal_number e; place = refusal_place e; functions = 0 }
 
 -- "6 covers each slice to be filled", and comes last
-abbrev pub room_for_all : ℕ → ℕ → List Function → ℕ → Result (List Function)
+abbrev pub room_for_all : ℕ → ℕ → List Function → ℕ → Outcome (List Function)
 room_for_all places parents fs at =
-    cond (leb (length fs) places && leb (length fs) parents) (done fs at) (refused Short)
+    cond (leb (length fs) places && leb (length fs) parents) (Ok (fs, at)) (Err ShortSlice)
 
-unfoldable pub listed_in : List ℕ → ℕ → ℕ → Result (List Function)
+unfoldable pub listed_in : List ℕ → ℕ → ℕ → Outcome (List Function)
 listed_in bytes places parents = bind (functions_of bytes) (room_for_all places parents)
 
 -- a slice afterwards: a number for each function and what stood past them; of a refusal
 -- "nothing lent is altered"
-unfoldable pub after_all : (List Function → List ℕ) → Result (List Function) → List ℕ → List ℕ
-after_all part (done fs at) out = part fs ++ drop (length (part fs)) out
-after_all part (refused e) out = out
+unfoldable pub after_all : (List Function → List ℕ) → Outcome (List Function) → List ℕ → List ℕ
+after_all part (Ok (fs, at)) out = part fs ++ drop (length (part fs)) out
+after_all part (Err e) out = out

@@ -2,32 +2,31 @@
 -- The second reading of all functions, for the contracts within this crate: what is stored of those that
 -- are read from a position on.
 -- Assumes nothing.
-use Rattle.std.specs.Prelude.{◌≡◌, cond, ◌&&◌, List, [], ℕ, ◌+◌, ◌≤◌, ◌<◌, leb, length, set}
+use Rattle.std.specs.Prelude.{◌≡◌, List, [], ℕ, ◌+◌, ◌≤◌, ◌<◌, leb, length, set, Result, Ok, Err}
 use Rattle.common.specs.Numbers.{«ACCEPTED»}
+use Rattle.common.specs.Limits.{most_bytes}
 use Rattle.common.specs.Lists.{put}
-use Rattle.loaders.specs.declared.reading.Refusal.TheVariants.{Short}
-use Rattle.loaders.specs.declared.reading.Cursor.{Cursor}
-use Rattle.loaders.specs.declared.reading.Cursor.TheVariants.{At, Refused}
-use Rattle.lundump.specs.Numbers.{refusal_number, refusal_place}
-use Rattle.loaders.specs.Reading.{Result, done, refused, Reader}
-use Rattle.lundump.specs.Lundump.{Function}
+use Rattle.common.specs.declared.refusal.Refusal.{Refusal}
+use Rattle.common.specs.Refusals.{refusal_number, refusal_place}
+use Rattle.loaders.specs.Reading.{Outcome, Reader, bind, only, past_of}
+use Rattle.loaders.specs.Loaders.{load_byte}
+use Rattle.lundump.specs.Lundump.{Function, check_header}
 use Rattle.index.specs.declared.listing.Listed.{Listed}
-use Rattle.index.specs.declared.listing.FunctionTally.{FunctionTally}
-use Rattle.index.specs.declared.listing.FunctionTally.TheVariants.{All, Not}
 use Rattle.index.specs.Listing.{places_of, parents_from}
 
+-- where the main function of a chunk stands, behind the header and a byte
+unfoldable pub main_from : List ℕ → Result ℕ Refusal
+main_from bytes =
+    past_of (only (leb (length bytes) most_bytes) (bind (check_header bytes 0) (λ _ at. load_byte bytes at)))
+
 -- how many there are
-abbrev pub tallied : Result (List Function) → FunctionTally
-tallied (done fs at) = All (length fs)
-tallied (refused e) = Not e
+abbrev pub tallied : Outcome (List Function) → Result ℕ Refusal
+tallied (Ok (fs, at)) = Ok (length fs)
+tallied (Err e) = Err e
 
-abbrev pub told : FunctionTally → Listed
-told (All n) = record { number = «ACCEPTED»; place = 0; functions = n }
-told (Not e) = record { number = refusal_number e; place = refusal_place e; functions = 0 }
-
-unfoldable pub roomy : ℕ → ℕ → FunctionTally → FunctionTally
-roomy places parents (All n) = cond (leb n places && leb n parents) (All n) (Not Short)
-roomy places parents (Not e) = Not e
+abbrev pub told : Result ℕ Refusal → Listed
+told (Ok n) = record { number = «ACCEPTED»; place = 0; functions = n }
+told (Err e) = record { number = refusal_number e; place = refusal_place e; functions = 0 }
 
 -- one function, where there is room for it
 pub record Noted (i at parent : ℕ) (pl pa pl' pa' : List ℕ) : Type 0 where
@@ -37,19 +36,14 @@ pub record Noted (i at parent : ℕ) (pl pa pl' pa' : List ℕ) : Type 0 where
 
 -- those that were read, where the first has number i, one that stands in none of them stands in `outer`,
 -- and there is room for all
-abbrev pub Wrote : Result (List Function) → ℕ → ℕ → List ℕ → List ℕ → List ℕ → List ℕ → Type 0
-Wrote (done fs at) outer i pl pa pl' pa' =
+abbrev pub Wrote : Outcome (List Function) → ℕ → ℕ → List ℕ → List ℕ → List ℕ → List ℕ → Type 0
+Wrote (Ok (fs, at)) outer i pl pa pl' pa' =
     i + length fs ≤ length pl → i + length fs ≤ length pa
     → (pl' ≡ put pl i (places_of fs)) × (pa' ≡ put pa i (parents_from outer [] i fs))
-Wrote (refused e) outer i pl pa pl' pa' = Unit
+Wrote (Err e) outer i pl pa pl' pa' = Unit
 
-abbrev pub WroteBy : Reader (List Function) → List ℕ → Cursor → ℕ → ℕ → List ℕ → List ℕ
-    → List ℕ → List ℕ → Type 0
-WroteBy r bytes (At at v) outer i pl pa pl' pa' = Wrote (r bytes at) outer i pl pa pl' pa'
-WroteBy r bytes (Refused e) outer i pl pa pl' pa' = Unit
-
-pub record WroteAt (r : Reader (List Function)) (bytes : List ℕ) (c : Cursor) (outer i : ℕ)
+pub record WroteAt (r : Reader (List Function)) (bytes : List ℕ) (at outer i : ℕ)
     (pl pa pl' pa' : List ℕ) : Type 0 where
   pub places_same : length pl' ≡ length pl
   pub parents_same : length pa' ≡ length pa
-  pub written : WroteBy r bytes c outer i pl pa pl' pa'
+  pub written : Wrote (r bytes at) outer i pl pa pl' pa'

@@ -5,4 +5,4 @@ mod early;
 mod listing;
 
 pub use early::ends_early;
-pub use listing::{FunctionTally, Listed, count_functions, list_functions};
+pub use listing::{Listed, count_functions, list_functions};

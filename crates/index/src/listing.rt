@@ -1,18 +1,18 @@
 // All functions of a chunk. Its bytes are read once to count them, so that nothing is stored unless all of
 // the chunk is accepted and each slice has room, and once more to store where each stands.
-ghost use Rattle.std.specs.Prelude.{◌≡◌, ◌+◌, ◌≤◌, length};
+ghost use Rattle.std.specs.Prelude.{◌≡◌, ◌+◌, ◌≤◌, length, IfOk};
+ghost use Rattle.common.specs.Limits.{most_bytes};
+ghost use Rattle.loaders.specs.Reading.{read_as};
 ghost use Rattle.lundump.specs.Lundump.{load_function, load_protos};
-ghost use Rattle.loaders.specs.Cursors.{step, valued};
 ghost use Rattle.index.specs.Listing.{functions_of, listed_of, listed_in, places_of, parents_of, after_all};
-ghost use Rattle.index.specs.Noting.{tallied, told, roomy, WroteAt, Noted};
+ghost use Rattle.index.specs.Noting.{main_from, tallied, told, WroteAt, Noted};
 
+use common::Refusal;
 use common::limits::{LEVELS_BELOW, MOST_BYTES};
-use loaders::inner::{byte, int, position, value};
-use loaders::{Cursor, Refusal};
-use lundump::inner::{
-    code, constants, function, head, header, lines, names, refusal_number, refusal_place, upvalues,
-};
-use lundump::{Search, Walk};
+use common::numbers::ACCEPTED;
+use loaders::Read;
+use loaders::inner::{byte, int};
+use lundump::inner::{code, constants, function, head, header, lines, names, upvalues};
 
 // Of a refusal the count is 0.
 #[repr(C)]
@@ -23,77 +23,69 @@ pub struct Listed {
     pub functions: u64,
 }
 
-#[derive(Drop)]
-pub enum FunctionTally {
-    All(usize),
-    Not(Refusal),
-}
+impl From<Result<usize, Refusal>> for Listed {
+    ghost from_gives = { λ tally listed. listed ≡ told tally };
 
-// No function.
-const NO_FUNCTION: usize = 18446744073709551615;
-
-// How many functions there are, by the search for one that no chunk has.
-fn take_tally(chunk: &[u8]) -> FunctionTally
-    ensures { result ≡ tallied (functions_of chunk.now) }
-{
-    if MOST_BYTES < chunk.len() {
-        return FunctionTally::Not(Refusal::Malformed);
-    }
-    let main = byte(chunk, header(chunk));
-    let w = function(chunk, main, LEVELS_BELOW, Search::Left(MOST_BYTES));
-    match w {
-        Walk::Past(_, s) => match s {
-            Search::Left(n) => {
-                return FunctionTally::All(MOST_BYTES - n);
-            }
-            Search::Found(_) => {
-                return FunctionTally::Not(Refusal::Malformed);
-            }
-        },
-        Walk::Stopped(e) => {
-            return FunctionTally::Not(e);
+    fn from(tally: Result<usize, Refusal>) -> Listed {
+        match tally {
+            Ok(n) => Listed {
+                number: u64::from(ACCEPTED),
+                place: 0,
+                functions: n as u64,
+            },
+            Err(refusal) => Listed {
+                number: u64::from(refusal.number()),
+                place: refusal.place() as u64,
+                functions: 0,
+            },
         }
     }
 }
 
-fn tell(t: FunctionTally) -> Listed
-    ensures { result ≡ told t }
+// No function.
+// Kept: (a) a number and no Option: it stands in the lent list of parents (lawendeb_chunk_index).
+const NO_FUNCTION: usize = 18446744073709551615;
+
+// Where the main function stands, behind the header and a byte.
+#[tactic(auto, using(crate::proofs::Counting::too_long, crate::proofs::Counting::no_header, crate::proofs::Counting::no_byte, crate::proofs::Counting::main_there))]
+fn main_at(chunk: &[u8]) -> Result<usize, Refusal>
+    ensures value { result ≡ main_from chunk.now }
+    ensures few { IfOk result (λ at. length chunk.now ≤ most_bytes) }
 {
-    match t {
-        FunctionTally::All(n) => Listed {
-            number: 0,
-            place: 0,
-            functions: n as u64,
-        },
-        FunctionTally::Not(e) => Listed {
-            number: refusal_number(e) as u64,
-            place: refusal_place(e),
-            functions: 0,
-        },
+    if MOST_BYTES < chunk.len() {
+        return Err(Refusal::MalformedChunk);
+    }
+    let at = header(chunk)?;
+    let (_, main) = byte(chunk, at)?;
+    Ok(main)
+}
+
+// How many functions are read from there on, by the search for one that no chunk has.
+#[tactic(auto, using(crate::proofs::Counting::left_few, crate::proofs::Counting::left_all, crate::proofs::Counting::none_found, crate::proofs::Counting::was_stopped))]
+fn tally_from(chunk: &[u8], at: usize) -> Result<usize, Refusal>
+    requires { length chunk.now ≤ most_bytes }
+    ensures { result ≡ tallied (load_function 31 chunk.now at) }
+{
+    match function(chunk, at, LEVELS_BELOW, Err(MOST_BYTES))? {
+        (Err(left), _) => Ok(MOST_BYTES - left),
+        (Ok(_), _) => Err(Refusal::MalformedChunk),
     }
 }
 
-// Number 6, where a slice has too little room.
-fn with_rooms(t: FunctionTally, places: usize, parents: usize) -> FunctionTally
-    ensures { result ≡ roomy places parents t }
+#[tactic(auto, using(crate::proofs::Counting::no_main, crate::proofs::Counting::from_main))]
+pub(crate) fn take_tally(chunk: &[u8]) -> Result<usize, Refusal>
+    ensures { result ≡ tallied (functions_of chunk.now) }
 {
-    let FunctionTally::All(n) = t else {
-        return t;
-    };
-    if places < n {
-        return FunctionTally::Not(Refusal::Short);
-    }
-    if parents < n {
-        return FunctionTally::Not(Refusal::Short);
-    }
-    t
+    let at = main_at(chunk)?;
+    tally_from(chunk, at)
 }
 
 // How many functions a chunk has.
+// Kept: (a) as lawendeb_chunk_functions answers; the clause speaks of C's numbers.
 pub fn count_functions(chunk: &[u8]) -> Listed
     ensures { result ≡ listed_of (functions_of chunk.now) }
 {
-    tell(take_tally(chunk))
+    Listed::from(take_tally(chunk))
 }
 
 // Function i stands there, in this one.
@@ -101,34 +93,17 @@ fn note(i: usize, at: usize, parent: usize, places: &mut [u64], parents: &mut [u
     ensures { Noted i at parent places.old parents.old places.new
         parents.new }
 {
-    if i < places.len() {
-        if i < parents.len() {
-            places[i] = at as u64;
-            parents[i] = parent as u64;
-        }
+    if i < places.len() && i < parents.len() {
+        places[i] = at as u64;
+        parents[i] = parent as u64;
     }
 }
 
-// The same position, with so many functions.
-fn with_count(c: Cursor, n: usize) -> Cursor
-    ensures { result ≡ valued n c }
-{
-    match c {
-        Cursor::At(at, _) => Cursor::At(at, n),
-        Cursor::Refused(e) => Cursor::Refused(e),
-    }
-}
-
-// So many numbers past i, if there is room.
+// So many numbers past i, up to the room.
 fn past(i: usize, n: usize, room: usize) -> usize
     ensures { (i + n ≤ room) → (result ≡ i + n) }
 {
-    if i <= room {
-        if n <= room - i {
-            return i + n;
-        }
-    }
-    i
+    i.saturating_add(n).min(room)
 }
 
 // loadFunction, with so many levels left below it: it has number i and stands in `parent`.
@@ -136,34 +111,27 @@ fn past(i: usize, n: usize, room: usize) -> usize
 #[cycle(list_function_list_protos)]
 fn list_function(
     chunk: &[u8],
-    c: Cursor,
+    at: usize,
     level: u32,
     parent: usize,
     i: usize,
     places: &mut [u64],
     parents: &mut [u64],
-) -> Cursor
-    ensures value { result ≡ step length (load_function level) chunk.now c }
-    ensures wrote_at { WroteAt (load_function level) chunk.now c parent i places.old
+) -> Read<usize>
+    ensures value { result ≡ read_as length (load_function level chunk.now at) }
+    ensures wrote_at { WroteAt (load_function level) chunk.now at parent i places.old
         parents.old places.new parents.new }
 {
-    let start = head(chunk, c);
-    let words = code(chunk, start);
-    let tags = constants(chunk, words);
-    let ups = upvalues(chunk, tags);
-    note(i, position(c), parent, places, parents);
-    let inner = list_protos(
-        chunk,
-        ups,
-        level,
-        i,
-        past(i, 1, places.len()),
-        places,
-        parents,
-    );
-    let debug = lines(chunk, inner);
-    let last = names(chunk, debug, value(ups));
-    with_count(last, value(inner) + 1)
+    let (_, code_at) = head(chunk, at)?;
+    let (_, constants_at) = code(chunk, code_at)?;
+    let (_, upvalues_at) = constants(chunk, constants_at)?;
+    let (upvalues, protos_at) = upvalues(chunk, upvalues_at)?;
+    note(i, at, parent, places, parents);
+    let next = past(i, 1, places.len());
+    let (inner, lines_at) = list_protos(chunk, protos_at, level, i, next, places, parents)?;
+    let names_at = lines(chunk, lines_at)?;
+    let end = names(chunk, names_at, upvalues)?;
+    Ok((inner + 1, end))
 }
 
 // loadProtos: the first function within has number `first`, and all stand in `parent`. How many functions
@@ -171,51 +139,56 @@ fn list_function(
 #[cycle(list_function_list_protos)]
 fn list_protos(
     chunk: &[u8],
-    c: Cursor,
+    at: usize,
     level: u32,
     parent: usize,
     first: usize,
     places: &mut [u64],
     parents: &mut [u64],
-) -> Cursor
-    ensures value { result ≡ step length (load_protos level) chunk.now c }
-    ensures wrote_at { WroteAt (load_protos level) chunk.now c parent first places.old
+) -> Read<usize>
+    ensures value { result ≡ read_as length (load_protos level chunk.now at) }
+    ensures wrote_at { WroteAt (load_protos level) chunk.now at parent first places.old
         parents.old places.new parents.new }
 {
-    let count = int(chunk, c);
-    let Cursor::At(start, n) = count else {
-        return count;
-    };
+    let (n, start) = int(chunk, at)?;
     if level == 0 {
-        if n == 0 {
-            return Cursor::At(start, 0);
+        if n != 0 {
+            return Err(Refusal::TooDeep);
         }
-        return Cursor::Refused(Refusal::TooDeep);
+        return Ok((0, start));
     }
     let mut at = start;
     let mut total: usize = 0;
-    let mut i = 0;
-    while i < n {
-        let next = list_function(
-            chunk,
-            Cursor::At(at, 0),
-            level - 1,
-            parent,
-            past(first, total, places.len()),
-            places,
-            parents,
-        );
-        let Cursor::At(behind, more) = next else {
-            return next;
-        };
+    for _i in 0..n {
+        let next = past(first, total, places.len());
+        let (more, behind) = list_function(chunk, at, level - 1, parent, next, places, parents)?;
         at = behind;
         total += more;
-        i += 1;
     }
-    Cursor::At(at, total)
+    Ok((total, at))
+}
+
+// The second reading: the number of the functions, if each slice has room for them.
+fn list_all(chunk: &[u8], places: &mut [u64], parents: &mut [u64]) -> Result<usize, Refusal>
+    ensures value { result ≡ tallied (listed_in chunk.now (length places.old)
+        (length parents.old)) }
+    ensures places_after { places.new ≡ after_all places_of (listed_in chunk.now
+        (length places.old) (length parents.old)) places.old }
+    ensures parents_after { parents.new ≡ after_all parents_of (listed_in chunk.now
+        (length places.old) (length parents.old)) parents.old }
+{
+    let at = main_at(chunk)?;
+    let n = tally_from(chunk, at)?;
+    if places.len().min(parents.len()) < n {
+        return Err(Refusal::ShortSlice);
+    }
+    // The first reading accepted what this one reads.
+    let _ = list_function(chunk, at, LEVELS_BELOW, NO_FUNCTION, 0, places, parents);
+    Ok(n)
 }
 
 // Where each function of a chunk stands, and the number of the one that it stands in.
+// Kept: (a) as lawendeb_chunk_index answers; `value` speaks of C's numbers.
 pub fn list_functions(chunk: &[u8], places: &mut [u64], parents: &mut [u64]) -> Listed
     ensures value { result ≡ listed_of (listed_in chunk.now (length places.old)
         (length parents.old)) }
@@ -224,11 +197,5 @@ pub fn list_functions(chunk: &[u8], places: &mut [u64], parents: &mut [u64]) -> 
     ensures parents_after { parents.new ≡ after_all parents_of (listed_in chunk.now
         (length places.old) (length parents.old)) parents.old }
 {
-    let t = with_rooms(take_tally(chunk), places.len(), parents.len());
-    let FunctionTally::All(_) = t else {
-        return tell(t);
-    };
-    let main = byte(chunk, header(chunk));
-    list_function(chunk, main, LEVELS_BELOW, NO_FUNCTION, 0, places, parents);
-    tell(t)
+    Listed::from(list_all(chunk, places, parents))
 }

@@ -7,38 +7,24 @@ mod print;
 mod questions;
 
 use std::io::Stdout;
+use vectors::part;
 
 fn ask(out: Stdout, line: &[u8]) {
-    let question = vectors::which(line, b"list|number|place|why");
-    if question > 3 {
-        return;
-    }
-    print::text(out, vectors::part(line, 1));
-    match question {
-        0 => {
-            questions::list(out, line);
-        }
-        1 => {
-            questions::by_number(out, line);
-        }
-        2 => {
-            questions::by_place(out, line);
-        }
+    let question: fn(Stdout, &[u8]) = match part(line, 0) {
+        b"list" => questions::list,
+        b"number" => questions::by_number,
+        b"place" => questions::by_place,
+        b"why" => questions::why,
         _ => {
-            questions::why(out, line);
+            return;
         }
-    }
+    };
+    print::text(out, part(line, 1));
+    question(out, line);
     print::end(out);
 }
 
-fn ask_all(out: Stdout, text: &[u8]) {
-    for i in 0..text.len() {
-        ask(out, vectors::line_at(text, i));
-    }
-}
-
 fn main(rt: HostRuntime) {
-    let mut page = io::large_buffer();
-    let n = vectors::read(rt.stdin(), &mut page);
-    ask_all(rt.stdout(), pages::first(&page, n));
+    let out = rt.stdout();
+    vectors::ask_each(rt.stdin(), |line| ask(out, line));
 }

@@ -9,6 +9,7 @@ use std::io::Read;
 pub fn read_full<R: Read>(input: &mut R, buffer: &mut [u8]) -> usize
     ensures { IsPrefixLen result buffer.new }
 {
+    // Kept: (d) a read says itself how far it came, so that no range has the steps.
     let mut done = 0;
     while done < buffer.len() {
         let n = input.read(&mut buffer[done..]).unwrap_or(0);

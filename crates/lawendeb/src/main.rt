@@ -3,77 +3,73 @@
 // they meet.
 #![tactic(auto)]
 
-use command::asking::{Asked, Wish, argument, named, read_all};
+use command::asking::{Asked, Instead, argument, read_all};
 use command::failing::fail;
-use command::loading::{Weighed, load_script, load_weights};
-use command::reading::Reading;
+use command::loading::{NoWeights, load_script, load_weights};
+use command::reading::Unread;
 use command::rooms;
-use forms::Options;
-use pages::{PageState, first};
+use common::Refusal;
+use common::numbers::*;
+use findings::Script;
+use forms::Form;
+use pages::Page;
 use std::env::Env;
+use std::fmt;
 use std::fs::Files;
-use std::io::{Error, Stderr};
-use usage::{put_bad_line, put_unclear, put_usage, put_version};
+use std::io::Stderr;
+use usage::{put_bad_line, put_long_weights, put_unclear, put_usage, put_version};
+use wording::Refused;
 
-// What came of a script: all is told, or it is refused, by number and place.
-#[derive(Drop)]
-pub enum Outcome {
-    Told(PageState),
-    Refused(u64, u64),
-}
-
-// Tells of a script's bytes, unless they are refused.
-fn tell_listed(
-    bytes: &[u8],
-    file: &[u8],
-    o: Options,
-    weights: &[u8],
-    page: &mut [u8],
-    s: PageState,
-) -> Outcome {
-    let mut places = rooms::places();
-    let mut keys = rooms::places();
-    let listed = index::list_functions(bytes, &mut places, &mut keys);
-    if listed.number != 0 {
-        return Outcome::Refused(listed.number, listed.place);
+// What refuses a file.
+// Kept: (a) numbers, as `index` answers with a struct of C, `Listed`.
+fn refusal_of(number: u64, place: usize) -> Refusal {
+    match u8::try_from(number) {
+        Ok(UNKNOWN_TAG) => Refusal::UnknownTag(place),
+        Ok(SHORT_SLICE) => Refusal::ShortSlice,
+        Ok(HEADER_DIFFERS) => Refusal::HeaderDiffers,
+        Ok(TOO_DEEP) => Refusal::TooDeep,
+        _ => Refusal::MalformedChunk,
     }
-    let n = listed.functions as usize;
-    let t = owner::tell(bytes, file, o, weights, &places, &mut keys, n, page, s);
-    Outcome::Told(t)
 }
 
-// Tells why a script of n bytes in the room for them is refused.
-fn tell_refused(
-    room: &mut [u8],
-    n: usize,
-    file: &[u8],
-    o: Options,
-    number: u64,
-    place: u64,
-    page: &mut [u8],
-    s: PageState,
-) -> PageState {
-    let is_cut = index::ends_early(room, n);
-    forms::put_refused(page, s, file, o, first(room, n), number, place, is_cut)
+// A file's functions: their places, and the numbers of those that they stand in.
+fn list(bytes: &[u8], places: &mut [u64], keys: &mut [u64]) -> Result<usize, Refusal> {
+    let listed = index::list_functions(bytes, places, keys);
+    if listed.number != 0 {
+        return Err(refusal_of(listed.number, listed.place as usize));
+    }
+    Ok(listed.functions as usize)
 }
 
 // Tells of a script of n bytes in the room for them.
 fn tell_bytes(
     room: &mut [u8],
     n: usize,
-    file: &[u8],
-    o: Options,
+    form: Form,
     weights: &[u8],
-    page: &mut [u8],
-    s: PageState,
-) -> PageState {
-    let r = tell_listed(first(room, n), file, o, weights, page, s);
-    match r {
-        Outcome::Told(t) => {
-            return t;
+    page: &mut Page,
+) -> fmt::Result {
+    let mut places = rooms::places();
+    let mut keys = rooms::places();
+    let n = n.min(room.len());
+    match list(&room[..n], &mut places, &mut keys) {
+        Ok(k) => {
+            let script = Script {
+                bytes: &room[..n],
+                weights,
+                places: &places,
+            };
+            let k = k.min(keys.len());
+            owner::tell(script, form, &mut keys[..k], page)
         }
-        Outcome::Refused(number, place) => {
-            return tell_refused(room, n, file, o, number, place, page, s);
+        Err(refusal) => {
+            let is_cut = index::ends_early(room, n);
+            let refused = Refused {
+                bytes: &room[..n],
+                refusal,
+                is_cut,
+            };
+            form.put_refused(page, refused)
         }
     }
 }
@@ -82,106 +78,81 @@ fn tell_bytes(
 fn tell_script<R: Env + Files>(
     rt: &R,
     err: Stderr,
-    a: Asked,
+    asked: Asked,
     weights: &[u8],
-    page: &mut [u8],
-    s: PageState,
-) -> PageState {
+    page: &mut Page,
+) -> fmt::Result {
     let mut name = io::buffer();
-    let k = argument(rt, named(a), &mut name);
+    let k = argument(rt, asked.named(), &mut name);
+    let form = Form {
+        file: &name[..k],
+        limit: asked.limit,
+        is_json: asked.is_json,
+        is_weighted: asked.weights.is_some(),
+    };
     let mut bytes = rooms::bytes();
-    match load_script(rt, a, &mut bytes) {
-        Reading::Whole(n) => tell_bytes(&mut bytes, n, &name[..k], options(a), weights, page, s),
-        Reading::Longer => forms::put_too_long(page, s, &name[..k], options(a)),
-        Reading::Failed(error) => {
-            fail(err, &name[..k], error);
-            s
+    match load_script(rt, asked.file, &mut bytes) {
+        Ok(n) => tell_bytes(&mut bytes, n, form, weights, page),
+        Err(Unread::Longer) => form.put_too_long(page),
+        Err(Unread::Failed(error)) => {
+            fail(err, form.file, error);
+            Ok(())
         }
     }
 }
 
-fn options(a: Asked) -> Options {
-    Options {
-        limit: a.limit,
-        is_json: a.is_json,
-        is_weighted: a.weights != 0,
-    }
-}
-
-// Which line of the weights file, by its argument's number, can't be read.
-fn tell_bad_line<E: Env>(
+// Why the weights file that argument i names is not read.
+fn tell_unread<E: Env>(
     env: &E,
-    i: usize,
-    line: usize,
-    page: &mut [u8],
-    s: PageState,
-) -> PageState {
-    let mut name = io::buffer();
-    let n = argument(env, i, &mut name);
-    put_bad_line(page, s, &name[..n], line)
-}
-
-// Why the file that argument i names can't be opened or read.
-fn tell_failed<E: Env>(env: &E, err: Stderr, i: usize, error: Error) {
-    let mut name = io::buffer();
-    let n = argument(env, i, &mut name);
-    fail(err, &name[..n], error);
-}
-
-// With the weights of the file that the arguments name, or of 1; or which of its lines can't be read, and
-// then nothing more is told.
-fn tell_weighed<R: Env + Files>(
-    rt: &R,
     err: Stderr,
-    a: Asked,
-    page: &mut [u8],
-    s: PageState,
-) -> PageState {
-    let mut weights = rooms::weights();
-    match load_weights(rt, a.weights, &mut weights) {
-        Weighed::Read => tell_script(rt, err, a, &weights, page, s),
-        Weighed::BadLine(line) => tell_bad_line(rt, a.weights, line, page, s),
-        Weighed::Failed(error) => {
-            tell_failed(rt, err, a.weights, error);
-            s
+    i: usize,
+    unread: NoWeights,
+    page: &mut Page,
+) -> fmt::Result {
+    let mut name = io::buffer();
+    let n = argument(env, i, &mut name);
+    match unread {
+        NoWeights::BadLine(line) => put_bad_line(page, &name[..n], line.0),
+        NoWeights::Unread(Unread::Longer) => put_long_weights(page, &name[..n]),
+        NoWeights::Unread(Unread::Failed(error)) => {
+            fail(err, &name[..n], error);
+            Ok(())
         }
     }
+}
+
+// With the weights of the file that the arguments name, or of 1. Where they can't be read nothing more is
+// told.
+fn tell<R: Env + Files>(rt: &R, err: Stderr, asked: Asked, page: &mut Page) -> fmt::Result {
+    let mut weights = rooms::weights();
+    if let Some(i) = asked.weights {
+        if let Err(unread) = load_weights(rt, i, &mut weights) {
+            return tell_unread(rt, err, i, unread, page);
+        }
+    }
+    tell_script(rt, err, asked, &weights, page)
 }
 
 // An argument that is not understood.
-fn tell_unclear<E: Env>(env: &E, i: usize, page: &mut [u8], s: PageState) -> PageState {
+fn tell_unclear<E: Env>(env: &E, i: usize, page: &mut Page) -> fmt::Result {
     let mut text = io::buffer();
     let n = argument(env, i, &mut text);
-    put_unclear(page, s, &text[..n])
+    put_unclear(page, &text[..n])
 }
 
-fn answer<R: Env + Files>(
-    rt: &R,
-    err: Stderr,
-    a: Asked,
-    page: &mut [u8],
-    s: PageState,
-) -> PageState {
-    match a.wish {
-        Wish::Telling => tell_weighed(rt, err, a, page, s),
-        Wish::Usage => put_usage(page, s),
-        Wish::Version => put_version(page, s),
-        Wish::Unclear(i) => tell_unclear(rt, i, page, s),
+fn answer<R: Env + Files>(rt: &R, err: Stderr, page: &mut Page) -> fmt::Result {
+    match read_all(rt) {
+        Ok(asked) => tell(rt, err, asked, page)?,
+        Err(Instead::Usage) => put_usage(page)?,
+        Err(Instead::Version) => put_version(page)?,
+        Err(Instead::Unclear(i)) => tell_unclear(rt, i, page)?,
     }
+    page.finish()
 }
 
 fn main(rt: HostRuntime) {
-    let mut page = io::large_buffer();
-    let asked = read_all(&rt);
-    let s = answer(
-        &rt,
-        rt.stderr(),
-        asked,
-        &mut page,
-        pages::blank(rt.stdout()),
-    );
-    let t = pages::finish(&page, s);
-    if t.is_lost {
+    let mut page = Page::new(rt.stdout());
+    if answer(&rt, rt.stderr(), &mut page).is_err() {
         let _ = rt.stderr().write_all(b"lawendeb: could not write\n");
     }
 }

@@ -2,19 +2,16 @@
 -- tables, crate `numbered` the numbers of each part.
 -- Assumes nothing.
 use Rattle.std.specs.Prelude.{ℕ, zero, suc, List, [], ◌∷◌, ◌++◌, get_or}
+use Rattle.values.specs.declared.few.Few.{Few}
+use Rattle.values.specs.declared.ir.TypedOperand.{TypedOperand}
 use Rattle.values.specs.declared.ir.TypedOperand.TheVariants as operand
+use Rattle.values.specs.declared.ir.EffectTarget.{EffectTarget}
 use Rattle.values.specs.declared.ir.EffectTarget.TheVariants as target
-use Rattle.values.specs.declared.ir.OperandSlot.{OperandSlot}
-use Rattle.values.specs.declared.ir.TargetSlot.{TargetSlot}
-use Rattle.values.specs.declared.ir.Operands.{Operands}
-use Rattle.values.specs.declared.ir.Reads.{Reads}
-use Rattle.values.specs.declared.ir.Writes.{Writes}
 use Rattle.values.specs.declared.ir.SemanticInstruction.{SemanticInstruction}
 use Rattle.records.specs.Lift.{lift_of}
 use Rattle.numbered.specs.declared.parts.FlatSlot.{FlatSlot}
 use Rattle.numbered.specs.declared.parts.FlatPair.{FlatPair}
-use Rattle.numbered.specs.Parts.{flat_operand, flat_target, flat_effect, flat_fallback, flat_pc}
-use Rattle.numbered.specs.Parts.{flat_confidence}
+use Rattle.numbered.specs.Parts.{flat_operand, flat_target, flat_effect, flat_option, flat_confidence}
 
 -- A record's numbers, in RECORD.md's order
 
@@ -24,43 +21,37 @@ slot_numbers s = s.kind ∷ s.first ∷ s.second ∷ s.third ∷ []
 abbrev pub pair_numbers : FlatPair → List ℕ
 pair_numbers p = p.kind ∷ p.value ∷ []
 
--- place k of a record's list, which has 4, 3 or 2 of them; past its end there would be register 0
+-- the places of a record's list: past them there would be register 0
 
-abbrev pub operand_numbers : List OperandSlot → ℕ → List ℕ
-operand_numbers slots k =
-    slot_numbers (flat_operand (get_or slots k (record { operand = operand.Register 0 })).operand)
+abbrev pub places_numbers : {X : Type 0} → (X → FlatSlot) → X → List X → ℕ → List ℕ
+places_numbers flat filler slots zero = []
+places_numbers flat filler slots (suc k) =
+    places_numbers flat filler slots k ++ slot_numbers (flat (get_or slots k filler))
 
-abbrev pub target_numbers : List TargetSlot → ℕ → List ℕ
-target_numbers slots k =
-    slot_numbers (flat_target (get_or slots k (record { target = target.Register 0 })).target)
+-- how many the list has, and its n places
+abbrev pub list_numbers : {X : Type 0} → (X → FlatSlot) → X → (n : ℕ) → Few X n → List ℕ
+list_numbers flat filler n list = (list.count ∷ []) ++ places_numbers flat filler list.slots n
 
 -- 0 to 13
 unfoldable pub head_numbers : SemanticInstruction → List ℕ
 head_numbers i =
     (i.pc ∷ i.raw_word ∷ i.opcode ∷ flat_confidence i.confidence ∷ [])
-    ++ pair_numbers (flat_pc i.jump_target)
-    ++ pair_numbers (flat_pc i.companion_pc)
-    ++ pair_numbers (flat_fallback i.metamethod_fallback)
+    ++ pair_numbers (flat_option i.jump_target)
+    ++ pair_numbers (flat_option i.companion_pc)
+    ++ pair_numbers (flat_option i.metamethod_fallback)
     ++ slot_numbers (flat_effect i.implicit_effect)
 
 -- 14 to 30
-unfoldable pub operands_numbers : Operands → List ℕ
-operands_numbers operands =
-    (operands.count ∷ [])
-    ++ operand_numbers operands.slots 0
-    ++ operand_numbers operands.slots 1
-    ++ operand_numbers operands.slots 2
-    ++ operand_numbers operands.slots 3
+unfoldable pub operands_numbers : Few TypedOperand 4 → List ℕ
+operands_numbers operands = list_numbers flat_operand (operand.Register 0) 4 operands
 
 -- 31 to 43
-unfoldable pub reads_numbers : Reads → List ℕ
-reads_numbers reads = (reads.count ∷ []) ++ target_numbers reads.slots 0 ++ target_numbers reads.slots 1
-    ++ target_numbers reads.slots 2
+unfoldable pub reads_numbers : Few EffectTarget 3 → List ℕ
+reads_numbers reads = list_numbers flat_target (target.Register 0) 3 reads
 
 -- 44 to 52
-unfoldable pub writes_numbers : Writes → List ℕ
-writes_numbers writes =
-    (writes.count ∷ []) ++ target_numbers writes.slots 0 ++ target_numbers writes.slots 1
+unfoldable pub writes_numbers : Few EffectTarget 2 → List ℕ
+writes_numbers writes = list_numbers flat_target (target.Register 0) 2 writes
 
 unfoldable pub numbers_of : SemanticInstruction → List ℕ
 numbers_of i =

@@ -1,7 +1,7 @@
-pub mod Cursors
-pub mod Ldebug
+pub mod Places
 pub mod Passes
+pub mod Ldebug
 pub mod Infos
-pub mod HeadsRead
 pub mod LineReads
+pub mod HeadsRead
 pub mod Examples

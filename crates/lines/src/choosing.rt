@@ -3,10 +3,10 @@ ghost use Rattle.std.specs.Prelude.{◌≡◌};
 ghost use Rattle.lundump.specs.Search.{located_of};
 ghost use Rattle.lines.specs.Choices.{function_at, chosen_by};
 
+use common::Refusal;
 use common::limits::{LEVELS_BELOW, MOST_BYTES};
-use loaders::{Cursor, Refusal};
-use lundump::inner::{function, locate, located_counts};
-use lundump::{Located, Search};
+use lundump::Layout;
+use lundump::inner::{function, locate, located};
 
 #[derive(Clone, Copy)]
 pub enum Choice {
@@ -18,16 +18,17 @@ pub enum Choice {
 
 // The function whose first byte stands there: none but its own bytes are read, and those
 // of the functions within it.
-fn locate_at(chunk: &[u8], at: usize) -> Located
+#[tactic(auto, using(crate::proofs::Places::place_too_long, crate::proofs::Places::place_there))]
+fn locate_at(chunk: &[u8], at: usize) -> Result<Layout, Refusal>
     ensures { result ≡ located_of (function_at at chunk.now) }
 {
     if MOST_BYTES < chunk.len() {
-        return Located::Not(Refusal::Malformed);
+        return Err(Refusal::MalformedChunk);
     }
-    located_counts(function(chunk, Cursor::At(at, 0), LEVELS_BELOW, Search::Left(0)))
+    located(function(chunk, at, LEVELS_BELOW, Err(0)))
 }
 
-pub(crate) fn locate_by(chunk: &[u8], choice: Choice) -> Located
+pub(crate) fn locate_by(chunk: &[u8], choice: Choice) -> Result<Layout, Refusal>
     ensures { result ≡ located_of (chosen_by choice chunk.now) }
 {
     match choice {

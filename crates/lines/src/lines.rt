@@ -1,10 +1,15 @@
 // The line of each word, as luaG_getfuncline of ldebug.c gives it, one after another: so each byte and each
 // absolute line is read once.
-ghost use Rattle.std.specs.Prelude.{◌≡◌, ◌++◌, ◌+◌, ◌≤◌, ◌<◌, length, take, drop};
+ghost use Rattle.std.specs.Prelude.{◌≡◌, ◌+◌, ◌≤◌, length, IfOk};
 ghost use Rattle.common.specs.Limits.{most_words, int_max};
+ghost use Rattle.loaders.specs.Reading.{read_as, and_then};
+ghost use Rattle.loaders.specs.Loaders.{load_int, load_string_n};
 ghost use Rattle.lines.specs.Ldebug.{line_moved, lines_from, lines_of};
 ghost use Rattle.lines.specs.Lines.{
   defined_at,
+  read_abs,
+  read_info,
+  span_of,
   abs_from,
   line_info_at,
   lines_in,
@@ -15,227 +20,162 @@ ghost use Rattle.lines.specs.Lines.{
 ghost use Rattle.lundump.specs.Chunk.{counts_of, after, words_room};
 ghost use Rattle.lines.specs.Choices.{filled_by};
 
-use crate::choosing::{Choice, locate_by};
-use chunk::inner::with_room;
-use common::limits::{MOST_CONSTANTS, MOST_NAMES};
-use loaders::Cursor;
-use loaders::inner::{block, int, string, value};
-use lundump::inner::report;
-use lundump::{Counts, Located};
+use crate::choosing::Choice;
+use crate::words::located_in;
+use loaders::Read;
+use loaders::inner::{block, int, string};
+use lundump::Counts;
 
-#[derive(Drop)]
-pub enum AbsRead {
-    // An instruction, its line, and the position past them.
-    At(usize, usize, usize),
-    Ends,
-}
-
-// Where the bytes of lineinfo start and how many they are; where the absolute lines
-// start and how many are left.
-#[derive(Drop)]
-pub struct LinePlaces {
-    pub start: usize,
-    pub count: usize,
-    pub abs: usize,
-    pub left: usize,
-}
-
-// A word's line; the line that the next one moves on from, and the absolute lines that are left.
-#[derive(Drop)]
-pub struct LineTurn {
-    pub shown: usize,
+// lobject.h's AbsLineInfo: an instruction that has its line of its own.
+#[derive(Clone, Copy)]
+pub struct AbsLine {
+    pub pc: usize,
     pub line: usize,
+}
+
+// The absolute lines that are left: where they start, and how many.
+#[derive(Clone, Copy)]
+pub struct AbsLeft {
     pub at: usize,
     pub left: usize,
 }
 
-fn byte_of(x: u8) -> usize
-    ensures { (result ≡ x) × (result < 256) }
-{
-    x as usize
+// A function's line information: the bytes of lineinfo, and the absolute lines.
+#[derive(Clone, Copy)]
+pub struct LinePlaces<'a> {
+    pub lineinfo: &'a [u8],
+    pub abs: AbsLeft,
 }
 
 // A line moved by a signed byte, 0 where it would go below.
-fn move_line(line: usize, b: usize) -> usize
-    requires { (line ≤ 4294967295) × (b < 256) }
+#[tactic(auto, unfolding(crate::specs::Ldebug::line_moved))]
+fn move_line(line: usize, b: u8) -> usize
+    requires { line ≤ 4294967295 }
     ensures { result ≡ line_moved line b }
 {
     if b < 128 {
-        return line + b;
+        line + usize::from(b)
+    } else {
+        line.saturating_sub(256 - usize::from(b))
     }
-    let back = 256 - b;
-    if line < back {
-        return 0;
-    }
-    line - back
 }
 
-// The next absolute line, where so many are left.
-fn abs_at(chunk: &[u8], at: usize, left: usize) -> AbsRead
-    ensures { result ≡ next_abs left chunk.now at }
+#[tactic(auto, unfolding(crate::specs::Lines::read_abs))]
+fn abs_line(chunk: &[u8], at: usize) -> Read<AbsLine>
+    ensures { result ≡ read_abs chunk.now at }
 {
-    if left == 0 {
-        return AbsRead::Ends;
+    let (pc, at) = int(chunk, at)?;
+    let (line, at) = int(chunk, at)?;
+    Ok((AbsLine { pc, line }, at))
+}
+
+// The next absolute line, and the position past it.
+#[tactic(auto, using(crate::proofs::Infos::none_left, crate::proofs::Infos::some_left))]
+fn first_of(chunk: &[u8], abs: AbsLeft) -> Option<(AbsLine, usize)>
+    ensures { result ≡ next_abs abs.left chunk.now abs.at }
+{
+    if abs.left == 0 {
+        return None;
     }
-    let first = int(chunk, Cursor::At(at, 0));
-    let Cursor::At(middle, pc) = first else {
-        return AbsRead::Ends;
+    abs_line(chunk, abs.at).ok()
+}
+
+// The line of word i, which has byte b, where the one before has `line`; and the absolute lines that are left
+// then.
+#[tactic(auto, using(crate::proofs::Infos::turn_own, crate::proofs::Infos::turn_move, crate::proofs::Infos::turn_end, crate::proofs::Infos::next_some))]
+fn next_line(chunk: &[u8], b: u8, i: usize, line: usize, abs: AbsLeft) -> (usize, AbsLeft)
+    requires { line ≤ 4294967295 }
+    ensures { LineTurns chunk.now b line i abs result }
+{
+    let moved = (move_line(line, b), abs);
+    let Some((own, at)) = first_of(chunk, abs) else {
+        return moved;
     };
-    let second = int(chunk, Cursor::At(middle, 0));
-    let Cursor::At(past, line) = second else {
-        return AbsRead::Ends;
-    };
-    AbsRead::At(pc, line, past)
+    if own.pc != i {
+        return moved;
+    }
+    let left = abs.left - 1;
+    (own.line, AbsLeft { at, left })
 }
 
-// The line of word i, where the one before has `line`, and so many absolute lines are left.
-fn line_at(
-    chunk: &[u8],
-    start: usize,
-    count: usize,
-    i: usize,
-    line: usize,
-    at: usize,
-    left: usize,
-) -> LineTurn
-    requires { (start + count ≤ length chunk.now) × (line ≤ 4294967295) }
-    ensures { LineTurns chunk.now (take count (drop start chunk.now)) line i left at result }
+// A line for each word; a word that has no byte has none. One store for both: apart, the compiler makes a
+// memset of the second, and libindex.a needs no symbol.
+fn store_lines(chunk: &[u8], p: LinePlaces<'_>, defined: usize, lines: &mut [u32])
+    requires { (defined ≤ int_max) × (length lines.old ≤ most_words) }
+    ensures { lines.new ≡ lines_from (length lines.old) defined 0
+        (abs_from p.entry.abs.left chunk.now p.entry.abs.at) p.entry.lineinfo.now }
 {
-    if count <= i {
-        return LineTurn {
-            shown: 0,
-            line,
-            at,
-            left,
-        };
-    }
-    let place = start + i;
-    let b = byte_of(chunk[place]);
-    let a = abs_at(chunk, at, left);
-    match a {
-        AbsRead::At(pc, own, past) => {
-            if pc == i {
-                return LineTurn {
-                    shown: own,
-                    line: own,
-                    at: past,
-                    left: left - 1,
-                };
-            }
-            let m = move_line(line, b);
-            return LineTurn {
-                shown: m,
-                line: m,
-                at,
-                left,
-            };
-        }
-        AbsRead::Ends => {
-            let m = move_line(line, b);
-            return LineTurn {
-                shown: m,
-                line: m,
-                at,
-                left,
-            };
-        }
-    }
-}
-
-// The lines of n words.
-fn store_lines(chunk: &[u8], p: LinePlaces, defined: usize, n: usize, lines: &mut [u32])
-    requires { (p.start + p.count ≤ length chunk.now)
-        × ((defined ≤ int_max) × ((n ≤ most_words) × (n ≤ length lines.old))) }
-    ensures { lines.new
-        ≡ lines_from n defined 0 (abs_from p.left chunk.now p.abs)
-        (take p.count (drop p.start chunk.now)) ++ drop n lines.old }
-{
-    let start = p.start;
-    let count = p.count;
     let mut line = defined;
-    let mut at = p.abs;
-    let mut left = p.left;
-    let mut i = 0;
-    while i < n {
-        let t = line_at(chunk, start, count, i, line, at, left);
-        lines[i] = t.shown as u32;
-        line = t.line;
-        at = t.at;
-        left = t.left;
-        i += 1;
+    let mut abs = p.abs;
+    for (i, shown) in lines.iter_mut().enumerate() {
+        *shown = match p.lineinfo.get(i) {
+            Some(b) => {
+                let turn = next_line(chunk, *b, i, line, abs);
+                line = turn.0;
+                abs = turn.1;
+                line as u32
+            }
+            None => 0,
+        };
     }
 }
 
-// loadDebug again, its first two parts, at a position that the first pass kept
-fn places(chunk: &[u8], defined: usize, at: usize) -> LinePlaces
-    ensures { Placed chunk.now defined at result }
+// loadDebug again, its lineinfo: where its bytes start and how many they are, and the position past them.
+#[tactic(auto, unfolding(crate::specs::Lines::read_info))]
+fn line_bytes(chunk: &[u8], at: usize) -> Read<(usize, usize)>
+    ensures value { result ≡ read_as span_of (read_info chunk.now at) }
+    ensures inside { IfOk result (λ r. r.0.0 + r.0.1 ≤ length chunk.now) }
 {
-    let count = int(chunk, Cursor::At(at, 0));
-    let Cursor::At(start, n) = count else {
+    let (n, start) = int(chunk, at)?;
+    let past = block(chunk, start, n)?;
+    Ok(((start, n), past))
+}
+
+// loadDebug again, its first two parts, at a position that the first pass kept.
+fn places(chunk: &[u8], at: usize) -> LinePlaces<'_>
+    ensures { Placed chunk.now at result }
+{
+    let Ok(((start, n), behind)) = line_bytes(chunk, at) else {
         return LinePlaces {
-            start: 0,
-            count: 0,
-            abs: 0,
-            left: 0,
+            lineinfo: &chunk[..0],
+            abs: AbsLeft { at: 0, left: 0 },
         };
     };
-    let past = block(chunk, count, n);
-    let Cursor::At(behind, _) = past else {
-        return LinePlaces {
-            start: 0,
-            count: 0,
-            abs: 0,
-            left: 0,
-        };
-    };
-    let entries = int(chunk, Cursor::At(behind, 0));
-    let Cursor::At(abs, left) = entries else {
-        return LinePlaces {
-            start,
-            count: n,
-            abs: 0,
-            left: 0,
-        };
-    };
+    let (left, at) = int(chunk, behind).unwrap_or((0, 0));
     LinePlaces {
-        start,
-        count: n,
-        abs,
-        left,
+        lineinfo: &chunk[start..][..n],
+        abs: AbsLeft { at, left },
     }
 }
 
-// The lines of the n words of the function at these positions.
-fn fill_lines(chunk: &[u8], first_at: usize, lines_at: usize, n: usize, lines: &mut [u32])
-    requires { (n ≤ most_words) × (n ≤ length lines.old) }
-    ensures { lines.new
-        ≡ lines_of (line_info_at chunk.now first_at lines_at) n ++ drop n lines.old }
+fn read_defined(chunk: &[u8], at: usize) -> Read<usize>
+    ensures { result ≡ and_then load_string_n load_int chunk.now at }
 {
-    let defined = value(int(chunk, string(chunk, Cursor::At(first_at, 0))));
-    let p = places(chunk, defined, lines_at);
-    store_lines(chunk, p, defined, n, lines);
+    let (_, at) = string(chunk, at)?;
+    int(chunk, at)
+}
+
+// The lines of the words of the function at these positions.
+fn fill_lines(chunk: &[u8], first_at: usize, lines_at: usize, lines: &mut [u32])
+    requires { length lines.old ≤ most_words }
+    ensures { lines.new ≡ lines_of (line_info_at chunk.now first_at lines_at) (length lines.old) }
+{
+    let (defined, _) = read_defined(chunk, first_at).unwrap_or((0, 0));
+    store_lines(chunk, places(chunk, lines_at), defined, lines);
 }
 
 // A line for each of its words, 0 where the chunk has none, as if there were room for all of its
 // tags, payloads and names.
+// Kept: (a) as lawendeb_chunk_lines and lawendeb_chunk_lines_at answer; `value` speaks of C's counts.
 pub fn lines_by(chunk: &[u8], choice: Choice, lines: &mut [u32]) -> Counts
     ensures value { result ≡ counts_of (filled_by choice chunk.now (words_room (length lines.old))) }
     ensures lines_after { lines.new ≡ after (lines_in chunk.now) (filled_by choice
         chunk.now (words_room (length lines.old))) lines.old }
 {
-    let found = with_room(
-        locate_by(chunk, choice),
-        lines.len(),
-        MOST_CONSTANTS,
-        MOST_CONSTANTS,
-        MOST_NAMES,
-    );
-    let Located::Here(f) = found else {
-        return report(found);
+    let found = located_in(chunk, choice, lines.len());
+    let Ok(f) = found else {
+        return Counts::from(found);
     };
-    let first_at = f.first_at;
-    let lines_at = f.lines_at;
-    let n = f.words;
-    fill_lines(chunk, first_at, lines_at, n, lines);
-    report(found)
+    fill_lines(chunk, f.first_at, f.lines_at, &mut lines[..f.words]);
+    Counts::from(found)
 }

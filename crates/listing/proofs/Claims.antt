@@ -6,12 +6,11 @@ use native.Mathlib.Omega.{arith}
 use lib.ListN.{length, take}
 use lib.Seq.{length-take-le, take_all}
 use Rattle.common.specs.Limits.{most_lines}
-use Rattle.common.specs.Numbers.{MALFORMED_LINE, TOO_MANY_LINES}
 use Rattle.common.specs.Lists.{put, Counted}
 use Rattle.common.proofs.Put.{put_laws}
-use Rattle.sheet.specs.declared.reading.Sheet.{Sheet}
-use Rattle.sheet.specs.declared.reading.Sheet.TheVariants.{Words, Malformed, TooLong}
-use Rattle.sheet.specs.Format.{sheet_of, sheet_words}
+use Rattle.std.specs.Prelude.{Ok, Err}
+use Rattle.common.specs.Refusals.{refusal_number, refusal_place}
+use Rattle.sheet.specs.Format.{Sheet, sheet_of, sheet_words}
 use Rattle.sheet.proofs.Claims.{claims as sheet-claims}
 use Rattle.sheet.proofs.Laws.{laws}
 use Rattle.listing.specs.Answer.{reply, listing_answer}
@@ -21,9 +20,8 @@ use Rattle.listing.proofs.Lines.{length_run, replied}
 -- ---- the answer fits the page
 
 fits_reply : (text : List ℕ) (s : Sheet) → sheet_of most_lines text ≡ s → length (reply text s) ≤ page_length
-fits_reply text (Words n) e = omega (arith, length_run (sheet_words text n), laws.words text n, laws.fits most_lines text n e)
-fits_reply text (Malformed line) e = omega (arith, laws.pair MALFORMED_LINE line)
-fits_reply text TooLong e = omega (arith, laws.pair TOO_MANY_LINES 0)
+fits_reply text (Ok n) e = omega (arith, length_run (sheet_words text n), laws.words text n, laws.fits most_lines text n e)
+fits_reply text (Err r) e = omega (arith, laws.pair (refusal_number r) (refusal_place r))
 
 fits : (text : List ℕ) → length (listing_answer text) ≤ page_length
 unfolding listing_answer
@@ -40,11 +38,10 @@ module _ (k : ℕ) (input : List ℕ) (h : deciding_length ≤ k) where
 
   -- an accepted input is shorter, and taken whole
   same_reply : (s : Sheet) → sheet_of most_lines input ≡ s → reply (take k input) s ≡ reply input s
-  same_reply (Words n) e =
+  same_reply (Ok n) e =
       let l : length input ≤ k = omega (arith, laws.lines most_lines input n e, laws.fits most_lines input n e) in
       rw (take_all k input l)
-  same_reply (Malformed line) e = refl
-  same_reply TooLong e = refl
+  same_reply (Err r) e = refl
 
   enough : listing_answer (take k input) ≡ listing_answer input
   enough =

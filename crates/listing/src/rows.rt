@@ -4,31 +4,26 @@ ghost use Rattle.common.specs.Lists.{put};
 ghost use Rattle.listing.specs.Answer.{first_cell, second_cell, line_at, listing_of};
 
 use common::inner::put_text;
-use sheet::Cell;
 use sweep::edges::Successors;
 
 // Bytes in a word's line.
 const ROW: usize = 31;
 
-fn first_cell(s: Successors) -> Cell
+fn first_cell(s: Successors) -> Option<usize>
     ensures { result ≡ first_cell s }
 {
     match s {
-        Successors::Invalid => Cell::Dash,
-        Successors::Stop => Cell::Dash,
-        Successors::One(q) => Cell::Number(q),
-        Successors::Two(q, _) => Cell::Number(q),
+        Successors::Invalid | Successors::Stop => None,
+        Successors::One(q) | Successors::Two(q, _) => Some(q),
     }
 }
 
-fn second_cell(s: Successors) -> Cell
+fn second_cell(s: Successors) -> Option<usize>
     ensures { result ≡ second_cell s }
 {
     match s {
-        Successors::Invalid => Cell::Dash,
-        Successors::Stop => Cell::Dash,
-        Successors::One(_) => Cell::Dash,
-        Successors::Two(_, q) => Cell::Number(q),
+        Successors::Invalid | Successors::Stop | Successors::One(_) => None,
+        Successors::Two(_, q) => Some(q),
     }
 }
 
@@ -62,10 +57,8 @@ pub(crate) fn put_listing(
         ≡ put page.old 0 (listing_of words.now lengths.now longest first) }
 {
     let n = words.len();
-    let mut p = 0;
-    while p < n {
+    for p in 0..n {
         put_text(page, ROW * p, &line(words, lengths, p));
-        p += 1;
     }
     put_text(page, ROW * n, &sheet::last_line(longest, first));
     ROW * n + 13

@@ -2,26 +2,32 @@
 ghost use Rattle.std.specs.Prelude.{◌≡◌, ◌≤◌, length, take};
 ghost use Rattle.common.specs.Limits.{most_lines};
 ghost use Rattle.common.specs.Lists.{put, Counted};
+ghost use Rattle.common.specs.Refusals.{refusal_number, refusal_place};
 ghost use Rattle.sheet.specs.Rows.{refusal_line_of};
 ghost use Rattle.listing.specs.Answer.{run_text, listing_answer};
 ghost use Rattle.listing.specs.Claims.{page_length, EnoughRead};
 
 use crate::paper::{BUFFER, PAGE};
 use crate::rows::put_listing;
+use common::Refusal;
 use common::inner::put_text;
 use common::limits::MOST_LINES;
 use fields::version::Version;
-use runs::Run;
+use runs::Longest;
 use runs::weighing::WEIGHTS;
-use sheet::Sheet;
 
 // Puts the only line of a refusal, and answers how long it is.
-fn put_refusal(number: u8, place: usize, page: &mut [u8]) -> usize
+fn put_refusal(refusal: Refusal, page: &mut [u8]) -> usize
     requires { 13 ≤ length page.old }
     ensures value { result ≡ 13 }
-    ensures page_after { page.new ≡ put page.old 0 (refusal_line_of number place) }
+    ensures page_after { page.new
+        ≡ put page.old 0 (refusal_line_of (refusal_number refusal) (refusal_place refusal)) }
 {
-    put_text(page, 0, &sheet::refusal_line(number, place));
+    put_text(
+        page,
+        0,
+        &sheet::refusal_line(refusal.number(), refusal.place()),
+    );
     13
 }
 
@@ -45,12 +51,8 @@ fn put_run(words: &[u32], page: &mut [u8]) -> usize
         &mut lengths[..n],
     );
     match run {
-        Run::Accepted { longest, first } => {
-            return put_listing(words, &lengths[..n], longest, first, page);
-        }
-        Run::Refused { number, place } => {
-            return put_refusal(number, place, page);
-        }
+        Ok(Longest { longest, first }) => put_listing(words, &lengths[..n], longest, first, page),
+        Err(refusal) => put_refusal(refusal, page),
     }
 }
 
@@ -61,17 +63,9 @@ fn put_answer(text: &[u8], page: &mut [u8]) -> usize
     ensures page_after { page.new ≡ put page.old 0 (listing_answer text.now) }
 {
     let mut words = [0u32; MOST_LINES];
-    let s = sheet::read(text, &mut words);
-    match s {
-        Sheet::Words(n) => {
-            return put_run(&words[..n], page);
-        }
-        Sheet::Malformed(_) => {
-            return put_refusal(sheet::sheet_number(s), sheet::sheet_place(s), page);
-        }
-        Sheet::TooLong => {
-            return put_refusal(sheet::sheet_number(s), sheet::sheet_place(s), page);
-        }
+    match sheet::read(text, &mut words) {
+        Ok(n) => put_run(&words[..n], page),
+        Err(refusal) => put_refusal(refusal, page),
     }
 }
 

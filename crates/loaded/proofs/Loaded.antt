@@ -9,12 +9,16 @@ use lib.Dec.{leb, ltb}
 use lib.ListN.{length, get_or}
 use borrow.Author.Tests.{eq-eqb, lt-ltb, le-ltb}
 use Rattle.common.specs.Limits.{most_words, most_constants, most_names, short_length}
-use Rattle.common.specs.Chain.{choose, answer, accepted}
+use Rattle.std.specs.Prelude.{Ok, Err}
+use Rattle.common.specs.declared.refusal.Refusal.TheVariants.{ShortSlice}
+use Rattle.common.specs.Chain.{choose}
 use Rattle.common.proofs.Lowest.{lowest_laws}
 use Rattle.values.specs.Spans.{past, first_name_past}
 use Rattle.tables.specs.Refusals.{unknown_tag, unknown_tag_at, is_string, string_past_at, first_unknown_tag, first_string_past, answer_of}
-use Rattle.loaders.specs.Reading.{Result, done}
-use Rattle.loaders.specs.Loaders.{Constant, plain, string}
+use Rattle.loaders.specs.Reading.{Outcome}
+use Rattle.loaders.specs.declared.constants.Constant.{Constant}
+use Rattle.loaders.specs.declared.constants.Constant.TheVariants as constant
+use Rattle.loaders.specs.Loaders.{plain}
 use Rattle.lundump.specs.Lundump.{Function}
 use Rattle.loaders.specs.Lent.{tag_of, payload_of, name_number, string_tag}
 use Rattle.lundump.specs.Chunk.{chosen, values_of, words_of, tags_of, payloads_of, names_of}
@@ -79,16 +83,16 @@ module _ (bytes : List ℕ) (f : Function) (s : Stands bytes f) (p : Places byte
     tag_is = value_at tag_of f.constants i d l
 
     known_by : (c : Constant) → get_or f.constants i d ≡ c → unknown_tag (tag_of c) ≡ false
-    known_by (plain tag payload) e = plain_known tag (p.plain_tag i tag payload d l e)
-    known_by (string start size) e = string_known size
+    known_by (constant.Plain tag payload) e = plain_known tag (p.plain_tag i tag payload d l e)
+    known_by (constant.String b) e = string_known b.size
 
     known : unknown_tag_at (tags_of f) i ≡ false
     unfolding unknown_tag_at
     known = ap unknown_tag tag_is ∙ known_by (get_or f.constants i d) refl
 
     inside_by : (c : Constant) → get_or f.constants i d ≡ c → choose (is_string (tag_of c)) (past (length bytes) (get_or (payloads_of f) i 0)) false ≡ false
-    inside_by (plain tag payload) e = no-string (is_string tag) _ (plain_no_string tag (p.plain_tag i tag payload d l e))
-    inside_by (string start size) e = not_past (is_string (string_tag size)) _ (p.string_not_past i start size d l e)
+    inside_by (constant.Plain tag payload) e = no-string (is_string tag) _ (plain_no_string tag (p.plain_tag i tag payload d l e))
+    inside_by (constant.String b) e = not_past (is_string (string_tag b.size)) _ (p.string_not_past i b.start b.size d l e)
 
     inside : string_past_at (tags_of f) (payloads_of f) (length bytes) i ≡ false
     unfolding string_past_at
@@ -117,7 +121,7 @@ module _ (bytes : List ℕ) (f : Function) (s : Stands bytes f) (p : Places byte
   as_many = tags_many ∙ sym payloads_many
 
   -- up to number 6
-  passed : (room : ℕ) → lifting bytes f room ≡ cond (ltb room (length (words_of f))) (answer 6 0) accepted
+  passed : (room : ℕ) → lifting bytes f room ≡ cond (ltb room (length (words_of f))) (Err ShortSlice) (Ok tt)
   unfolding answer_of
   passed room =
       rw (
@@ -130,11 +134,11 @@ module _ (bytes : List ℕ) (f : Function) (s : Stands bytes f) (p : Places byte
         le-ltb (first_name_past (names_of f) (length bytes)) (length (names_of f)) (omega (arith, p.none_past)),
       )
 
-module _ (k : ℕ) (bytes : List ℕ) (f : Function) (at : ℕ) (h : chosen k bytes ≡ done f at) where
-  stands_as : (X : Result Function) → X ≡ done f at → OneRead bytes X → Stands bytes f
+module _ (k : ℕ) (bytes : List ℕ) (f : Function) (at : ℕ) (h : chosen k bytes ≡ Ok (f, at)) where
+  stands_as : (X : Outcome Function) → X ≡ Ok (f, at) → OneRead bytes X → Stands bytes f
   stands_as X e o = rw e at o
 
-  to_room : (room : ℕ) → lifting bytes f room ≡ cond (ltb room (length (words_of f))) (answer 6 0) accepted
+  to_room : (room : ℕ) → lifting bytes f room ≡ cond (ltb room (length (words_of f))) (Err ShortSlice) (Ok tt)
   to_room = passed bytes f (stands_as (chosen k bytes) h (laws.stands k bytes)) (laws.places k bytes f at h)
 
 pub loaded : Loaded

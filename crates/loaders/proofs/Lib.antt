@@ -1,4 +1,4 @@
-pub mod Steps
+pub mod Same
+pub mod Words
 pub mod Unsigned
 pub mod Texts
-pub mod Takes

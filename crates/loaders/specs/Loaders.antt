@@ -14,26 +14,30 @@ use Rattle.values.specs.Values.{
   TAG_SHORT_STRING,
   TAG_LONG_STRING,
 }
-use Rattle.loaders.specs.declared.reading.Refusal.TheVariants.{Malformed, UnknownTag}
+use Rattle.std.specs.Prelude.{Option, Some, None, Ok, Err}
+use Rattle.common.specs.declared.refusal.Refusal.TheVariants.{MalformedChunk, UnknownTag}
 use Rattle.common.specs.Limits.{size_max, int_max}
-use Rattle.loaders.specs.Reading.{Result, done, refused, Reader, bind, only, little_end}
+use Rattle.loaders.specs.declared.strings.Bytes.{Bytes}
+use Rattle.loaders.specs.declared.constants.Constant.{Constant}
+use Rattle.loaders.specs.declared.constants.Constant.TheVariants.{Plain, String}
+use Rattle.loaders.specs.Reading.{Outcome, Reader, bind, only, little_end}
 
 -- loadBlock: `size` bytes, or "truncated chunk". What they hold is looked up by position
 unfoldable pub load_block : ℕ → Reader (Unit {0})
-load_block size bytes at = only (leb (at + size) (length bytes)) (done tt (at + size))
+load_block size bytes at = only (leb (at + size) (length bytes)) (Ok (tt, at + size))
 
 -- loadByte
 unfoldable pub load_byte : Reader ℕ
-load_byte bytes at = only (ltb at (length bytes)) (done (get_or bytes at 0) (at + 1))
+load_byte bytes at = only (ltb at (length bytes)) (Ok (get_or bytes at 0, at + 1))
 
 -- loadUnsigned's loop, where x is read and `limit` was shifted: after loadByte `if (x >= limit) error`, then
 -- `x = (x << 7) | (b & 0x7f)`, `while ((b & 0x80) == 0)`
-unfoldable pub unsigned_from : ℕ → ℕ → ℕ → List ℕ → Result ℕ
-unsigned_from limit x at [] = refused Malformed
+unfoldable pub unsigned_from : ℕ → ℕ → ℕ → List ℕ → Outcome ℕ
+unsigned_from limit x at [] = Err MalformedChunk
 unsigned_from limit x at (b ∷ rest) =
     let y = x * 128 + b % 128 in
     let more = unsigned_from limit y (at + 1) rest in
-    only (ltb x limit) (cond (leb 128 b) (done y (at + 1)) more)
+    only (ltb x limit) (cond (leb 128 b) (Ok (y, at + 1)) more)
 
 -- loadUnsigned: `limit >>= 7`, and the loop
 unfoldable pub load_unsigned : ℕ → Reader ℕ
@@ -49,34 +53,41 @@ load_int = load_unsigned int_max
 
 -- loadNumber: a float's bits
 unfoldable pub load_number : Reader ℕ
-load_number bytes at = bind (load_block 8 bytes at) (λ _ at₁. done (little_end 8 bytes at) at₁)
+load_number bytes at = bind (load_block 8 bytes at) (λ _ at₁. Ok (little_end 8 bytes at, at₁))
 
 -- loadInteger
 unfoldable pub load_integer : Reader ℕ
-load_integer bytes at = bind (load_block 8 bytes at) (λ _ at₁. done (little_end 8 bytes at) at₁)
+load_integer bytes at = bind (load_block 8 bytes at) (λ _ at₁. Ok (little_end 8 bytes at, at₁))
 
 -- a string that may be absent: where its bytes start, and how many they are
-pub data Text : Type 0 where
-  absent : Text
-  text : ℕ → ℕ → Text
+abbrev pub Text : Type 0
+Text = Option Bytes
+
+abbrev pub absent : Text
+absent = None
+
+abbrev pub text : ℕ → ℕ → Text
+text start size = Some (record { start = start; size = size })
 
 -- loadStringN: "no string?", or `--size` bytes
 unfoldable pub string_of : ℕ → Reader Text
-string_of zero bytes at = done absent at
-string_of (suc size) bytes at = bind (load_block size bytes at) (λ _ at₁. done (text at size) at₁)
+string_of zero bytes at = Ok (absent, at)
+string_of (suc size) bytes at = bind (load_block size bytes at) (λ _ at₁. Ok (text at size, at₁))
 
 unfoldable pub load_string_n : Reader Text
 load_string_n bytes at = bind (load_size bytes at) (λ size at₁. string_of size bytes at₁)
 
 -- what loadConstants makes of a constant: a tag with its payload, or a string's start and length
-pub data Constant : Type 0 where
-  plain : ℕ → ℕ → Constant
-  string : ℕ → ℕ → Constant
+abbrev pub plain : ℕ → ℕ → Constant
+plain tag payload = Plain tag payload
+
+abbrev pub string : ℕ → ℕ → Constant
+string start size = String (record { start = start; size = size })
 
 -- loadString, as it stands in a constant: "a constant string is absent" is 15
-abbrev pub present : Text → ℕ → Result Constant
-present absent at = refused Malformed
-present (text start size) at = done (string start size) at
+abbrev pub present : Text → ℕ → Outcome Constant
+present None at = Err MalformedChunk
+present (Some s) at = Ok (String s, at)
 
 unfoldable pub load_string : Reader Constant
 load_string bytes at = bind (load_string_n bytes at) present
@@ -85,14 +96,14 @@ load_string bytes at = bind (load_string_n bytes at) present
 -- is number 3 with its index"
 unfoldable pub constant_by_tag : ℕ → ℕ → Reader Constant
 constant_by_tag i t bytes at =
-    cond (eqb t TAG_NIL) (done (plain TAG_NIL 0) at)
-    (cond (eqb t TAG_FALSE) (done (plain TAG_FALSE 0) at)
-    (cond (eqb t TAG_TRUE) (done (plain TAG_TRUE 0) at)
-    (cond (eqb t TAG_FLOAT) (bind (load_number bytes at) (λ x at₁. done (plain TAG_FLOAT x) at₁))
-    (cond (eqb t TAG_INTEGER) (bind (load_integer bytes at) (λ x at₁. done (plain TAG_INTEGER x) at₁))
+    cond (eqb t TAG_NIL) (Ok (plain TAG_NIL 0, at))
+    (cond (eqb t TAG_FALSE) (Ok (plain TAG_FALSE 0, at))
+    (cond (eqb t TAG_TRUE) (Ok (plain TAG_TRUE 0, at))
+    (cond (eqb t TAG_FLOAT) (bind (load_number bytes at) (λ x at₁. Ok (plain TAG_FLOAT x, at₁)))
+    (cond (eqb t TAG_INTEGER) (bind (load_integer bytes at) (λ x at₁. Ok (plain TAG_INTEGER x, at₁)))
     (cond (eqb t TAG_SHORT_STRING) (load_string bytes at)
     (cond (eqb t TAG_LONG_STRING) (load_string bytes at)
-    (refused (UnknownTag i))))))))
+    (Err (UnknownTag i))))))))
 
 unfoldable pub load_constant : ℕ → Reader Constant
 load_constant i bytes at = bind (load_byte bytes at) (λ t at₁. constant_by_tag i t bytes at₁)

@@ -7,6 +7,6 @@ pub mod inner;
 mod reading;
 mod strings;
 
-pub use constants::Packed;
-pub use reading::{Cursor, Refusal};
-pub use strings::{Placed, StringRead};
+pub use constants::{Constant, Packed};
+pub use reading::Read;
+pub use strings::Bytes;

@@ -1,73 +1,43 @@
 // Strings: where their bytes lie.
-ghost use Rattle.std.specs.Prelude.{◌≡◌};
+ghost use Rattle.std.specs.Prelude.{◌≡◌, length, IfOk};
 ghost use Rattle.loaders.specs.Loaders.{load_string_n};
-ghost use Rattle.loaders.specs.Cursors.{step, none, string_read, BytesBounded, placed_of};
+ghost use Rattle.loaders.specs.Reading.{read_as};
+ghost use Rattle.loaders.specs.Lent.{name_number, Inside, BytesBounded};
 
-use crate::reading::{Cursor, Refusal, block, reason, unsigned_at};
+use crate::reading::{Read, block, unsigned_at};
 use common::limits::SIZE_MAX;
 use values::lookup::UNNAMED;
 
-#[derive(Drop)]
-pub enum StringRead {
-    // No string, and the position past its size.
-    Absent(usize),
-    // Where its bytes start, how many they are, and the position past them.
-    Bytes(usize, usize, usize),
-    Refused(Refusal),
-}
-
-#[derive(Drop)]
-pub enum Placed {
-    // A name's place as it is lent, and the position past it.
-    At(u64, usize),
-    Refused(Refusal),
+// Where a string's bytes start, and how many they are.
+#[derive(Clone, Copy)]
+pub struct Bytes {
+    pub start: usize,
+    pub size: usize,
 }
 
 // loadStringN
-pub(crate) fn string_at(chunk: &[u8], at: usize) -> StringRead
-    ensures { result ≡ string_read (load_string_n chunk.now at) }
+#[tactic(auto, unfolding(crate::specs::Loaders::load_string_n, crate::specs::Loaders::string_of))]
+pub fn string(chunk: &[u8], at: usize) -> Read<Option<Bytes>>
+    ensures value { result ≡ load_string_n chunk.now at }
+    ensures inside { IfOk result (λ r. Inside (length chunk.now) r.0) }
 {
-    let size = unsigned_at(chunk, at, SIZE_MAX);
-    let Cursor::At(start, n) = size else {
-        return StringRead::Refused(reason(size));
-    };
+    let (n, start) = unsigned_at(chunk, at, SIZE_MAX)?;
     if n == 0 {
-        return StringRead::Absent(start);
+        return Ok((None, start));
     }
-    let length = n - 1;
-    let past = block(chunk, size, length);
-    let Cursor::At(next, _) = past else {
-        return StringRead::Refused(reason(past));
-    };
-    StringRead::Bytes(start, length, next)
-}
-
-// The string is passed.
-pub fn string(chunk: &[u8], c: Cursor) -> Cursor
-    ensures { result ≡ step none load_string_n chunk.now c }
-{
-    let Cursor::At(at, _) = c else {
-        return c;
-    };
-    let s = string_at(chunk, at);
-    match s {
-        StringRead::Absent(next) => Cursor::At(next, 0),
-        StringRead::Bytes(_, _, next) => Cursor::At(next, 0),
-        StringRead::Refused(e) => Cursor::Refused(e),
-    }
+    let size = n - 1;
+    let past = block(chunk, start, size)?;
+    Ok((Some(Bytes { start, size }), past))
 }
 
 // The string as a name's place.
-pub fn name_at(chunk: &[u8], at: usize) -> Placed
+pub fn name_at(chunk: &[u8], at: usize) -> Read<u64>
     requires { BytesBounded chunk.now }
-    ensures { result ≡ placed_of (load_string_n chunk.now at) }
+    ensures { result ≡ read_as name_number (load_string_n chunk.now at) }
 {
-    let s = string_at(chunk, at);
-    match s {
-        StringRead::Absent(next) => Placed::At(UNNAMED, next),
-        StringRead::Bytes(start, length, next) => {
-            Placed::At((start + 4294967296 * length) as u64, next)
-        }
-        StringRead::Refused(e) => Placed::Refused(e),
+    let (name, past) = string(chunk, at)?;
+    match name {
+        None => Ok((UNNAMED, past)),
+        Some(s) => Ok(((s.start + 4294967296 * s.size) as u64, past)),
     }
 }

@@ -8,7 +8,7 @@ use mathlib.Core.List.{List, [], ◌∷◌}
 use native.Mathlib.Omega.{arith}
 use lib.ListN.{length}
 use Rattle.locations.specs.declared.answer.Range.{Range}
-use Rattle.locations.specs.declared.intervals.Interval.{Interval}
+use Rattle.locations.specs.declared.interval.Interval.{Interval}
 use Rattle.locations.specs.Lists.{range_of, ranges_of, indices_of}
 use Rattle.locations.specs.Form.{ranges_in, numbers_in, Within, GapAfter, Longest, OnlyOne, ZeroRanges, ZeroIndices}
 use Rattle.locations.proofs.Ranges.{Inside, After, Canonical}

@@ -3,3 +3,4 @@ pub mod Ranges
 pub mod Rising
 pub mod Unique
 pub mod Answers
+pub mod Held

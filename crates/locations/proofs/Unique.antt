@@ -4,7 +4,7 @@ use mathlib.Core.Path.{◌≡◌, refl, ap, ◌∙◌}
 use mathlib.Core.Logic.{inl, inr, ⊎_elim, ◌↔◌}
 use mathlib.Core.List.{List, [], ◌∷◌}
 use native.Mathlib.Omega.{arith}
-use Rattle.locations.specs.declared.intervals.Interval.{Interval}
+use Rattle.locations.specs.declared.interval.Interval.{Interval}
 use Rattle.locations.proofs.Order.{split}
 use Rattle.locations.proofs.Ranges.{Inside, After, Canonical}
 

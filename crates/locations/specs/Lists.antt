@@ -8,11 +8,7 @@ use Rattle.locations.specs.declared.answer.Indices.{Indices}
 use Rattle.locations.specs.declared.answer.Top.{Top}
 use Rattle.locations.specs.declared.location.Location.{Location}
 use Rattle.locations.specs.declared.location.Location.TheVariants as L
-use Rattle.locations.specs.declared.intervals.Interval.{Interval}
-use Rattle.locations.specs.declared.intervals.IntervalList.{IntervalList}
-use Rattle.locations.specs.declared.intervals.IntervalList.TheVariants as I
-use Rattle.locations.specs.declared.indices.IndexList.{IndexList}
-use Rattle.locations.specs.declared.indices.IndexList.TheVariants as N
+use Rattle.locations.specs.declared.interval.Interval.{Interval}
 
 -- What a location holds of each kind
 
@@ -76,17 +72,3 @@ first_top (first ∷ rest) other = record { first = first; count = 1 }
 
 abbrev pub top_of : List ℕ → Top
 top_of xs = first_top xs (record { first = 0; count = 0 })
-
--- The code's lists of at most three
-
-abbrev pub intervals_in : IntervalList → List Interval
-intervals_in I.Zero = []
-intervals_in (I.One x) = x ∷ []
-intervals_in (I.Two x y) = x ∷ y ∷ []
-intervals_in (I.Three x y z) = x ∷ y ∷ z ∷ []
-
-abbrev pub indices_in : IndexList → List ℕ
-indices_in N.Zero = []
-indices_in (N.One x) = x ∷ []
-indices_in (N.Two x y) = x ∷ y ∷ []
-indices_in (N.Three x y z) = x ∷ y ∷ z ∷ []

@@ -1,5 +1,15 @@
 // What a word touches: lists in arrays with counts. Places past a count hold 0. The layout is C's:
 // the answer holds no enum.
+// Kept: (a) arrays with counts, a top with one, an edge of 0 if there is none: as lawendeb_touches gives
+// them.
+ghost use Rattle.std.specs.Prelude.{◌≡◌, take};
+ghost use Rattle.locations.specs.Form.{ranges_in, numbers_in};
+
+fn up_to<T>(items: &[T; 3], count: usize) -> &[T]
+    ensures { result.now ≡ take count items.now }
+{
+    &items[..count.min(3)]
+}
 
 // Registers from the first to the last, both touched.
 #[repr(C)]
@@ -17,6 +27,14 @@ pub struct Ranges {
     pub count: u16,
 }
 
+impl Ranges {
+    pub fn as_slice(&self) -> &[Range]
+        ensures { result.now ≡ ranges_in self.now }
+    {
+        up_to(&self.items, usize::from(self.count))
+    }
+}
+
 // A range up to the stack top, by its first register past those touched at every top; the count is 0 or 1.
 #[repr(C)]
 #[derive(Clone, Copy)]
@@ -31,6 +49,14 @@ pub struct Top {
 pub struct Indices {
     pub items: [u32; 3],
     pub count: u32,
+}
+
+impl Indices {
+    pub fn as_slice(&self) -> &[u32]
+        ensures { result.now ≡ numbers_in self.now }
+    {
+        up_to(&self.items, self.count as usize)
+    }
 }
 
 #[repr(C)]

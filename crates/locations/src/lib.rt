@@ -3,7 +3,8 @@
 #![tactic(auto)]
 
 pub mod answer;
-pub mod indices;
-pub mod intervals;
+mod few;
+mod insertion;
+mod interval;
+pub mod lists;
 pub mod location;
-pub mod tops;

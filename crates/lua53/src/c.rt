@@ -18,17 +18,17 @@ ghost use Rattle.service.specs.Questions.{
   lengths_within,
   list_within,
 };
-ghost use Rattle.common.specs.Flat.{flat_answer};
+ghost use Rattle.common.specs.Flat.{flat_result};
 ghost use Rattle.service.specs.Flat.{flat_nearest, flat_crossed};
 ghost use Rattle.touches.specs.Touches.{touches_for};
 
-use common::c::{FlatAnswer, flat_answer};
+use common::c::FlatAnswer;
 use fields::lua53::packed::mode;
 use fields::lua53::word::{RawInstruction53, decode};
 use fields::version::Version;
-use ranges::c::{FlatRange, flat_range};
-use runs::c::{FlatRun, FlatSuccessors, flat_run, flat_successors};
-use service::c::{FlatCrossed, FlatNearest, flat_crossed, flat_nearest};
+use ranges::c::FlatRange;
+use runs::c::{FlatRun, FlatSuccessors};
+use service::c::{FlatCrossed, FlatNearest};
 use service::{crossing_edges, distance_to_service, list_within};
 use touches::{Touches, touches_53};
 
@@ -45,31 +45,34 @@ pub struct FlatFields {
     pub sbx: i32,
 }
 
-fn flat_fields(mode: u8, f: RawInstruction53) -> FlatFields
-    ensures { result ≡ flat_fields mode f }
-{
-    FlatFields {
-        mode: mode as u32,
-        opcode: f.opcode_num as u32,
-        a: f.a as u32,
-        b: f.b as u32,
-        c: f.c as u32,
-        bx: f.bx,
-        ax: f.ax,
-        sbx: f.sbx,
+// Of the number of its opcode's mode, and its fields.
+impl From<(u8, RawInstruction53)> for FlatFields {
+    ghost from_gives = { λ word flat. flat ≡ flat_fields word.0 word.1 };
+
+    fn from((mode, f): (u8, RawInstruction53)) -> FlatFields {
+        FlatFields {
+            mode: u32::from(mode),
+            opcode: u32::from(f.opcode_num),
+            a: u32::from(f.a),
+            b: u32::from(f.b),
+            c: u32::from(f.c),
+            bx: f.bx,
+            ax: f.ax,
+            sbx: f.sbx,
+        }
     }
 }
 
 pub fn lawendeb_decode_53(word: u32) -> FlatFields
     ensures { result ≡ flat_fields (mode_number (mode_of (opcode_of word))) (fields_of word) }
 {
-    flat_fields(mode(word), decode(word))
+    FlatFields::from((mode(word), decode(word)))
 }
 
 pub fn lawendeb_successors_53(words: &[u32], p: usize) -> FlatSuccessors
     ensures { result ≡ flat_successors ((script_of Lua53 words.now).steps p) }
 {
-    flat_successors(runs::script::successors(Version::Lua53, words, p))
+    FlatSuccessors::from(runs::script::successors(Version::Lua53, words, p))
 }
 
 pub fn lawendeb_longest_run_53(
@@ -85,7 +88,7 @@ pub fn lawendeb_longest_run_53(
     ensures lengths_after { lengths.new ≡ lengths_after (script_of Lua53 words.now)
         weights.now marks.old lengths.old }
 {
-    flat_run(runs::longest_run(Version::Lua53, words, weights, marks, lengths))
+    FlatRun::from(runs::longest_run(Version::Lua53, words, weights, marks, lengths))
 }
 
 pub fn lawendeb_longest_runs_53(
@@ -102,7 +105,7 @@ pub fn lawendeb_longest_runs_53(
     ensures lengths_after { lengths.new ≡ lengths_after_both (script_of Lua53 words.now)
         low.now high.now marks.old lengths.old }
 {
-    flat_range(ranges::longest_runs(Version::Lua53, words, low, high, marks, lengths))
+    FlatRange::from(ranges::longest_runs(Version::Lua53, words, low, high, marks, lengths))
 }
 
 pub fn lawendeb_distance_to_service_53(
@@ -118,7 +121,7 @@ pub fn lawendeb_distance_to_service_53(
     ensures lengths_after { lengths.new ≡ lengths_after (script_of Lua53 words.now) ones
         marks.old lengths.old }
 {
-    flat_nearest(distance_to_service(Version::Lua53, words, w, marks, lengths))
+    FlatNearest::from(distance_to_service(Version::Lua53, words, w, marks, lengths))
 }
 
 pub fn lawendeb_list_within_53(
@@ -128,7 +131,7 @@ pub fn lawendeb_list_within_53(
     lengths: &mut [u32],
     list: &mut [u8],
 ) -> FlatAnswer
-    ensures value { result ≡ flat_answer (within_of (script_of Lua53 words.now)
+    ensures value { result ≡ flat_result (within_of (script_of Lua53 words.now)
         (length marks.old) (length lengths.old) (length list.old)) }
     ensures marks_after { marks.new ≡ marks_within (script_of Lua53 words.now)
         marks.old lengths.old list.old }
@@ -137,7 +140,7 @@ pub fn lawendeb_list_within_53(
     ensures list_after { list.new ≡ list_within (script_of Lua53 words.now) d
         marks.old lengths.old list.old }
 {
-    flat_answer(list_within(Version::Lua53, words, d, marks, lengths, list))
+    FlatAnswer::from(list_within(Version::Lua53, words, d, marks, lengths, list))
 }
 
 pub fn lawendeb_crossing_edges_53(
@@ -153,7 +156,7 @@ pub fn lawendeb_crossing_edges_53(
     ensures lengths_after { lengths.new ≡ lengths_after (script_of Lua53 words.now) ones
         marks.old lengths.old }
 {
-    flat_crossed(crossing_edges(Version::Lua53, words, w, marks, lengths))
+    FlatCrossed::from(crossing_edges(Version::Lua53, words, w, marks, lengths))
 }
 
 pub fn lawendeb_touches_53(words: &[u32], p: usize) -> Touches

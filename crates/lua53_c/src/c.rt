@@ -13,7 +13,7 @@ ghost use Rattle.ranges.specs.Flat.{flat_range};
 ghost use Rattle.runs.specs.Counted.{ones};
 ghost use Rattle.service.specs.Questions.{nearest_of, crossed_of, within_of};
 ghost use Rattle.service.specs.Questions.{marks_within, lengths_within, list_within};
-ghost use Rattle.common.specs.Flat.{flat_answer};
+ghost use Rattle.common.specs.Flat.{flat_result};
 ghost use Rattle.service.specs.Flat.{flat_nearest, flat_crossed};
 ghost use Rattle.touches.specs.Touches.{touches_for};
 
@@ -98,7 +98,7 @@ pub extern "C" fn lawendeb_list_within_53(
     lengths: &mut [u32],
     list: &mut [u8],
 ) -> FlatAnswer
-    ensures value { result ≡ flat_answer (within_of (script_of Lua53 words.now)
+    ensures value { result ≡ flat_result (within_of (script_of Lua53 words.now)
         (length marks.old) (length lengths.old) (length list.old)) }
     ensures marks_after { marks.new ≡ marks_within (script_of Lua53 words.now)
         marks.old lengths.old list.old }

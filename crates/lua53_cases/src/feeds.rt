@@ -1,70 +1,41 @@
 // Calls on a meter, with what each answers and leaves: begun, last, count, services, highest.
-use crate::print::*;
-use meter::Meter;
-use meter53::feed_step_53;
-use pages::word_at;
+use crate::print::text;
+use fields::version::Version;
+use lent_meters::{NUMBERS, meter_of, show};
+use meter::feed_step;
+use print_cases::refusal;
 use std::io::Stdout;
-use vectors::{bytes_of, number_of, words_of};
-
-fn meter_of(m: &[u32]) -> Meter {
-    Meter {
-        begun: word_at(m, 0),
-        last: word_at(m, 1),
-        count: word_at(m, 2),
-        services: word_at(m, 3),
-        highest: word_at(m, 4),
-    }
-}
-
-fn show(out: Stdout, m: Meter) {
-    text(out, b";");
-    number_u32(out, m.begun);
-    number_u32(out, m.last);
-    number_u32(out, m.count);
-    number_u32(out, m.services);
-    number_u32(out, m.highest);
-}
-
-fn feed_lent(out: Stdout, words: &mut [u32], weights: &mut [u8], m: &mut [u32], q: usize) {
-    let f = feed_step_53(words, weights, meter_of(m), q);
-    if f.answer.number == 0 {
-        text(out, b" accepted");
-    } else {
-        refused(out, f.answer.number, f.answer.place);
-    }
-    show(out, f.meter);
-}
+use vectors::{ROOM, list_of, number_of};
 
 // words | weights | the meter | q
 pub fn feed(out: Stdout, line: &[u8]) {
-    let mut words = vectors::words();
+    let mut words = [0u32; ROOM];
     let mut weights = [0u8; 256];
-    let mut m = [0u32; 5];
-    feed_lent(
-        out,
-        words_of(&mut words, line, 2),
-        bytes_of(&mut weights, line, 3),
-        words_of(&mut m, line, 4),
-        number_of(line, 5) as usize,
-    );
-}
-
-fn begun(out: Stdout, m: &mut [u32]) {
-    show(out, meter::begin_step(meter_of(m)));
+    let mut m = [0u32; NUMBERS];
+    let words = list_of(&mut words, line, 2);
+    let weights = list_of(&mut weights, line, 3);
+    let m = meter_of(list_of(&mut m, line, 4));
+    let q = number_of(line, 5) as usize;
+    match feed_step(Version::Lua53, words, weights, m, q) {
+        Ok(next) => {
+            text(out, b" accepted");
+            show(out, next);
+        }
+        Err(e) => {
+            refusal(out, e);
+            show(out, m);
+        }
+    }
 }
 
 // the meter
 pub fn begin(out: Stdout, line: &[u8]) {
-    let mut m = [0u32; 5];
-    begun(out, words_of(&mut m, line, 2));
-}
-
-fn was_reset(out: Stdout, m: &mut [u32]) {
-    show(out, meter::reset_step(meter_of(m)));
+    let mut m = [0u32; NUMBERS];
+    show(out, meter::begin_step(meter_of(list_of(&mut m, line, 2))));
 }
 
 // the meter
 pub fn reset(out: Stdout, line: &[u8]) {
-    let mut m = [0u32; 5];
-    was_reset(out, words_of(&mut m, line, 2));
+    let mut m = [0u32; NUMBERS];
+    show(out, meter::reset_step(meter_of(list_of(&mut m, line, 2))));
 }

@@ -7,63 +7,32 @@ mod print;
 mod questions;
 
 use std::io::Stdout;
-
-fn answer(out: Stdout, question: usize, line: &[u8]) {
-    match question {
-        1 => {
-            questions::decode(out, line);
-        }
-        2 => {
-            questions::step(out, line);
-        }
-        3 => {
-            questions::run(out, line);
-        }
-        4 => {
-            questions::distance(out, line);
-        }
-        5 => {
-            questions::crossings(out, line);
-        }
-        6 => {
-            questions::within(out, line);
-        }
-        7 => {
-            feeds::feed(out, line);
-        }
-        8 => {
-            feeds::begin(out, line);
-        }
-        9 => {
-            feeds::reset(out, line);
-        }
-        _ => {}
-    }
-}
+use vectors::part;
 
 fn ask(out: Stdout, line: &[u8]) {
-    let question = vectors::which(
-        line,
-        b"title|decode|step|run|distance|crossings|within|feed|begin|reset",
-    );
-    if question > 9 {
-        return;
-    }
-    print::text(out, vectors::part(line, 1));
-    answer(out, question, line);
+    let question: fn(Stdout, &[u8]) = match part(line, 0) {
+        b"title" => questions::title,
+        b"decode" => questions::decode,
+        b"step" => questions::step,
+        b"run" => questions::run,
+        b"distance" => questions::distance,
+        b"crossings" => questions::crossings,
+        b"within" => questions::within,
+        b"feed" => feeds::feed,
+        b"begin" => feeds::begin,
+        b"reset" => feeds::reset,
+        _ => {
+            return;
+        }
+    };
+    print::text(out, part(line, 1));
+    question(out, line);
     if !vectors::is_open(line) {
         print::end(out);
     }
 }
 
-fn ask_all(out: Stdout, text: &[u8]) {
-    for i in 0..text.len() {
-        ask(out, vectors::line_at(text, i));
-    }
-}
-
 fn main(rt: HostRuntime) {
-    let mut page = io::large_buffer();
-    let n = vectors::read(rt.stdin(), &mut page);
-    ask_all(rt.stdout(), pages::first(&page, n));
+    let out = rt.stdout();
+    vectors::ask_each(rt.stdin(), |line| ask(out, line));
 }

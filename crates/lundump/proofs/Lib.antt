@@ -1,9 +1,10 @@
-pub mod Binds
 pub mod Repeats
-pub mod Bounds
-pub mod Thens
+pub mod Limited
 pub mod Walks
 pub mod Whole
+pub mod Words
+pub mod Bounds
+pub mod Thens
 pub mod Examples
 pub mod Full
 pub mod Limits

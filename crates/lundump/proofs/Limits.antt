@@ -6,28 +6,29 @@ use Prim.Native.Nat.{ℕ, ◌+◌, ◌*◌, ◌≤◌, ◌<◌}
 use lib.Dec.{leb}
 use lib.ListN.{length}
 use borrow.Author.Tests.{le-leb, lt-leb}
-use Rattle.loaders.specs.declared.reading.Refusal.TheVariants.{Malformed}
-use Rattle.loaders.specs.Reading.{done, refused, only}
+use Rattle.common.specs.declared.refusal.Refusal.TheVariants.{MalformedChunk}
+use Rattle.std.proofs.Common.{Ok, Err}
+use Rattle.loaders.specs.Reading.{only}
 use Rattle.loaders.specs.Loaders.{load_int, load_block}
 use Rattle.lundump.specs.Lundump.{Vector, load_vector, load_items, load_code, load_upvalues}
 use Rattle.lundump.specs.Limits.{CountRead, LimitsKept}
 
-module _ (bytes : List ℕ) (at n past : ℕ) (h : load_int bytes at ≡ done n past) where
+module _ (bytes : List ℕ) (at n past : ℕ) (h : load_int bytes at ≡ Ok (n, past)) where
   -- as many bytes as each takes
   held : (most each : ℕ) → n ≤ most → past + each * n ≤ length bytes
-      → load_vector most each bytes at ≡ done (record { start = past; count = n }) (past + each * n)
+      → load_vector most each bytes at ≡ Ok (record { start = past; count = n }, past + each * n)
   unfolding load_vector load_block
   held most each l m = rw h (rw (le-leb n most l) (rw (le-leb (past + each * n) (length bytes) m)))
 
-  cut : (most each : ℕ) → length bytes < past + each * n → load_vector most each bytes at ≡ refused Malformed
+  cut : (most each : ℕ) → length bytes < past + each * n → load_vector most each bytes at ≡ Err MalformedChunk
   unfolding load_vector load_block
   cut most each m = rw h (rw (lt-leb (past + each * n) (length bytes) m) (either (leb n most)))
     where
-      either : (b : Bool) → only {A = Vector} b (refused Malformed) ≡ refused Malformed
+      either : (b : Bool) → only {A = Vector} b (Err MalformedChunk) ≡ Err MalformedChunk
       either true = refl
       either false = refl
 
-  over : (most each : ℕ) → most < n → load_vector most each bytes at ≡ refused Malformed
+  over : (most each : ℕ) → most < n → load_vector most each bytes at ≡ Err MalformedChunk
   unfolding load_vector
   over most each l = rw h (rw (lt-leb n most l))
 

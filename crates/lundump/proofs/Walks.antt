@@ -1,271 +1,200 @@
--- Functions within functions, as the walk over them sees them.
--- Assumes nothing.
-use mathlib.Core.Path.{◌≡◌, refl, sym, ◌∙◌, ap}
-use mathlib.Core.Bool.{true≢false}
-use mathlib.Core.List.{List, [], ◌∷◌, ◌++◌}
-use Prim.Native.Nat.{ℕ, zero, suc, ◌-◌}
-use native.Mathlib.Omega.{arith}
-use native.Mathlib.Numerals.{unary_clauses}
-use lib.ListN.{length}
-use Rattle.loaders.specs.declared.reading.Refusal.{Refusal}
-use Rattle.loaders.specs.declared.reading.Refusal.TheVariants.{TooDeep}
-use Rattle.loaders.specs.declared.reading.Cursor.{Cursor}
-use Rattle.loaders.specs.declared.reading.Cursor.TheVariants.{At, Refused}
+-- Functions within functions, as the walk over them sees them. Assumes nothing.
+use Rattle.std.proofs.Common.{◌≡◌, ℕ, zero, suc, ◌-◌, ◌+◌, ◌<◌, List, [], ◌∷◌, ◌++◌, length, Result, Ok, Err, refl, sym, ap, ◌∙◌, arith}
+use Rattle.common.specs.declared.refusal.Refusal.{Refusal}
+use Rattle.common.specs.declared.refusal.Refusal.TheVariants.{TooDeep}
 use Rattle.lundump.specs.declared.functions.Layout.{Layout}
-use Rattle.lundump.specs.declared.functions.Search.{Search}
-use Rattle.lundump.specs.declared.functions.Search.TheVariants.{Left, Found}
-use Rattle.lundump.specs.declared.functions.Walk.{Walk}
-use Rattle.lundump.specs.declared.functions.Walk.TheVariants.{Past, Stopped}
-use Rattle.loaders.specs.Reading.{Result, done, refused, Reader, bind}
-use Rattle.loaders.specs.Cursors.{step, cursor_of, same, position_of, cursor_value, refusal_of, none}
-use Rattle.loaders.specs.Loaders.{Constant, Text, load_int}
-use Rattle.lundump.specs.Lundump.{Function, load_head, load_code, load_constants}
-use Rattle.lundump.specs.Lundump.{load_upvalues, load_lines, load_names, function_with, several, none_of}
-use Rattle.lundump.specs.Lundump.{load_protos, load_function}
-use Rattle.lundump.specs.Search.{layout_of, search, walk_of, walk, cursor_at, search_of, passed, settled, finished}
-use Rattle.lundump.proofs.Thens.{own, then1, then2, then3, then4, then5, then6, then7}
+use Rattle.loaders.specs.Reading.{Outcome, Reader, bind, read_as, past_of}
+use Rattle.loaders.specs.declared.constants.Constant.{Constant}
+use Rattle.loaders.specs.Loaders.{Text, load_int}
+use Rattle.loaders.proofs.Same.{Was, was, was_refused, Ended, ended, end_refused}
+use Rattle.lundump.specs.Lundump.{Function, load_head, load_code, load_constants, load_upvalues, load_lines, load_names, function_with, several, none_of, load_protos, load_function}
+use Rattle.lundump.specs.Search.{layout_of, search, passed, settled}
 
 -- ---- searches
-found_stays : (l : Layout) (fs : List Function) → search (Found l) fs ≡ Found l
+found_stays : (l : Layout) (fs : List Function) → search (Ok l) fs ≡ Ok l
 unfolding search
 found_stays l [] = refl
 found_stays l (f ∷ fs) = refl
 
-over_none : (s : Search) → search s [] ≡ s
+over_none : (s : Result Layout ℕ) → search s [] ≡ s
 unfolding search
-over_none (Found l) = refl
-over_none (Left zero) = refl
-over_none (Left (suc n)) = refl
+over_none (Ok l) = refl
+over_none (Err zero) = refl
+over_none (Err (suc n)) = refl
 
-pub over_both : (s : Search) (fs gs : List Function) → search s (fs ++ gs) ≡ search (search s fs) gs
+over_both : (s : Result Layout ℕ) (fs gs : List Function) → search s (fs ++ gs) ≡ search (search s fs) gs
 unfolding search
-over_both (Found l) fs gs = found_stays l (fs ++ gs) ∙ sym (rw found_stays (found_stays l gs))
-over_both (Left n) [] gs = rw (over_none (Left n))
-over_both (Left zero) (f ∷ fs) gs = sym (found_stays (layout_of f) gs)
-over_both (Left (suc n)) (f ∷ fs) gs = over_both (Left n) fs gs
+over_both (Ok l) fs gs = found_stays l (fs ++ gs) ∙ sym (rw found_stays (found_stays l gs))
+over_both (Err n) [] gs = rw (over_none (Err n))
+over_both (Err zero) (f ∷ fs) gs = sym (found_stays (layout_of f) gs)
+over_both (Err (suc n)) (f ∷ fs) gs = over_both (Err n) fs gs
 
 -- a function and those within it
-over_own : (s : Search) (f : Function) (inner : List Function) → settled s (layout_of f) (search (passed s) inner) ≡ search s (f ∷ inner)
+over_own : (s : Result Layout ℕ) (f : Function) (inner : List Function) → settled s (layout_of f) (search (passed s) inner) ≡ search s (f ∷ inner)
 unfolding search
-over_own (Found l) f inner = found_stays l inner
-over_own (Left zero) f inner = refl
-over_own (Left (suc n)) f inner = refl
+over_own (Ok l) f inner = found_stays l inner
+over_own (Err zero) f inner = refl
+over_own (Err (suc n)) f inner = refl
 
--- ---- one function
-module _ (bytes : List ℕ) (P : Reader (List Function)) (s : Search) where
-  abbrev end : ℕ → Cursor → Cursor → Cursor → Cursor → Walk → Cursor → Cursor → Walk
-  end p h k q u w l n =
-      finished s
-      (record {
-        first_at = p;
-        code_at = position_of h;
-        words = cursor_value k;
-        constants_at = position_of k;
-        constants = cursor_value q;
-        lines_at = position_of (cursor_at w);
-        names_at = position_of l;
-        names = cursor_value u;
-      })
-      w n
+-- ---- one function, by what each part was read to
+module _ (bytes : List ℕ) (P : Reader (List Function)) (at₀ : ℕ) (s : Result Layout ℕ)
+    (stack at₁ : ℕ) (h : load_head bytes at₀ ≡ Ok (stack, at₁))
+    (code : List ℕ) (at₂ : ℕ) (k : load_code bytes at₁ ≡ Ok (code, at₂)) (words : ℕ) (ew : length code ≡ words)
+    (ks : List Constant) (at₃ : ℕ) (q : load_constants bytes at₂ ≡ Ok (ks, at₃)) (constants : ℕ) (ec : length ks ≡ constants)
+    (n at₄ : ℕ) (u : load_upvalues bytes at₃ ≡ Ok (n, at₄))
+    (fs : List Function) (at₅ : ℕ) (w : P bytes at₄ ≡ Ok (fs, at₅)) (inner : Result Layout ℕ) (ei : search (passed s) fs ≡ inner)
+    (locals : List ℕ) (at₆ : ℕ) (l : load_lines bytes at₅ ≡ Ok (locals, at₆))
+    (names : List Text) (at₇ : ℕ) (m : load_names n bytes at₆ ≡ Ok (names, at₇)) where
+  read_by : read_as (search s) (function_with P bytes at₀)
+      ≡ Ok (
+        settled s
+            (record {
+              first_at = at₀;
+              code_at = at₁;
+              words = words;
+              constants_at = at₂;
+              constants = constants;
+              lines_at = at₅;
+              names_at = at₆;
+              names = n;
+            })
+            inner,
+        at₇,
+      )
+  unfolding function_with
+  read_by = rw (h, k, q, u, w, l, m, ← ew, ← ec, ← ei) (ap (λ (x : Result Layout ℕ). Ok (x, at₇)) (sym (over_own s _ fs)))
 
-  abbrev from6 : ℕ → Cursor → Cursor → Cursor → Cursor → Walk → Cursor → Walk
-  from6 p h k q u w l = end p h k q u w l (step none (load_names (cursor_value u)) bytes l)
+-- ---- one function: its parts in order, up to the first that is refused
+module _ (bytes : List ℕ) (P : Reader (List Function)) (at₀ : ℕ) (s : Result Layout ℕ) where
+  abbrev whole : Outcome (Result Layout ℕ)
+  whole = read_as (search s) (function_with P bytes at₀)
 
-  abbrev from5 : ℕ → Cursor → Cursor → Cursor → Cursor → Walk → Walk
-  from5 p h k q u w = from6 p h k q u w (step length load_lines bytes (cursor_at w))
+  pub no_head : (e : Refusal) → load_head bytes at₀ ≡ Err e → whole ≡ Err e
+  unfolding function_with
+  no_head e h = rw h
 
-  abbrev from4 : ℕ → Cursor → Cursor → Cursor → Cursor → Walk
-  from4 p h k q u = from5 p h k q u (walk P bytes u (passed s))
+  module _ (stack at₁ : ℕ) (h : load_head bytes at₀ ≡ Ok (stack, at₁)) where
+    pub no_code : (e : Refusal) → read_as length (load_code bytes at₁) ≡ Err e → whole ≡ Err e
+    unfolding function_with
+    no_code e k = rw (h, was_refused length (load_code bytes at₁) e k)
 
-  abbrev from3 : ℕ → Cursor → Cursor → Cursor → Walk
-  from3 p h k q = from4 p h k q (step same load_upvalues bytes q)
+    module _ (words at₂ : ℕ) (k : read_as length (load_code bytes at₁) ≡ Ok (words, at₂)) where
+      abbrev code : Was length (load_code bytes at₁) words at₂
+      code = was length (load_code bytes at₁) words at₂ k
 
-  abbrev from2 : ℕ → Cursor → Cursor → Walk
-  from2 p h k = from3 p h k (step length load_constants bytes k)
+      pub no_constants : (e : Refusal) → read_as length (load_constants bytes at₂) ≡ Err e → whole ≡ Err e
+      unfolding function_with
+      no_constants e q = rw (h, code.is, was_refused length (load_constants bytes at₂) e q)
 
-  abbrev from1 : ℕ → Cursor → Walk
-  from1 p h = from2 p h (step length load_code bytes h)
+      module _ (constants at₃ : ℕ) (q : read_as length (load_constants bytes at₂) ≡ Ok (constants, at₃)) where
+        abbrev ks : Was length (load_constants bytes at₂) constants at₃
+        ks = was length (load_constants bytes at₂) constants at₃ q
 
-  at7 : (at₀ a at₁ : ℕ) (code : List ℕ) (at₂ : ℕ) (ks : List Constant) (at₃ n at₄ : ℕ) (inner : List Function) (at₅ z at₆ : ℕ) (X : Result (List Text))
-      → end at₀ (At at₁ a) (At at₂ (length code)) (At at₃ (length ks)) (At at₄ n) (Past at₅ (search (passed s) inner)) (At at₆ z) (cursor_of none X)
-      ≡ walk_of s (bind X (then7 bytes P at₀ at₁ code at₂ ks n inner at₅ at₆))
-  at7 at₀ a at₁ code at₂ ks at₃ n at₄ inner at₅ z at₆ (done names at₇) = ap (Past at₇) (over_own s (own at₀ at₁ code at₂ ks n at₅ at₆ names at₇) inner)
-  at7 at₀ a at₁ code at₂ ks at₃ n at₄ inner at₅ z at₆ (refused e) = refl
+        pub no_upvalues : (e : Refusal) → load_upvalues bytes at₃ ≡ Err e → whole ≡ Err e
+        unfolding function_with
+        no_upvalues e u = rw (h, code.is, ks.is, u)
 
-  at6 : (at₀ a at₁ : ℕ) (code : List ℕ) (at₂ : ℕ) (ks : List Constant) (at₃ n at₄ : ℕ) (inner : List Function) (at₅ : ℕ) (X : Result (List ℕ))
-      → from6 at₀ (At at₁ a) (At at₂ (length code)) (At at₃ (length ks)) (At at₄ n) (Past at₅ (search (passed s) inner)) (cursor_of length X)
-      ≡ walk_of s (bind X (then6 bytes P at₀ at₁ code at₂ ks n inner at₅))
-  unfolding step
-  at6 at₀ a at₁ code at₂ ks at₃ n at₄ inner at₅ (done z at₆) = at7 at₀ a at₁ code at₂ ks at₃ n at₄ inner at₅ (length z) at₆ (load_names n bytes at₆)
-  at6 at₀ a at₁ code at₂ ks at₃ n at₄ inner at₅ (refused e) = refl
+        module _ (n at₄ : ℕ) (u : load_upvalues bytes at₃ ≡ Ok (n, at₄)) where
+          pub no_protos : (e : Refusal) → read_as (search (passed s)) (P bytes at₄) ≡ Err e → whole ≡ Err e
+          unfolding function_with
+          no_protos e w = rw (h, code.is, ks.is, u, was_refused (search (passed s)) (P bytes at₄) e w)
 
-  at5 : (at₀ a at₁ : ℕ) (code : List ℕ) (at₂ : ℕ) (ks : List Constant) (at₃ n at₄ : ℕ) (X : Result (List Function))
-      → from5 at₀ (At at₁ a) (At at₂ (length code)) (At at₃ (length ks)) (At at₄ n) (walk_of (passed s) X)
-      ≡ walk_of s (bind X (then5 bytes P at₀ at₁ code at₂ ks n))
-  unfolding step
-  at5 at₀ a at₁ code at₂ ks at₃ n at₄ (done inner at₅) = at6 at₀ a at₁ code at₂ ks at₃ n at₄ inner at₅ (load_lines bytes at₅)
-  at5 at₀ a at₁ code at₂ ks at₃ n at₄ (refused e) = refl
+          module _ (inner : Result Layout ℕ) (at₅ : ℕ) (w : read_as (search (passed s)) (P bytes at₄) ≡ Ok (inner, at₅)) where
+            abbrev walked : Was (search (passed s)) (P bytes at₄) inner at₅
+            walked = was (search (passed s)) (P bytes at₄) inner at₅ w
 
-  at4 : (at₀ a at₁ : ℕ) (code : List ℕ) (at₂ : ℕ) (ks : List Constant) (at₃ : ℕ) (X : Result ℕ)
-      → from4 at₀ (At at₁ a) (At at₂ (length code)) (At at₃ (length ks)) (cursor_of same X) ≡ walk_of s (bind X (then4 bytes P at₀ at₁ code at₂ ks))
-  unfolding step walk
-  at4 at₀ a at₁ code at₂ ks at₃ (done n at₄) = at5 at₀ a at₁ code at₂ ks at₃ n at₄ (P bytes at₄)
-  at4 at₀ a at₁ code at₂ ks at₃ (refused e) = refl
+            pub no_lines : (e : Refusal) → past_of (load_lines bytes at₅) ≡ Err e → whole ≡ Err e
+            unfolding function_with
+            no_lines e l = rw (h, code.is, ks.is, u, walked.is, end_refused (load_lines bytes at₅) e l)
 
-  at3 : (at₀ a at₁ : ℕ) (code : List ℕ) (at₂ : ℕ) (X : Result (List Constant))
-      → from3 at₀ (At at₁ a) (At at₂ (length code)) (cursor_of length X) ≡ walk_of s (bind X (then3 bytes P at₀ at₁ code at₂))
-  unfolding step walk
-  at3 at₀ a at₁ code at₂ (done ks at₃) = at4 at₀ a at₁ code at₂ ks at₃ (load_upvalues bytes at₃)
-  at3 at₀ a at₁ code at₂ (refused e) = refl
+            module _ (at₆ : ℕ) (l : past_of (load_lines bytes at₅) ≡ Ok at₆) where
+              abbrev locals : Ended (load_lines bytes at₅) at₆
+              locals = ended (load_lines bytes at₅) at₆ l
 
-  at2 : (at₀ a at₁ : ℕ) (X : Result (List ℕ)) → from2 at₀ (At at₁ a) (cursor_of length X) ≡ walk_of s (bind X (then2 bytes P at₀ at₁))
-  unfolding step walk
-  at2 at₀ a at₁ (done code at₂) = at3 at₀ a at₁ code at₂ (load_constants bytes at₂)
-  at2 at₀ a at₁ (refused e) = refl
+              pub no_names : (e : Refusal) → past_of (load_names n bytes at₆) ≡ Err e → whole ≡ Err e
+              unfolding function_with
+              no_names e m = rw (h, code.is, ks.is, u, walked.is, locals.is, end_refused (load_names n bytes at₆) e m)
 
-  at1 : (at₀ : ℕ) (X : Result ℕ) → from1 at₀ (cursor_of same X) ≡ walk_of s (bind X (then1 bytes P at₀))
-  unfolding step walk
-  at1 at₀ (done a at₁) = at2 at₀ a at₁ (load_code bytes at₁)
-  at1 at₀ (refused e) = refl
-
-  whole : (c : Cursor) → from1 (position_of c) (step same load_head bytes c) ≡ walk (function_with P) bytes c s
-  unfolding step walk function_with
-  whole (At at v) = at1 at (load_head bytes at)
-  whole (Refused e) = refl
-
-  -- the code's steps, one after another
-  pub joined : (c h k q u : Cursor) (w : Walk) (m l n : Cursor) (a₀ a₁ a₂ a₃ a₄ a₇ a₅ a₆ v : ℕ) (t : Search) (x : Walk)
-      → h ≡ step same load_head bytes c
-      → k ≡ step length load_code bytes h
-      → q ≡ step length load_constants bytes k
-      → u ≡ step same load_upvalues bytes q
-      → t ≡ passed s
-      → w ≡ walk P bytes u t
-      → m ≡ cursor_at w
-      → l ≡ step length load_lines bytes m
-      → v ≡ cursor_value u
-      → n ≡ step none (load_names v) bytes l
-      → a₀ ≡ position_of c → a₁ ≡ position_of h → a₂ ≡ cursor_value k → a₃ ≡ position_of k → a₄ ≡ cursor_value q
-      → a₇ ≡ position_of m → a₅ ≡ position_of l → a₆ ≡ cursor_value u
-      → x ≡ finished s
-      (record {
-        first_at = a₀;
-        code_at = a₁;
-        words = a₂;
-        constants_at = a₃;
-        constants = a₄;
-        lines_at = a₇;
-        names_at = a₅;
-        names = a₆;
-      })
-      w n
-      → x ≡ walk (function_with P) bytes c s
-  joined c h k q u w m l n a₀ a₁ a₂ a₃ a₄ a₇ a₅ a₆ v t x eh ek eq eu et ew em el ev en e₀ e₁ e₂ e₃ e₄ e₇ e₅ e₆ ex =
-      ex ∙ (rw (e₀, e₁, e₂, e₃, e₄, e₇, e₅, e₆, en, ev, el, em, ew, et, eu, eq, ek, eh) (whole c))
+              pub read : (at₇ : ℕ) → past_of (load_names n bytes at₆) ≡ Ok at₇
+                  → whole
+                  ≡ Ok (
+                    settled s
+                        (record {
+                          first_at = at₀;
+                          code_at = at₁;
+                          words = words;
+                          constants_at = at₂;
+                          constants = constants;
+                          lines_at = at₅;
+                          names_at = at₆;
+                          names = n;
+                        })
+                        inner,
+                    at₇,
+                  )
+              read at₇ m =
+                  let names = ended (load_names n bytes at₆) at₇ m in
+                  read_by bytes P at₀ s stack at₁ h code.value at₂ code.is words code.gives ks.value at₃ ks.is constants ks.gives n at₄ u walked.value at₅ walked.is inner walked.gives
+                  locals.value at₆ locals.is names.value at₇ names.is
 
 -- ---- several functions
-unfoldable pub resumed : Reader (List Function) → ℕ → List ℕ → Walk → Walk
-resumed r n bytes (Past at s) = walk_of s (several r n bytes at)
-resumed r n bytes (Stopped e) = Stopped e
-
 module _ (r : Reader (List Function)) (bytes : List ℕ) where
-  appended : (s : Search) (fs : List Function) (X : Result (List Function))
-      → walk_of s (bind X (λ more at. done (fs ++ more) at)) ≡ walk_of (search s fs) X
-  appended s fs (done more at) = ap (Past at) (over_both s fs more)
-  appended s fs (refused e) = refl
+  appended : (s : Result Layout ℕ) (fs : List Function) (X : Outcome (List Function))
+      → read_as (search s) (bind X (λ more at. Ok (fs ++ more, at))) ≡ read_as (search (search s fs)) X
+  appended s fs (Ok (more, at)) = ap (λ (x : Result Layout ℕ). Ok (x, at)) (over_both s fs more)
+  appended s fs (Err e) = refl
 
-  resume : (n : ℕ) (s : Search) (X : Result (List Function))
-      → walk_of s (bind X (λ fs at₁. bind (several r n bytes at₁) (λ more at₂. done (fs ++ more) at₂))) ≡ resumed r n bytes (walk_of s X)
-  unfolding resumed
-  resume n s (done fs at) = appended s fs (several r n bytes at)
-  resume n s (refused e) = refl
+  pub none_left : (n : ℕ) (s : Result Layout ℕ) (at : ℕ) → n ≡ 0 → read_as (search s) (several r n bytes at) ≡ Ok (s, at)
+  unfolding several
+  none_left n s at z = rw z (ap (λ (x : Result Layout ℕ). Ok (x, at)) (over_none s))
 
-  one_on : (n : ℕ) (w : Walk) → resumed r (suc n) bytes w ≡ resumed r n bytes (walk r bytes (cursor_at w) (search_of w))
-  unfolding resumed several walk
-  one_on n (Past at s) = resume n s (r bytes at)
-  one_on n (Stopped e) = refl
+  on_by : (n i : ℕ) (s : Result Layout ℕ) (at : ℕ) (next : Result Layout ℕ) (past : ℕ) (fs : List Function) → i < n
+      → r bytes at ≡ Ok (fs, past) → search s fs ≡ next
+      → read_as (search s) (several r (n - i) bytes at) ≡ read_as (search next) (several r (n - (i + 1)) bytes past)
+  unfolding several
+  on_by n i s at next past fs l h g =
+      let e : n - i ≡ suc (n - (i + 1)) = omega arith in
+      rw (e, h, ← g) (appended s fs (several r (n - (i + 1)) bytes past))
 
-  pub one_function : (n : ℕ) (w x : Walk) (m : Cursor) (t : Search) → m ≡ cursor_at w → t ≡ search_of w → x ≡ walk r bytes m t
-      → resumed r (suc n) bytes w ≡ resumed r n bytes x
-  one_function n w x m t em et ex = rw (ex, em, et) (one_on n w)
+  pub one_on : (n i : ℕ) (s : Result Layout ℕ) (at : ℕ) (next : Result Layout ℕ) (past : ℕ) → i < n
+      → read_as (search s) (r bytes at) ≡ Ok (next, past)
+      → read_as (search s) (several r (n - i) bytes at) ≡ read_as (search next) (several r (n - (i + 1)) bytes past)
+  one_on n i s at next past l h =
+      let w = was (search s) (r bytes at) next past h in
+      on_by n i s at next past w.value l w.is w.gives
 
-  pub stopped_stays : (n : ℕ) (w : Walk) (e : Refusal) → w ≡ Stopped e → w ≡ resumed r n bytes w
-  unfolding resumed
-  stopped_stays n w e h = rw h
-
-  pub no-function : (w : Walk) → resumed r 0 bytes w ≡ w
-  unfolding resumed several
-  no-function (Past at s) = ap (Past at) (over_none s)
-  no-function (Stopped e) = refl
+  pub one_stops : (n i : ℕ) (s : Result Layout ℕ) (at : ℕ) (e : Refusal) → i < n
+      → read_as (search s) (r bytes at) ≡ Err e → read_as (search s) (several r (n - i) bytes at) ≡ Err e
+  unfolding several
+  one_stops n i s at e l h =
+      let p : n - i ≡ suc (n - (i + 1)) = omega arith in
+      rw (p, was_refused (search s) (r bytes at) e h)
 
 -- ---- the count of the functions within
-module _ (bytes : List ℕ) (s : Search) where
-  halted : (X : Result ℕ) (k : ℕ → ℕ → Result (List Function)) (e : Refusal) → cursor_of same X ≡ Refused e
-      → Stopped (refusal_of (cursor_of same X)) ≡ walk_of s (bind X k)
-  halted (done a at) k e h = absurd (true≢false (cc))
-  halted (refused x) k e h = refl
+module _ (bytes : List ℕ) (level at : ℕ) (s : Result Layout ℕ) where
+  pub no_count : (e : Refusal) → load_int bytes at ≡ Err e → read_as (search s) (load_protos level bytes at) ≡ Err e
+  unfolding load_protos
+  no_count e h = go level
+    where
+      go : (l : ℕ) → read_as (search s) (load_protos l bytes at) ≡ Err e
+      go zero = rw h
+      go (suc l) = rw h
 
-  counted_to : (X : Result ℕ) (k : ℕ → ℕ → Result (List Function)) (at n : ℕ) → cursor_of same X ≡ At at n → walk_of s (k n at) ≡ walk_of s (bind X k)
-  counted_to (done a at₁) k at n h =
-      let p : at₁ ≡ at = cc in
-      let q : a ≡ n = cc in
-      rw (p, q)
-  counted_to (refused x) k at n h = absurd (true≢false (cc))
-
-  pub no_count : (level : ℕ) (c d : Cursor) (x e : Refusal) → d ≡ step same load_int bytes c → d ≡ Refused e
-      → x ≡ refusal_of d → Stopped x ≡ walk (load_protos level) bytes c s
-  unfolding step walk load_protos
-  no_count zero (At at v) d x e h k l = ap Stopped (l ∙ ap refusal_of h) ∙ halted (load_int bytes at) (λ n at₁. none_of n bytes at₁) e (sym h ∙ k)
-  no_count (suc level) (At at v) d x e h k l =
-      ap Stopped (l ∙ ap refusal_of h) ∙ halted (load_int bytes at)
-      (λ n at₁. several (function_with (load_protos level)) n bytes at₁) e (sym h ∙ k)
-  no_count zero (Refused f) d x e h k l = ap Stopped (l ∙ ap refusal_of h)
-  no_count (suc level) (Refused f) d x e h k l = ap Stopped (l ∙ ap refusal_of h)
-
-  none_at : (c : Cursor) (at n : ℕ) → step same load_int bytes c ≡ At at n → walk_of s (none_of n bytes at) ≡ walk (load_protos 0) bytes c s
-  unfolding step walk load_protos
-  none_at (At at₀ v) at n p = counted_to (load_int bytes at₀) (λ n at₁. none_of n bytes at₁) at n p
-  none_at (Refused e) at n p = absurd (true≢false (cc))
-
-  some_at : (l : ℕ) (c : Cursor) (at n : ℕ) → step same load_int bytes c ≡ At at n
-      → walk_of s (several (load_function l) n bytes at) ≡ walk (load_protos (suc l)) bytes c s
-  unfolding step walk load_protos
-  some_at l (At at₀ v) at n p = counted_to (load_int bytes at₀) (λ n at₁. several (function_with (load_protos l)) n bytes at₁) at n p
-  some_at l (Refused e) at n p = absurd (true≢false (cc))
-
-  module _ (c d : Cursor) (at n : ℕ) (h : d ≡ step same load_int bytes c) (k : d ≡ At at n) (level : ℕ) where
+  module _ (n start : ℕ) (h : load_int bytes at ≡ Ok (n, start)) where
     -- no level is left, and none is needed
-    pub flat : level ≡ 0 → n ≡ 0 → Past at s ≡ walk (load_protos level) bytes c s
-    unfolding none_of
-    flat z y = rw z (none_here n y ∙ none_at c at n (sym h ∙ k))
-      where
-        none_here : (n : ℕ) → n ≡ 0 → Past at s ≡ walk_of s (none_of n bytes at)
-        none_here n y = rw (y, over_none s)
+    pub flat : level ≡ 0 → n ≡ 0 → read_as (search s) (load_protos level bytes at) ≡ Ok (s, start)
+    unfolding load_protos none_of
+    flat z y = rw (z, h, y) (ap (λ (x : Result Layout ℕ). Ok (x, start)) (over_none s))
 
     -- no level is left, and one is needed
-    pub too_deep : level ≡ 0 → (n ≡ 0 → ⊥) → Stopped TooDeep ≡ walk (load_protos level) bytes c s
-    unfolding none_of
-    too_deep z y = rw z (some_here n y ∙ none_at c at n (sym h ∙ k))
-      where
-        some_here : (n : ℕ) → (n ≡ 0 → ⊥) → Stopped TooDeep ≡ walk_of s (none_of n bytes at)
-        some_here zero y = absurd (y refl)
-        some_here (suc n) y = refl
+    pub too_deep : level ≡ 0 → (n ≡ 0 → ⊥) → read_as (search s) (load_protos level bytes at) ≡ Err TooDeep
+    unfolding load_protos none_of
+    too_deep z y = let e : n ≡ suc (n - 1) = omega arith in rw (z, h, e)
 
     -- a level is left
-    pub deeper : (l : ℕ) → level ≡ suc l → resumed (load_function l) n bytes (Past at s) ≡ walk (load_protos level) bytes c s
-    unfolding resumed
-    deeper l z = rw z (some_at l c at n (sym h ∙ k))
-
-pub level_less : (level : ℕ) → (level ≡ 0 → ⊥) → level ≡ suc (level - 1)
-level_less level h = omega arith
-
--- ---- a search, a function later
-pub pass_none : (s : Search) (n : ℕ) → s ≡ Left n → n ≡ 0 → Left n ≡ passed s
-pass_none s n h z = rw (h, z)
-
-pass_some : (n : ℕ) → (n ≡ 0 → ⊥) → Left (n - 1) ≡ passed (Left n)
-pass_some zero z = absurd (z refl)
-pass_some (suc n) z = simp unary_clauses
-
-pub pass_one : (s : Search) (n : ℕ) → s ≡ Left n → (n ≡ 0 → ⊥) → Left (n - 1) ≡ passed s
-pass_one s n h z = rw h (pass_some n z)
+    pub deeper : (level ≡ 0 → ⊥) → load_protos level bytes at ≡ several (load_function (level - 1)) n bytes start
+    unfolding load_protos
+    deeper z = let e : level ≡ suc (level - 1) = omega arith in below level (level - 1) e
+      where
+        below : (m l : ℕ) → m ≡ suc l → load_protos m bytes at ≡ several (load_function l) n bytes start
+        below m l e = rw (e, h)

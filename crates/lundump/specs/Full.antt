@@ -2,9 +2,9 @@
 -- were computed by a reader of another hand, written from lundump.c.
 -- Assumes nothing.
 use Rattle.std.specs.Prelude.{◌≡◌, List, [], ◌∷◌, ◌++◌, ℕ, zero, suc, ◌+◌, take, get_or, replicate}
-use Rattle.loaders.specs.declared.reading.Refusal.TheVariants.{Malformed}
+use Rattle.common.specs.declared.refusal.Refusal.TheVariants.{MalformedChunk}
 use Rattle.lundump.specs.declared.counts.Counts.{Counts}
-use Rattle.loaders.specs.Reading.{done, refused}
+use Rattle.std.specs.Prelude.{Ok, Err}
 use Rattle.loaders.specs.Loaders.{load_int, load_size}
 use Rattle.lundump.specs.Chunk.{
   chosen,
@@ -103,16 +103,16 @@ pub record BytesRefused : Type 0 where
       ≡ needs 0 1 0
   -- "15 .. a number overflows lundump.c's own limit": `x >= limit` before a byte is added, where limit is
   -- INT_MAX >> 7, and MAX_SIZET >> 7 for a size
-  pub int_most : load_int (7 ∷ 127 ∷ 127 ∷ 126 ∷ 255 ∷ []) 0 ≡ done 2147483519 5
-  pub int_over : load_int (7 ∷ 127 ∷ 127 ∷ 127 ∷ 128 ∷ []) 0 ≡ refused Malformed
+  pub int_most : load_int (7 ∷ 127 ∷ 127 ∷ 126 ∷ 255 ∷ []) 0 ≡ Ok (2147483519, 5)
+  pub int_over : load_int (7 ∷ 127 ∷ 127 ∷ 127 ∷ 128 ∷ []) 0 ≡ Err MalformedChunk
   -- the limit is on the number and not on its bytes
-  pub int_zeros : load_int (0 ∷ 0 ∷ 0 ∷ 0 ∷ 0 ∷ 0 ∷ 133 ∷ []) 0 ≡ done 5 7
+  pub int_zeros : load_int (0 ∷ 0 ∷ 0 ∷ 0 ∷ 0 ∷ 0 ∷ 133 ∷ []) 0 ≡ Ok (5, 7)
   pub size_most :
       load_size (1 ∷ 127 ∷ 127 ∷ 127 ∷ 127 ∷ 127 ∷ 127 ∷ 127 ∷ 126 ∷ 255 ∷ []) 0
-      ≡ done 18446744073709551487 10
+      ≡ Ok (18446744073709551487, 10)
   pub size_over :
       load_size (1 ∷ 127 ∷ 127 ∷ 127 ∷ 127 ∷ 127 ∷ 127 ∷ 127 ∷ 127 ∷ 128 ∷ []) 0
-      ≡ refused Malformed
+      ≡ Err MalformedChunk
   -- "6 covers each slice to be filled"
   pub short_words :
       counts_of (filled 0 example (record { words = 0; tags = 1; payloads = 1; names = 1 })) ≡ turned_away 6

@@ -1,10 +1,9 @@
 -- Compiled files: the format as lundump.c reads it, the chosen function; then what contracts within the crate
 -- and those over it cite.
-pub mod Numbers
 pub mod Lundump
 pub mod Chunk
 pub mod Stands
-pub mod Items
+pub mod Limited
 pub mod Search
 pub mod Examples
 pub mod Full

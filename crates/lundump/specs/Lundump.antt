@@ -8,9 +8,10 @@
 -- and the levels (16).
 -- Assumes nothing.
 use Rattle.std.specs.Prelude.{cond, List, [], ◌∷◌, ◌++◌, ℕ, zero, suc, ◌+◌, ◌*◌, leb, eqb, replicate}
-use Rattle.loaders.specs.declared.reading.Refusal.TheVariants.{Header, TooDeep}
+use Rattle.common.specs.declared.refusal.Refusal.TheVariants.{HeaderDiffers, TooDeep}
 use Rattle.common.specs.Limits.{most_words, most_constants, most_names, levels_below, int_max}
-use Rattle.loaders.specs.Reading.{done, refused, Reader, bind, and_then, only, repeat, little_end}
+use Rattle.std.specs.Prelude.{Ok, Err}
+use Rattle.loaders.specs.Reading.{Reader, bind, and_then, only, repeat, little_end}
 use Rattle.loaders.specs.Loaders.{
   load_block,
   load_byte,
@@ -18,9 +19,9 @@ use Rattle.loaders.specs.Loaders.{
   Text,
   absent,
   load_string_n,
-  Constant,
   load_constant,
 }
+use Rattle.loaders.specs.declared.constants.Constant.{Constant}
 
 -- the C's vectors: a count, at most so many, and so many bytes for each item
 pub record Vector : Type 0 where
@@ -32,7 +33,7 @@ load_vector most each bytes at =
     bind (load_int bytes at) (λ n at₁.
     only (leb n most)
     (bind (load_block (each * n) bytes at₁) (λ _ at₂.
-    done (record { start = at₁; count = n }) at₂)))
+    Ok (record { start = at₁; count = n }, at₂))))
 
 -- a count, at most so many, and so many items one by one
 unfoldable pub load_items : {A : Type 0} → ℕ → (ℕ → Reader A) → Reader (List A)
@@ -47,14 +48,14 @@ words_from (suc n) bytes at = little_end 4 bytes at ∷ words_from n bytes (at +
 
 unfoldable pub load_code : Reader (List ℕ)
 load_code bytes at =
-    bind (load_vector most_words 4 bytes at) (λ v at₁. done (words_from v.count bytes v.start) at₁)
+    bind (load_vector most_words 4 bytes at) (λ v at₁. Ok (words_from v.count bytes v.start, at₁))
 
 abbrev pub load_constants : Reader (List Constant)
 load_constants = load_items most_constants load_constant
 
 -- loadUpvalues: instack, idx and kind, a byte each, of which only the number of upvalues counts here
 unfoldable pub load_upvalues : Reader ℕ
-load_upvalues bytes at = bind (load_vector most_names 3 bytes at) (λ v at₁. done v.count at₁)
+load_upvalues bytes at = bind (load_vector most_names 3 bytes at) (λ v at₁. Ok (v.count, at₁))
 
 -- loadDebug: lineinfo, abslineinfo and locvars. Document 02 sets their counts no limit:
 -- loadInt's is the only one
@@ -75,7 +76,7 @@ abbrev pub load_name : ℕ → Reader Text
 load_name i = load_string_n
 
 unfoldable pub names_from : ℕ → ℕ → Reader (List Text)
-names_from upvalues zero bytes at = done (replicate upvalues absent) at
+names_from upvalues zero bytes at = Ok (replicate upvalues absent, at)
 names_from upvalues (suc n) bytes at = repeat load_name 0 upvalues bytes at
 
 unfoldable pub load_names : ℕ → Reader (List Text)
@@ -113,32 +114,34 @@ function_with load_protos bytes at =
     bind (load_protos bytes at₄) (λ inner at₅.
     bind (load_lines bytes at₅) (λ _ at₆.
     bind (load_names n bytes at₆) (λ names at₇.
-    done
-    (record {
-      first_at = at;
-      code_at = at₁;
-      words = code;
-      constants_at = at₂;
-      constants = k;
-      upvalues = n;
-      lines_at = at₅;
-      names_at = at₆;
-      names = names;
-      end_at = at₇;
-    } ∷ inner) at₇)))))))
+    Ok (
+      record {
+        first_at = at;
+        code_at = at₁;
+        words = code;
+        constants_at = at₂;
+        constants = k;
+        upvalues = n;
+        lines_at = at₅;
+        names_at = at₆;
+        names = names;
+        end_at = at₇;
+      } ∷ inner,
+      at₇,
+    ))))))))
 
 -- loadProtos: n functions, each with those within it
 unfoldable pub several : Reader (List Function) → ℕ → Reader (List Function)
-several r zero bytes at = done [] at
+several r zero bytes at = Ok ([], at)
 several r (suc n) bytes at =
     bind (r bytes at) (λ fs at₁.
     bind (several r n bytes at₁) (λ more at₂.
-    done (fs ++ more) at₂))
+    Ok (fs ++ more, at₂)))
 
 -- where no level is left: "16 a level 33, met at the count that needs it"
 unfoldable pub none_of : ℕ → Reader (List Function)
-none_of zero bytes at = done [] at
-none_of (suc n) bytes at = refused TooDeep
+none_of zero bytes at = Ok ([], at)
+none_of (suc n) bytes at = Err TooDeep
 
 -- loadProtos, with so many levels left: "the remaining level allowance" falls by one at each function within
 unfoldable pub load_protos : ℕ → Reader (List Function)
@@ -152,9 +155,9 @@ load_function level = function_with (load_protos level)
 -- checkliteral, fchecksize and the comparisons of checkHeader, byte by byte: "14 a header byte that differs",
 -- 15 where the bytes end before
 unfoldable pub check_bytes : List ℕ → Reader (Unit {0})
-check_bytes [] bytes at = done tt at
+check_bytes [] bytes at = Ok (tt, at)
 check_bytes (h ∷ hs) bytes at = bind (load_byte bytes at)
-    (λ b at₁. let more = check_bytes hs bytes at₁ in cond (eqb b h) more (refused Header))
+    (λ b at₁. let more = check_bytes hs bytes at₁ in cond (eqb b h) more (Err HeaderDiffers))
 
 -- checkHeader: LUA_SIGNATURE "\x1bLua"; LUAC_VERSION 0x54, LUAC_FORMAT 0; LUAC_DATA "\x19\x93\r\n\x1a\n";
 -- the sizes of Instruction, lua_Integer and lua_Number; LUAC_INT 0x5678; LUAC_NUM 370.5, whose

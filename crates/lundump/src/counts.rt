@@ -1,11 +1,10 @@
 // The first pass: how many words, constants and names a function needs.
 ghost use Rattle.std.specs.Prelude.{◌≡◌};
-ghost use Rattle.lundump.specs.Numbers.{refusal_number, refusal_place};
 ghost use Rattle.lundump.specs.Search.{reported};
 
-use crate::locating::Located;
-use common::numbers::*;
-use loaders::Refusal;
+use crate::functions::Layout;
+use common::Refusal;
+use common::numbers::ACCEPTED;
 
 // What both passes answer. Of a refusal the counts are 0.
 #[repr(C)]
@@ -18,47 +17,25 @@ pub struct Counts {
     pub names: u64,
 }
 
-pub fn refusal_number(e: Refusal) -> u8
-    ensures { result ≡ refusal_number e }
-{
-    match e {
-        Refusal::Header => HEADER_DIFFERS,
-        Refusal::Malformed => MALFORMED_CHUNK,
-        Refusal::TooDeep => TOO_DEEP,
-        Refusal::UnknownTag(_) => UNKNOWN_TAG,
-        Refusal::Short => SHORT_SLICE,
-    }
-}
+impl From<Result<Layout, Refusal>> for Counts {
+    ghost from_gives = { λ located counts. counts ≡ reported located };
 
-pub fn refusal_place(e: Refusal) -> u64
-    ensures { result ≡ refusal_place e }
-{
-    match e {
-        Refusal::Header => 0,
-        Refusal::Malformed => 0,
-        Refusal::TooDeep => 0,
-        Refusal::UnknownTag(i) => i as u64,
-        Refusal::Short => 0,
-    }
-}
-
-pub fn report(l: Located) -> Counts
-    ensures { result ≡ reported l }
-{
-    match l {
-        Located::Here(f) => Counts {
-            number: ACCEPTED as u64,
-            place: 0,
-            words: f.words as u64,
-            constants: f.constants as u64,
-            names: f.names as u64,
-        },
-        Located::Not(e) => Counts {
-            number: refusal_number(e) as u64,
-            place: refusal_place(e),
-            words: 0,
-            constants: 0,
-            names: 0,
-        },
+    fn from(located: Result<Layout, Refusal>) -> Counts {
+        match located {
+            Ok(f) => Counts {
+                number: u64::from(ACCEPTED),
+                place: 0,
+                words: f.words as u64,
+                constants: f.constants as u64,
+                names: f.names as u64,
+            },
+            Err(e) => Counts {
+                number: u64::from(e.number()),
+                place: e.place() as u64,
+                words: 0,
+                constants: 0,
+                names: 0,
+            },
+        }
     }
 }

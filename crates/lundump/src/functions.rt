@@ -1,11 +1,13 @@
 // Functions and the functions within them.
 ghost use Rattle.std.specs.Prelude.{◌≡◌};
+ghost use Rattle.loaders.specs.Reading.{read_as};
 ghost use Rattle.lundump.specs.Lundump.{load_function, load_protos};
-ghost use Rattle.lundump.specs.Search.{walk, cursor_at, search_of, passed, finished};
+ghost use Rattle.lundump.specs.Search.{search, passed, settled, roomy};
 
 use crate::parts::{code, constants, head, lines, names, upvalues};
-use loaders::inner::{int, position, reason, value};
-use loaders::{Cursor, Refusal};
+use common::Refusal;
+use loaders::Read;
+use loaders::inner::int;
 
 // Where a function's head stands, and the counts of its words, constants, line information and names,
 // and how many it has of each.
@@ -21,118 +23,90 @@ pub struct Layout {
     pub names: usize,
 }
 
-// So many functions come before the one that is looked for; or it is found.
+// The lengths of the lent slices.
 #[derive(Clone, Copy)]
-pub enum Search {
-    Left(usize),
-    Found(Layout),
+pub struct Rooms {
+    pub words: usize,
+    pub tags: usize,
+    pub payloads: usize,
+    pub names: usize,
 }
 
-// The position past what was read, and how the search stands; or a refusal.
-#[derive(Clone, Copy)]
-pub enum Walk {
-    Past(usize, Search),
-    Stopped(Refusal),
-}
-
-// Where to read on.
-fn cursor(w: Walk) -> Cursor
-    ensures { result ≡ cursor_at w }
-{
-    match w {
-        Walk::Past(at, _) => Cursor::At(at, 0),
-        Walk::Stopped(e) => Cursor::Refused(e),
+impl Layout {
+    // Each slice has room.
+    pub fn fits(self, rooms: Rooms) -> bool
+        ensures { result ≡ roomy self rooms }
+    {
+        self.words <= rooms.words
+            && self.constants <= rooms.tags
+            && self.constants <= rooms.payloads
+            && self.names <= rooms.names
     }
 }
 
-// How the search stands.
-fn standing(w: Walk) -> Search
-    ensures { result ≡ search_of w }
-{
-    match w {
-        Walk::Past(_, s) => s,
-        Walk::Stopped(_) => Search::Left(0),
-    }
-}
+// The function that is looked for; or so many come before it.
+pub type Search = Result<Layout, usize>;
 
 // One function is passed.
 fn pass(s: Search) -> Search
     ensures { result ≡ passed s }
 {
-    let Search::Left(n) = s else {
-        return s;
-    };
-    if n == 0 {
-        return s;
-    }
-    Search::Left(n - 1)
+    s.map_err(|n| n.saturating_sub(1))
 }
 
 // The end of a function: the search found it if none was left, else it stands as after those within.
-fn finish(s: Search, own: Layout, inner: Walk, last: Cursor) -> Walk
-    ensures { result ≡ finished s own inner last }
+fn settle(s: Search, own: Layout, inner: Search) -> Search
+    ensures { result ≡ settled s own inner }
 {
-    let Cursor::At(at, _) = last else {
-        return Walk::Stopped(reason(last));
-    };
-    let Search::Left(n) = s else {
-        return Walk::Past(at, standing(inner));
-    };
-    if n == 0 {
-        return Walk::Past(at, Search::Found(own));
+    match s {
+        Err(0) => Ok(own),
+        _ => inner,
     }
-    Walk::Past(at, standing(inner))
 }
 
 // loadFunction, with so many levels left below it
 #[cycle(function_protos)]
-pub fn function(chunk: &[u8], c: Cursor, level: u32, s: Search) -> Walk
-    ensures { result ≡ walk (load_function level) chunk.now c s }
+pub fn function(chunk: &[u8], at: usize, level: u32, s: Search) -> Read<Search>
+    ensures { result ≡ read_as (search s) (load_function level chunk.now at) }
 {
-    let start = head(chunk, c);
-    let words = code(chunk, start);
-    let tags = constants(chunk, words);
-    let ups = upvalues(chunk, tags);
-    let inner = protos(chunk, ups, level, pass(s));
-    let after = cursor(inner);
-    let debug = lines(chunk, after);
-    let last = names(chunk, debug, value(ups));
+    let (_, code_at) = head(chunk, at)?;
+    let (words, constants_at) = code(chunk, code_at)?;
+    let (constants, upvalues_at) = constants(chunk, constants_at)?;
+    let (upvalues, protos_at) = upvalues(chunk, upvalues_at)?;
+    let (inner, lines_at) = protos(chunk, protos_at, level, pass(s))?;
+    let names_at = lines(chunk, lines_at)?;
+    let past = names(chunk, names_at, upvalues)?;
     let own = Layout {
-        first_at: position(c),
-        code_at: position(start),
-        words: value(words),
-        constants_at: position(words),
-        constants: value(tags),
-        lines_at: position(after),
-        names_at: position(debug),
-        names: value(ups),
+        first_at: at,
+        code_at,
+        words,
+        constants_at,
+        constants,
+        lines_at,
+        names_at,
+        names: upvalues,
     };
-    finish(s, own, inner, last)
+    Ok((settle(s, own, inner), past))
 }
 
 // loadProtos: a level 33 is met at the count that needs it
 #[cycle(function_protos)]
-fn protos(chunk: &[u8], c: Cursor, level: u32, s: Search) -> Walk
-    ensures { result ≡ walk (load_protos level) chunk.now c s }
+fn protos(chunk: &[u8], at: usize, level: u32, s: Search) -> Read<Search>
+    ensures { result ≡ read_as (search s) (load_protos level chunk.now at) }
 {
-    let count = int(chunk, c);
-    let Cursor::At(at, n) = count else {
-        return Walk::Stopped(reason(count));
-    };
+    let (n, start) = int(chunk, at)?;
     if level == 0 {
-        if n == 0 {
-            return Walk::Past(at, s);
+        if n != 0 {
+            return Err(Refusal::TooDeep);
         }
-        return Walk::Stopped(Refusal::TooDeep);
+        return Ok((s, start));
     }
-    let mut w = Walk::Past(at, s);
-    let mut i = 0;
-    while i < n {
-        let Walk::Past(_, _) = w else {
-            return w;
-        };
-        w = function(chunk, cursor(w), level - 1, standing(w));
-        i += 1;
+    let mut found = s;
+    let mut at = start;
+    for _i in 0..n {
+        let (next, past) = function(chunk, at, level - 1, found)?;
+        found = next;
+        at = past;
     }
-    w
+    Ok((found, at))
 }

@@ -1,75 +1,47 @@
 // Lists of items that are read one by one: one loop for all kinds.
-ghost use Rattle.std.specs.Prelude.{◌≡◌, length};
-ghost use Rattle.loaders.specs.Reading.{repeat};
-ghost use Rattle.lundump.specs.Lundump.{load_items, load_abs_line, load_loc_var};
-ghost use Rattle.loaders.specs.Cursors.{step, same, none};
-ghost use Rattle.lundump.specs.Items.{item_of};
+ghost use Rattle.std.specs.Prelude.{◌≡◌, ℕ};
+ghost use Rattle.loaders.specs.Reading.{Reader, repeat, past_of};
+ghost use Rattle.lundump.specs.Lundump.{load_abs_line, load_loc_var};
+ghost use Rattle.lundump.specs.Limited.{Reads};
 
-use loaders::inner::{constant, int, string, with_value};
-use loaders::{Cursor, Refusal};
+use common::Refusal;
+use loaders::Read;
+use loaders::inner::{int, string};
 
-#[derive(Clone, Copy)]
-pub enum Kind {
-    Constants,
-    AbsLines,
-    LocVars,
-    Names,
+#[tactic(auto, unfolding(crate::specs::Lundump::load_abs_line))]
+pub(crate) fn abs_line(chunk: &[u8], at: usize) -> Read<usize>
+    ensures { result ≡ load_abs_line 0 chunk.now at }
+{
+    let (_, at) = int(chunk, at)?;
+    int(chunk, at)
 }
 
-fn abs_line(chunk: &[u8], c: Cursor) -> Cursor
-    ensures { result ≡ step same (load_abs_line 0) chunk.now c }
+#[tactic(auto, unfolding(crate::specs::Lundump::load_loc_var))]
+pub(crate) fn loc_var(chunk: &[u8], at: usize) -> Read<usize>
+    ensures { result ≡ load_loc_var 0 chunk.now at }
 {
-    int(chunk, int(chunk, c))
+    let (_, at) = string(chunk, at)?;
+    let (_, at) = int(chunk, at)?;
+    int(chunk, at)
 }
 
-fn loc_var(chunk: &[u8], c: Cursor) -> Cursor
-    ensures { result ≡ step same (load_loc_var 0) chunk.now c }
+// So many items: the position past them.
+#[tactic(auto, using(crate::proofs::Repeats::turns))]
+pub(crate) fn items<T: Drop, F: Fn(&[u8], usize, usize) -> Read<T>>(
+    chunk: &[u8],
+    from: usize,
+    n: usize,
+    item: F,
+) -> Result<usize, Refusal>
+    ghost reader: { ℕ → Reader T }
+    requires callable { F.IsAlwaysCallable item }
+    requires reads { Reads (F.post item) reader }
+    ensures { result ≡ past_of (repeat reader 0 n chunk.now from) }
 {
-    int(chunk, int(chunk, string(chunk, c)))
-}
-
-// Item i of a list.
-fn item(chunk: &[u8], c: Cursor, kind: Kind, i: usize) -> Cursor
-    ensures { result ≡ step none (item_of kind i) chunk.now c }
-{
-    match kind {
-        Kind::Constants => constant(chunk, c, i),
-        Kind::AbsLines => with_value(abs_line(chunk, c), 0),
-        Kind::LocVars => with_value(loc_var(chunk, c), 0),
-        Kind::Names => string(chunk, c),
-    }
-}
-
-// So many items. The loop keeps a position: a cursor would go through memory at each turn.
-pub(crate) fn items(chunk: &[u8], c: Cursor, kind: Kind, n: usize) -> Cursor
-    ensures { result ≡ step none (repeat (item_of kind) 0 n) chunk.now c }
-{
-    let Cursor::At(from, _) = c else {
-        return c;
-    };
     let mut at = from;
-    let mut i = 0;
-    while i < n {
-        let here = item(chunk, Cursor::At(at, 0), kind, i);
-        let Cursor::At(next, _) = here else {
-            return here;
-        };
-        at = next;
-        i += 1;
+    for i in 0..n {
+        let (_, past) = item(chunk, at, i)?;
+        at = past;
     }
-    Cursor::At(at, 0)
-}
-
-// A count of at most so many, and so many items.
-pub(crate) fn counted(chunk: &[u8], c: Cursor, kind: Kind, most: usize) -> Cursor
-    ensures { result ≡ step length (load_items most (item_of kind)) chunk.now c }
-{
-    let count = int(chunk, c);
-    let Cursor::At(_, n) = count else {
-        return count;
-    };
-    if most < n {
-        return Cursor::Refused(Refusal::Malformed);
-    }
-    with_value(items(chunk, count, kind, n), n)
+    Ok(at)
 }

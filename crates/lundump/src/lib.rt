@@ -10,6 +10,4 @@ mod locating;
 mod parts;
 
 pub use counts::Counts;
-pub use functions::{Layout, Search, Walk};
-pub use items::Kind;
-pub use locating::Located;
+pub use functions::{Layout, Rooms, Search};

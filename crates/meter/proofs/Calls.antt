@@ -11,7 +11,7 @@ use Rattle.common.specs.Limits.{most_words, most_services, heaviest_weight}
 use Rattle.graph.specs.Graph.{Graph, Lawful}
 use Rattle.graph.proofs.Laws.{laws}
 use Rattle.meter.specs.declared.step.Meter.{Meter}
-use Rattle.meter.specs.declared.step.Fed.{Fed}
+use Rattle.meter.specs.Feed.{Fed}
 use Rattle.runs.specs.Weights.{refuses_weights}
 use Rattle.meter.specs.Feed.{Scale, follows, one_service, showing, moved_to, is_foreign, is_stray, begin_of, reset_of, feed_of}
 use Rattle.meter.specs.Model.{Call, begin, feed, reset, Model, empty_model, last_from, writes, fed}

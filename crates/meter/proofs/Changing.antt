@@ -15,7 +15,7 @@ use Rattle.runs.specs.Script as script
 use Rattle.runs.specs.Weights.{refuses_weights, weights_place}
 use Rattle.runs.proofs.Laws as runs
 use Rattle.meter.specs.declared.step.Meter.{Meter}
-use Rattle.meter.specs.declared.step.Fed.{Fed}
+use Rattle.meter.specs.Feed.{Fed}
 use Rattle.meter.specs.Feed.{scale_of, follows, showing, moved_to, is_foreign, is_stray, begin_of, reset_of, feed_of}
 use Rattle.meter.specs.Model.{last_from, writes, has_word, last_or0, any_serves}
 use Rattle.meter.specs.Changing.{ChangingCall, begin, feed, reset, Entry, Book, empty, entry_words}

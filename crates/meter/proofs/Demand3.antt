@@ -6,12 +6,11 @@ use mathlib.Core.List.{List, ◌∷◌}
 use native.Mathlib.Omega.{arith}
 use Rattle.common.specs.Limits.{most_words, most_services}
 use Rattle.graph.specs.Graph.{weigh}
-use Rattle.runs.specs.declared.longest.Run.{Run}
 use Rattle.runs.specs.Script.{Script, weight_of}
 use Rattle.runs.specs.Script as script
 use Rattle.runs.specs.Weights.{Weighs}
 use Rattle.runs.specs.Demand.{Demand, Passes}
-use Rattle.runs.specs.Run.{run_of, number_of, longest_of, first_of}
+use Rattle.runs.specs.Run.{Run, run_of, number_of, longest_of, first_of}
 use Rattle.runs.specs.Laws.{Enough}
 use Rattle.runs.proofs.Laws.{laws}
 use Rattle.meter.specs.declared.step.Meter.{Meter}

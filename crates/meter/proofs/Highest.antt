@@ -10,7 +10,7 @@ use Rattle.common.specs.Limits.{most_words}
 use Rattle.common.specs.Numbers.{«ACCEPTED»}
 use Rattle.runs.specs.Weights.{refuses_weights}
 use Rattle.meter.specs.declared.step.Meter.{Meter}
-use Rattle.meter.specs.declared.step.Fed.{Fed}
+use Rattle.meter.specs.Feed.{Fed}
 use Rattle.meter.specs.Feed.{Scale, is_begun, showing, moved_to, is_foreign, is_stray, begin_of, reset_of, feed_of}
 use Rattle.meter.specs.Model.{Call, begin, feed, reset}
 use Rattle.meter.specs.Calls.{meter_called, meter_after}

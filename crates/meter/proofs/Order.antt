@@ -13,7 +13,7 @@ use Rattle.graph.specs.Graph.{In}
 use Rattle.graph.proofs.Laws as graph
 use Rattle.runs.specs.Weights.{refuses_weights, weights_place}
 use Rattle.meter.specs.declared.step.Meter.{Meter}
-use Rattle.meter.specs.declared.step.Fed.{Fed}
+use Rattle.meter.specs.Feed.{Fed}
 use Rattle.meter.specs.Feed.{Scale, follows, is_begun, one_service, showing, is_foreign, is_stray, moved_to, refusal, feed_of}
 use Rattle.meter.specs.Order.{Foreign, below, far, none, much, last, count, Stray, past, no_step, not_first, Moved, Order}
 

@@ -1,7 +1,7 @@
 // Begin, feed and reset by value: a meter goes in, a meter comes out.
 ghost use Rattle.std.specs.Prelude.{◌≡◌, ◌*◌, ◌<◌, ◌≤◌};
 ghost use Rattle.common.specs.Limits.{most_words, heaviest_weight};
-ghost use Rattle.runs.specs.Script.{script_of, lua54, graph_of};
+ghost use Rattle.runs.specs.Script.{script_of, graph_of};
 ghost use Rattle.meter.specs.Feed.{
   scale_of,
   begin_of,
@@ -11,30 +11,18 @@ ghost use Rattle.meter.specs.Feed.{
   moved_to,
   is_foreign,
   is_stray,
-  refusal,
+  fed_of,
   feed_of,
 };
 
-use common::c::FlatAnswer;
-use common::limits::{HEAVIEST_WEIGHT, MOST_SERVICES, MOST_WORDS};
-use common::widths::{larger, wide};
+use common::Refusal;
+use common::limits::{HEAVIEST_WEIGHT, MOST_WORDS};
 use fields::version::Version;
-
-// A feed's number has 64 bits, as C gets it.
-
-const ACCEPTED: u64 = common::numbers::ACCEPTED as u64;
-
-const TOO_MANY_WORDS: u64 = common::numbers::TOO_MANY_WORDS as u64;
-
-const NO_STEP: u64 = common::numbers::NO_STEP as u64;
-
-const FOREIGN_METER: u64 = common::numbers::FOREIGN_METER as u64;
-
-const WEIGHTS_REFUSED: u64 = common::numbers::WEIGHTS_REFUSED as u64;
+use runs::weighing::check_weights;
 
 // Four numbers in the order of document 01 and the highest of request C-19, laid out as C lays them out.
-// A number for `begun`, not a bool: a bool of 2 from a C caller would have no meaning, while a number does:
-// 0 is not begun, any other is.
+// Kept: (a) a number for `begun`, not a bool: a bool of 2 from a C caller of lawendeb_feed_4 would have no
+// meaning, while a number does: 0 is not begun, any other is.
 #[repr(C)]
 #[derive(Clone, Copy)]
 pub struct Meter {
@@ -47,14 +35,8 @@ pub struct Meter {
     pub highest: u32,
 }
 
-// A meter after a feed, and the feed's answer.
-#[derive(Drop)]
-pub struct Fed {
-    pub meter: Meter,
-    pub answer: FlatAnswer,
-}
-
 // Begin: not begun, 0, 0; the services and the highest stay.
+#[tactic(auto, unfolding(crate::specs::Feed::begin_of))]
 pub fn begin_step(m: Meter) -> Meter
     ensures { result ≡ begin_of m }
 {
@@ -62,56 +44,43 @@ pub fn begin_step(m: Meter) -> Meter
         begun: 0,
         last: 0,
         count: 0,
-        services: m.services,
-        highest: m.highest,
+        ..m
     }
 }
 
 // Reset: the highest is the count of this moment; the rest stays.
+#[tactic(auto, unfolding(crate::specs::Feed::reset_of))]
 pub fn reset_step(m: Meter) -> Meter
     ensures { result ≡ reset_of m }
 {
     Meter {
-        begun: m.begun,
-        last: m.last,
-        count: m.count,
-        services: m.services,
         highest: m.count,
+        ..m
     }
 }
 
-// One service more, up to the ceiling.
+// One service more, up to the ceiling, which is the highest number of 32 bits.
+#[tactic(auto, unfolding(crate::specs::Feed::one_service))]
 fn one_service(s: u32) -> u32
     ensures { result ≡ one_service s }
 {
-    if s < MOST_SERVICES {
-        return s + 1;
-    }
-    MOST_SERVICES
+    s.saturating_add(1)
 }
 
 // Number 11: no meter of a function of n words, or one whose highest is below its count.
+#[tactic(auto, unfolding(crate::specs::Feed::is_foreign))]
 fn is_foreign(n: usize, m: Meter) -> bool
     ensures { result ≡ is_foreign n m }
 {
-    let last = wide(m.last);
-    let count = wide(m.count);
-    if wide(m.highest) < count {
+    let last = m.last as usize;
+    let count = m.count as usize;
+    if m.highest < m.count {
         return true;
     }
     if m.begun == 0 {
-        if last == 0 {
-            return count != 0;
-        }
-        return true;
+        return last != 0 || count != 0;
     }
-    if n <= last {
-        return true;
-    }
-    if count == 0 {
-        return true;
-    }
-    HEAVIEST_WEIGHT * (last + 1) < count
+    n <= last || count == 0 || HEAVIEST_WEIGHT * (last + 1) < count
 }
 
 // Number 10: no word that can follow.
@@ -125,10 +94,11 @@ fn is_stray(version: Version, words: &[u32], m: Meter, q: usize) -> bool
     if m.begun == 0 {
         return q != 0;
     }
-    !runs::script::is_successor(version, words, wide(m.last), q)
+    !runs::script::is_successor(version, words, m.last as usize, q)
 }
 
 // A begun meter, and a count that it shows now, after `before` was its highest.
+#[tactic(auto, unfolding(crate::specs::Feed::showing))]
 fn show_count(last: u32, count: u32, services: u32, before: u32) -> Meter
     ensures { result ≡ showing last count services before }
 {
@@ -137,11 +107,12 @@ fn show_count(last: u32, count: u32, services: u32, before: u32) -> Meter
         last,
         count,
         services,
-        highest: larger(before, count),
+        highest: before.max(count),
     }
 }
 
 // The meter at q. What the checks leave is small enough to add to and to keep in 32 bits.
+#[tactic(auto, unfolding(crate::specs::Feed::moved_to))]
 fn moved(version: Version, words: &[u32], weights: &[u8], m: Meter, q: usize) -> Meter
     requires { (q < most_words) × (m.count ≤ heaviest_weight * most_words) }
     ensures { result ≡ moved_to (scale_of (script_of version words.now) weights.now) m q }
@@ -151,55 +122,32 @@ fn moved(version: Version, words: &[u32], weights: &[u8], m: Meter, q: usize) ->
     if m.begun == 0 {
         return show_count(to, weight, m.services, m.highest);
     }
-    if sweep::edges::serves(wide(m.last), q) {
+    if sweep::edges::serves(m.last as usize, q) {
         return show_count(to, weight, one_service(m.services), m.highest);
     }
     show_count(to, m.count + weight, m.services, m.highest)
 }
 
-// A refusal leaves the meter as it was.
-fn refused(m: Meter, number: u64, place: usize) -> Fed
-    ensures { result ≡ refusal number place m }
-{
-    Fed {
-        meter: m,
-        answer: FlatAnswer {
-            number,
-            place: place as u64,
-        },
-    }
-}
-
 // A feed of word q of a script of either version, in bounded time: of the words only those are read that
-// decide the edge and the weight.
-pub fn feed_script(version: Version, words: &[u32], weights: &[u8], m: Meter, q: usize) -> Fed
-    ensures { result ≡ feed_of (scale_of (script_of version words.now) weights.now) m q }
+// decide the edge and the weight. The meter after it, or why it is refused, which leaves the meter as it was.
+pub fn feed_step(
+    version: Version,
+    words: &[u32],
+    weights: &[u8],
+    m: Meter,
+    q: usize,
+) -> Result<Meter, Refusal>
+    ensures { fed_of m result ≡ feed_of (scale_of (script_of version words.now) weights.now) m q }
 {
     if MOST_WORDS < words.len() {
-        return refused(m, TOO_MANY_WORDS, 0);
+        return Err(Refusal::TooManyWords);
     }
-    if runs::weighing::refuses_weights(weights) {
-        return refused(m, WEIGHTS_REFUSED, runs::weighing::weights_place(weights));
-    }
+    check_weights(weights)?;
     if is_foreign(words.len(), m) {
-        return refused(m, FOREIGN_METER, 0);
+        return Err(Refusal::ForeignMeter);
     }
     if is_stray(version, words, m, q) {
-        return refused(m, NO_STEP, 0);
+        return Err(Refusal::NoStep);
     }
-    let next = moved(version, words, weights, m, q);
-    Fed {
-        meter: next,
-        answer: FlatAnswer {
-            number: ACCEPTED,
-            place: 0,
-        },
-    }
-}
-
-// The same of words of 5.4.
-pub fn feed_step(words: &[u32], weights: &[u8], m: Meter, q: usize) -> Fed
-    ensures { result ≡ feed_of (scale_of (lua54 words.now) weights.now) m q }
-{
-    feed_script(Version::Lua54, words, weights, m, q)
+    Ok(moved(version, words, weights, m, q))
 }

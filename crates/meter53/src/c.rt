@@ -6,14 +6,7 @@ ghost use Rattle.meter.specs.Feed.{scale_of, feed_of};
 
 use common::c::FlatAnswer;
 use fields::version::Version;
-use meter::{Fed, Meter};
-
-// By value: a meter goes in, a meter comes out.
-pub fn feed_step_53(words: &[u32], weights: &[u8], m: Meter, q: usize) -> Fed
-    ensures { result ≡ feed_of (scale_of (script_of Lua53 words.now) weights.now) m q }
-{
-    meter::feed_script(Version::Lua53, words, weights, m, q)
-}
+use meter::Meter;
 
 // For C: `struct lawendeb_answer lawendeb_feed_53(const uint32_t *words, size_t n, const uint8_t *weights,
 // size_t weights_n, struct lawendeb_meter *m, size_t q)`.
@@ -23,7 +16,9 @@ pub fn lawendeb_feed_53(words: &[u32], weights: &[u8], m: &mut Meter, q: usize) 
         × (m.new ≡ (feed_of (scale_of (script_of Lua53 words.now) weights.now)
         m.old q).meter) }
 {
-    let f = feed_step_53(words, weights, *m, q);
-    *m = f.meter;
-    f.answer
+    let fed = meter::feed_step(Version::Lua53, words, weights, *m, q);
+    if let Ok(next) = fed {
+        *m = next;
+    }
+    FlatAnswer::from(fed.map(|_| ()))
 }

@@ -7,39 +7,25 @@ mod calls;
 
 use print_cases::{end, text};
 use std::io::Stdout;
+use vectors::part;
 
 fn ask(out: Stdout, line: &[u8]) {
-    let question = vectors::which(line, b"title|feed|begin|reset|straight");
-    if question > 4 {
-        return;
-    }
-    text(out, vectors::part(line, 1));
-    match question {
-        1 => {
-            calls::feed(out, line);
+    let call: fn(Stdout, &[u8]) = match part(line, 0) {
+        b"title" => calls::title,
+        b"feed" => calls::feed,
+        b"begin" => calls::begin,
+        b"reset" => calls::reset,
+        b"straight" => calls::straight,
+        _ => {
+            return;
         }
-        2 => {
-            calls::begin(out, line);
-        }
-        3 => {
-            calls::reset(out, line);
-        }
-        4 => {
-            calls::straight(out, line);
-        }
-        _ => {}
-    }
+    };
+    text(out, part(line, 1));
+    call(out, line);
     end(out);
 }
 
-fn ask_all(out: Stdout, text: &[u8]) {
-    for i in 0..text.len() {
-        ask(out, vectors::line_at(text, i));
-    }
-}
-
 fn main(rt: HostRuntime) {
-    let mut page = io::large_buffer();
-    let n = vectors::read(rt.stdin(), &mut page);
-    ask_all(rt.stdout(), pages::first(&page, n));
+    let out = rt.stdout();
+    vectors::ask_each(rt.stdin(), |line| ask(out, line));
 }

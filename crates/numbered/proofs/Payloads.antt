@@ -13,8 +13,8 @@ use lib.Ieee.{binary64, nan_bits}
 use mir.Syntax.{w64}
 use mir.Val.{of_z}
 use Rattle.values.specs.declared.model.ConstantValue.{ConstantValue}
-use Rattle.values.specs.declared.model.Name.{Name}
-use Rattle.values.specs.declared.model.Name.TheVariants.{Unnamed, Named}
+use Rattle.std.specs.Prelude.{Option, Some, None}
+use Rattle.values.specs.declared.model.Span.{Span}
 use Rattle.values.specs.declared.ir.TypedOperand.{TypedOperand}
 use Rattle.values.specs.declared.ir.TypedOperand.TheVariants as operand
 use Rattle.values.specs.declared.ir.EffectTarget.{EffectTarget}
@@ -65,7 +65,7 @@ module _ (payload : ℕ) (h : payload < 2 ^ 64) where
       (pick _ _ _ _ _ (ap (pair 2) signed)
       (pick _ _ _ _ _ (float_at (nan_bits binary64 payload) refl) (pick _ _ _ _ _ (ap (pair 4) span) (pick _ _ _ _ _ (ap (pair 5) span) refl)))))
 
-  name_kept : (t : Bool) → flat_name (choose t Unnamed (Named (span_of payload))) ≡ choose t (pair 0 0) (pair 1 payload)
+  name_kept : (t : Bool) → flat_name (choose t None (Some (span_of payload))) ≡ choose t (pair 0 0) (pair 1 payload)
   unfolding choose
   name_kept true = refl
   name_kept false = ap (pair 1) span
@@ -76,7 +76,7 @@ constant_kept : (tags payloads : List ℕ) (index : ℕ) → Slice64 payloads �
 unfolding constant_of lent_constant_at
 constant_kept tags payloads index h = pick _ _ _ _ _ (pick _ _ _ _ _ (value_kept (get_or payloads index 0) (h index) (get_or tags index 0)) refl) refl
 
-pick_name : (t : Bool) (x : Name) (p : FlatPair) → flat_name x ≡ p → flat_name (choose t x Unnamed) ≡ choose t p (pair 0 0)
+pick_name : (t : Bool) (x : Option Span) (p : FlatPair) → flat_name x ≡ p → flat_name (choose t x None) ≡ choose t p (pair 0 0)
 unfolding choose
 pick_name true x p e = e
 pick_name false x p e = refl
@@ -153,7 +153,7 @@ module _ (words tags payloads names : List ℕ) (pc : ℕ) (hp : Slice64 payload
 
 module _ (names : List ℕ) (hn : Slice64 names) where
   -- a target, by where its name comes from
-  target_kept : (o : EffectTarget) → ((index : ℕ) (name : Name) → o ≡ target.Upvalue index name → name ≡ name_of names index)
+  target_kept : (o : EffectTarget) → ((index : ℕ) (name : Option Span) → o ≡ target.Upvalue index name → name ≡ name_of names index)
       → TargetKept names (flat_target o)
   target_kept (target.Register index) f h = absurd (omega arith)
   target_kept (target.RegisterRange start end) f h = absurd (omega arith)

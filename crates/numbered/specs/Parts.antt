@@ -1,15 +1,14 @@
 -- The parts of a record as numbers: include/RECORD.md has the tables. A kind is the place of the case in
 -- ir.rs or model.rs, an absent value is 0, and so is every number that a kind does not use.
 -- Assumes nothing.
-use Rattle.std.specs.Prelude.{ℕ, Bool, true, false, Float}
+use Rattle.std.specs.Prelude.{ℕ, Bool, true, false, Float, Option, Some, None}
 use Rattle.std.specs.Float.{binary64}
 use Rattle.std.specs.Float.Ieee.{eq, to_bits}
 use Rattle.std.specs.Int.{w64}
 use Rattle.std.proofs.Common.{of_z}
 use Rattle.common.specs.Chain.{choose}
 use Rattle.values.specs.Values.{span_number}
-use Rattle.values.specs.declared.model.Name.{Name}
-use Rattle.values.specs.declared.model.Name.TheVariants.{Unnamed, Named}
+use Rattle.values.specs.declared.model.Span.{Span}
 use Rattle.values.specs.declared.model.ConstantValue.{ConstantValue}
 use Rattle.values.specs.declared.model.ConstantValue.TheVariants as value
 use Rattle.values.specs.declared.ir.TypedOperand.{TypedOperand}
@@ -19,16 +18,7 @@ use Rattle.values.specs.declared.ir.EffectTarget.TheVariants as target
 use Rattle.values.specs.declared.ir.CompanionRole.{CompanionRole}
 use Rattle.values.specs.declared.ir.CompanionRole.TheVariants as role
 use Rattle.values.specs.declared.ir.ImplicitEffect.{ImplicitEffect}
-use Rattle.values.specs.declared.ir.ImplicitEffect.TheVariants.{
-  NoEffect,
-  CloseUpvalues,
-  ConditionalSkip,
-  CompanionPair,
-}
-use Rattle.values.specs.declared.ir.Fallback.{Fallback}
-use Rattle.values.specs.declared.ir.Fallback.TheVariants as fallback
-use Rattle.values.specs.declared.ir.OptionalPc.{OptionalPc}
-use Rattle.values.specs.declared.ir.OptionalPc.TheVariants.{NoPc, Pc}
+use Rattle.values.specs.declared.ir.ImplicitEffect.TheVariants.{CloseUpvalues, ConditionalSkip, CompanionPair}
 use Rattle.values.specs.declared.ir.Confidence.{Confidence}
 use Rattle.values.specs.declared.ir.Confidence.TheVariants.{Reviewed, Unverified}
 use Rattle.numbered.specs.declared.parts.FlatSlot.{FlatSlot}
@@ -48,10 +38,15 @@ slot kind a b c = record { kind = kind; first = a; second = b; third = c }
 abbrev pub pair : ℕ → ℕ → FlatPair
 pair kind value = record { kind = kind; value = value }
 
+-- whether there is a number, and it
+abbrev pub flat_option : Option ℕ → FlatPair
+flat_option None = pair 0 0
+flat_option (Some n) = pair 1 n
+
 -- whether there is a name, and its place
-abbrev pub flat_name : Name → FlatPair
-flat_name Unnamed = pair 0 0
-flat_name (Named span) = pair 1 (span_number span.start span.len)
+abbrev pub flat_name : Option Span → FlatPair
+flat_name None = pair 0 0
+flat_name (Some span) = pair 1 (span_number span.start span.len)
 
 -- the kinds of model.rs's constants. A float that is not a number is of the floats' kind, by its own bits.
 abbrev pub flat_value : ConstantValue → FlatPair
@@ -92,19 +87,11 @@ flat_role role.ExtraArg = pair 0 0
 flat_role (role.Event event) = pair 1 event
 
 -- 0, or one more than the place of the case in ir.rs, which has four that lifter.rs does not make
-abbrev pub flat_effect : ImplicitEffect → FlatSlot
-flat_effect NoEffect = slot 0 0 0 0
-flat_effect (CloseUpvalues register) = slot 4 register 0 0
-flat_effect (ConditionalSkip pc) = slot 5 pc 0 0
-flat_effect (CompanionPair pc role) = slot 7 pc (flat_role role).kind (flat_role role).value
-
-abbrev pub flat_fallback : Fallback → FlatPair
-flat_fallback fallback.NoFallback = pair 0 0
-flat_fallback (fallback.Event event) = pair 1 event
-
-abbrev pub flat_pc : OptionalPc → FlatPair
-flat_pc NoPc = pair 0 0
-flat_pc (Pc pc) = pair 1 pc
+abbrev pub flat_effect : Option ImplicitEffect → FlatSlot
+flat_effect None = slot 0 0 0 0
+flat_effect (Some (CloseUpvalues register)) = slot 4 register 0 0
+flat_effect (Some (ConditionalSkip pc)) = slot 5 pc 0 0
+flat_effect (Some (CompanionPair pc role)) = slot 7 pc (flat_role role).kind (flat_role role).value
 
 abbrev pub flat_confidence : Confidence → ℕ
 flat_confidence Unverified = 0

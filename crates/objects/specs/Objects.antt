@@ -3,13 +3,11 @@
 -- A refinement of the original: what stands here is the Rust's behaviour, and not Lua's. `raw` is the decoded
 -- word, as there. Where a loop's jump leads, worked out from pc, comes as an argument.
 -- Assumes nothing.
-use Rattle.std.specs.Prelude.{ℕ, false, List, [], ◌∷◌, eqb, ℤ, pos}
+use Rattle.std.specs.Prelude.{ℕ, false, List, [], ◌∷◌, eqb, ℤ, pos, Some, None}
 use Rattle.fields.specs.declared.lua54.word.RawInstruction54.{RawInstruction54}
 use Rattle.values.specs.declared.ir.TypedOperand.{TypedOperand}
 use Rattle.values.specs.declared.ir.TypedOperand.TheVariants as O
 use Rattle.values.specs.declared.ir.EffectTarget.TheVariants as E
-use Rattle.values.specs.declared.ir.ImplicitEffect.TheVariants.{NoEffect}
-use Rattle.values.specs.declared.ir.OptionalPc.TheVariants.{Pc}
 use Rattle.builders.specs.declared.builders.Body.{Body}
 use Rattle.builders.specs.Shapes.{body, plain}
 use Rattle.builders.specs.Parts.{
@@ -118,7 +116,7 @@ return1 raw = plain (O.Register raw.a ∷ []) (E.Register raw.a ∷ []) []
 
 -- Forprep, Forloop, Tforprep, Tforloop
 abbrev pub loop_jump : RawInstruction54 → ℤ → ℕ → Body
-loop_jump raw offset dest = body (O.Register raw.a ∷ O.Jump offset dest ∷ []) [] [] NoEffect (Pc dest)
+loop_jump raw offset dest = body (O.Register raw.a ∷ O.Jump offset dest ∷ []) [] [] None (Some dest)
 
 -- Tforcall
 abbrev pub tforcall : RawInstruction54 → Body

@@ -4,8 +4,8 @@
 -- one that only stands after one may change too. "Reachable in the first", which is accepted:
 -- the word is dead by the courses of the other list.
 -- Assumes nothing.
-use Rattle.std.specs.Prelude.{◌≡◌, List, [], ◌∷◌, ℕ, ◌+◌, ◌<◌, length}
-use Rattle.common.specs.Numbers.{«ACCEPTED», REACHES_INVALID}
+use Rattle.std.specs.Prelude.{◌≡◌, List, [], ◌∷◌, ℕ, ◌+◌, ◌<◌, length, Err}
+use Rattle.common.specs.Numbers.{«ACCEPTED»}
 use Rattle.fields.specs.declared.version.Version.{Version}
 use Rattle.fields.specs.declared.version.Version.TheVariants.{Lua54, Lua53}
 use Rattle.fields.specs.lua54.Opcodes.{
@@ -21,10 +21,9 @@ use Rattle.fields.specs.lua54.Opcodes.{
 use Rattle.fields.specs.lua53.Opcodes as opcodes53
 use Rattle.graph.specs.Graph.{Reachable}
 use Rattle.graph.specs.Marks.{mark_of}
-use Rattle.runs.specs.declared.longest.Run.{Run}
-use Rattle.runs.specs.declared.longest.Run.TheVariants.{Accepted, Refused}
+use Rattle.common.specs.declared.refusal.Refusal.TheVariants.{ReachesInvalid}
 use Rattle.runs.specs.Script.{script_of, lua54, graph_of}
-use Rattle.runs.specs.Run.{number_of, run_of}
+use Rattle.runs.specs.Run.{Run, accepted_run, number_of, run_of}
 use Rattle.runs.specs.Counted.{ones}
 use Rattle.patches.specs.Alike.{SameAt}
 
@@ -75,12 +74,12 @@ DifferUnreachable version ws vs =
 pub record Needed : Type 0 where
   -- the smallest pair: "LOADKX 4 .. p+2 .. word p+1 is EXTRAARG"
   pub smallest_unreachable : mark_of (graph_of (lua54 (after_load OP_EXTRAARG))) 1 ≡ 0
-  pub smallest_accepted : run_alone Lua54 (after_load OP_EXTRAARG) ≡ Accepted 2 0
-  pub smallest_refused : run_alone Lua54 (after_load OP_MOVE) ≡ Refused REACHES_INVALID 0
+  pub smallest_accepted : run_alone Lua54 (after_load OP_EXTRAARG) ≡ accepted_run 2 0
+  pub smallest_refused : run_alone Lua54 (after_load OP_MOVE) ≡ Err (ReachesInvalid 0)
   -- of 5.3: request C-24, "LOADKX .. without EXTRAARG after it"
   pub smallest53_unreachable : mark_of (graph_of (script_of Lua53 (after_load53 opcodes53.OP_EXTRAARG))) 1 ≡ 0
-  pub smallest53_accepted : run_alone Lua53 (after_load53 opcodes53.OP_EXTRAARG) ≡ Accepted 2 0
-  pub smallest53_refused : run_alone Lua53 (after_load53 opcodes53.OP_MOVE) ≡ Refused REACHES_INVALID 0
+  pub smallest53_accepted : run_alone Lua53 (after_load53 opcodes53.OP_EXTRAARG) ≡ accepted_run 2 0
+  pub smallest53_refused : run_alone Lua53 (after_load53 opcodes53.OP_MOVE) ≡ Err (ReachesInvalid 0)
   -- and none is smaller, in either version
   pub none_smaller :
       (version : Version) (ws vs weights : List ℕ) (marks lengths : ℕ)
@@ -92,8 +91,8 @@ pub record Needed : Type 0 where
   -- a word that stands before a reachable one and after none: "46 to 48 .. p > 0 and word p-1 is 21 to 45"
   pub before_unreachable : (mark_of (graph_of (lua54 (before_metamethod OP_ADD))) 1 ≡ 0)
       × (mark_of (graph_of (lua54 (before_metamethod OP_ADD))) 2 ≡ 0)
-  pub before_accepted : run_alone Lua54 (before_metamethod OP_ADD) ≡ Accepted 3 0
-  pub before_refused : run_alone Lua54 (before_metamethod OP_MOVE) ≡ Refused REACHES_INVALID 3
+  pub before_accepted : run_alone Lua54 (before_metamethod OP_ADD) ≡ accepted_run 3 0
+  pub before_refused : run_alone Lua54 (before_metamethod OP_MOVE) ≡ Err (ReachesInvalid 3)
   -- there is no pair for a word that stands after a reachable one and before none:
   -- this is more than the request asks
   pub after_alone :
@@ -107,5 +106,5 @@ pub record Needed : Type 0 where
       (mark_of (graph_of (lua54 (entered_loop OP_MOVE))) 1 ≡ 0)
       × (mark_of (graph_of (lua54 (entered_loop OP_MOVE))) 2 ≡ 0)
       × (mark_of (graph_of (lua54 (entered_loop OP_MOVE))) 3 ≡ 0)
-  pub second_accepted : run_alone Lua54 (entered_loop OP_TFORCALL) ≡ Accepted 4 0
-  pub second_refused : run_alone Lua54 (entered_loop OP_MOVE) ≡ Refused REACHES_INVALID 0
+  pub second_accepted : run_alone Lua54 (entered_loop OP_TFORCALL) ≡ accepted_run 4 0
+  pub second_refused : run_alone Lua54 (entered_loop OP_MOVE) ≡ Err (ReachesInvalid 0)

@@ -12,8 +12,8 @@ use Rattle.graph.specs.Longest.{within, heaviest, length_of, most, longest, firs
 use Rattle.runs.specs.Weights.{lowest_zero, refuses_weights, weights_place}
 use Rattle.runs.specs.Run.{lowest_invalid, run_of}
 use Rattle.values.specs.Values.{choose, constant_of}
-use Rattle.builders.specs.Shapes.{operands_of, reads_of, writes_of}
-use Rattle.builders.specs.Parts.{plus, event_of, constant, rk, rk_target, arguments, results}
+use Rattle.values.specs.Few.{few}
+use Rattle.builders.specs.Parts.{event_of, constant, rk, rk_target, arguments, results}
 use Rattle.dispatch.specs.Dispatch.{extended_index, wrap, loads, tables, arithmetic, control, calls, record_body}
 use Rattle.records.specs.Lift.{before, companion_pc, confidence_of, lift_of}
 use Rattle.pcases.specs.Cases.{Hold, p_cases, record_places, record_corners, record_disagreements, record_tests, cases53}
@@ -21,7 +21,7 @@ use Rattle.pcases.specs.Cases.{Hold, p_cases, record_places, record_corners, rec
 pub cases_hold : Hold p_cases
 unfolding unless one ordered two opcode_at is_between companion_present successors_of serves_of class_of companion_of
     fallback_of leads mark_of within heaviest length_of most lowest_from longest first lowest_zero
-    refuses_weights lowest_invalid run_of choose constant_of plus event_of constant arguments results
+    refuses_weights lowest_invalid run_of few choose constant_of event_of constant arguments results
     extended_index wrap loads arithmetic control calls record_body before companion_pc confidence_of lift_of
 cases_hold = (
   (refl, refl, refl),
@@ -68,25 +68,25 @@ cases_hold = (
 )
 
 pub record_places_hold : Hold record_places
-unfolding choose constant_of operands_of reads_of writes_of plus event_of constant rk rk_target extended_index wrap loads tables arithmetic control calls
+unfolding few choose constant_of event_of constant rk rk_target extended_index wrap loads tables arithmetic control calls
     record_body before companion_pc confidence_of fallback_of lift_of
 record_places_hold =
     ((refl, refl, refl), ((refl, refl, refl), ((refl, refl), (refl, (refl, tt)))))
 
 pub record_corners_hold : Hold record_corners
-unfolding choose constant_of operands_of reads_of writes_of plus event_of constant rk rk_target extended_index wrap loads tables arithmetic control calls
+unfolding few choose constant_of event_of constant rk rk_target extended_index wrap loads tables arithmetic control calls
     record_body before companion_pc confidence_of fallback_of lift_of
 record_corners_hold =
     ((refl, refl), ((refl, refl), ((refl, refl), ((refl, refl), ((refl, refl), ((refl, refl), ((refl, refl), ((refl, refl), ((refl, refl), ((refl, refl), (refl, tt)))))))))))
 
 pub record_disagreements_hold : Hold record_disagreements
-unfolding choose constant_of operands_of reads_of writes_of plus event_of constant rk rk_target extended_index wrap loads tables arithmetic control calls
+unfolding few choose constant_of event_of constant rk rk_target extended_index wrap loads tables arithmetic control calls
     record_body before companion_pc confidence_of fallback_of lift_of
 record_disagreements_hold =
     (refl, (refl, (refl, (refl, ((refl, refl), ((refl, refl), tt))))))
 
 pub record_tests_hold : Hold record_tests
-unfolding choose constant_of operands_of reads_of writes_of plus event_of constant rk rk_target extended_index wrap loads tables arithmetic control calls
+unfolding few choose constant_of event_of constant rk rk_target extended_index wrap loads tables arithmetic control calls
     record_body before companion_pc confidence_of fallback_of lift_of
 record_tests_hold =
     ((refl, refl), ((refl, refl), ((refl, refl), ((refl, refl), ((refl, refl), ((refl, refl), ((refl, refl), ((refl, refl), ((refl, refl), ((refl, refl), ((refl, refl), ((refl, refl), tt))))))))))))
@@ -96,4 +96,4 @@ unfolding unless one ordered two opcode_at_53 companion_present_53 successors_of
     leads mark_of within heaviest length_of most lowest_from longest first lowest_zero refuses_weights
     weights_place lowest_invalid run_of
 cases53_hold =
-    (refl, (refl, (refl, (refl, (refl, (refl, (refl, (refl, (refl, (refl, (refl, (refl, (refl, (refl, (refl, (refl, (refl, (refl, tt))))))))))))))))))
+    (refl, (refl, (refl, (refl, (refl, (refl, (refl, (refl, (refl, (refl, (refl, (refl, (refl, (refl, (refl, (refl, (refl, ((refl, refl), tt))))))))))))))))))

@@ -1,22 +1,21 @@
 -- What C gets of an answer is each of its numbers.
 -- Assumes nothing.
 use mathlib.Core.Path.{refl}
-use Rattle.runs.specs.declared.longest.Run.{Run}
-use Rattle.runs.specs.declared.longest.Run.TheVariants.{Accepted, Refused}
-use Rattle.runs.specs.Run.{number_of, place_of, longest_of, first_of}
+use Rattle.std.specs.Prelude.{Ok, Err}
+use Rattle.runs.specs.Run.{Run, number_of, place_of, longest_of, first_of}
 use Rattle.runs.specs.Flat.{flat_run}
 use Rattle.pcases.specs.Flattened.{Told, Flattened}
 
 told : (r : Run) → Told (flat_run r) (number_of r) (place_of r) (longest_of r) (first_of r)
-told (Accepted l f) = (refl, (refl, (refl, refl)))
-told (Refused k p) = (refl, (refl, (refl, refl)))
+told (Ok r) = (refl, (refl, (refl, refl)))
+told (Err e) = (refl, (refl, (refl, refl)))
 
 pub flattened : Flattened
 flattened =
     record {
-      answer = λ r. (refl, refl);
+      answer = ((λ t. (refl, refl)), λ e. (refl, refl));
       accepted = λ l f. (refl, (refl, (refl, refl)));
-      refused = λ k p. (refl, (refl, (refl, refl)));
+      refused = λ e. (refl, (refl, (refl, refl)));
       run = told;
       bad = (refl, (refl, refl));
       stop = (refl, (refl, refl));

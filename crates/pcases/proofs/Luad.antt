@@ -12,13 +12,13 @@ use borrow.Author.Tests.{leb-true, lt-leb, le-leb, ne_eqb}
 use Rattle.fields.specs.declared.lua54.word.RawInstruction54.{RawInstruction54}
 use Rattle.fields.specs.lua54.Word.{opcode_of, fields_of}
 use Rattle.fields.specs.lua54.Table.{no_fallback, fallback_of}
-use Rattle.values.specs.declared.ir.ImplicitEffect.TheVariants.{NoEffect}
-use Rattle.values.specs.declared.ir.OptionalPc.TheVariants.{NoPc}
+use Rattle.std.specs.Prelude.{None}
 use Rattle.values.specs.declared.ir.Confidence.TheVariants.{Unverified}
 use Rattle.values.specs.Values.{choose, constant_of, name_of, value_of, signed64, float_of}
+use Rattle.values.specs.Few.{few}
 use Rattle.builders.specs.declared.builders.Body.{Body}
-use Rattle.builders.specs.Shapes.{body, operands_of, reads_of, writes_of}
-use Rattle.builders.specs.Parts.{plus, event_of, constant, upvalue, upvalue_target, rk, rk_target, count_less, arguments, results}
+use Rattle.builders.specs.Shapes.{body}
+use Rattle.builders.specs.Parts.{event_of, constant, upvalue, upvalue_target, rk, rk_target, count_less, arguments, results}
 use Rattle.dispatch.specs.Dispatch.{extended_index, wrap, loads, tables, arithmetic, control, calls, record_body}
 use Rattle.records.specs.Lift.{before, companion_pc, confidence_of, lift_of}
 use Rattle.numbered.specs.Parts.{float_bits}
@@ -27,7 +27,7 @@ use Rattle.pcases.specs.Luad.{LuadsRecords}
 
 -- nothing, as lifter.rs has it of an unknown opcode
 abbrev empty : Body
-empty = body [] [] [] NoEffect NoPc
+empty = body [] [] [] None None
 
 -- ---- an opcode above 82: tests against a known one fail
 
@@ -67,7 +67,7 @@ module _ (o : ℕ) (h : 82 < o) where
         from 68 refl,
       )
 
-  no_companion : (pc : ℕ) → companion_pc o pc ≡ NoPc
+  no_companion : (pc : ℕ) → companion_pc o pc ≡ None
   unfolding companion_pc choose
   no_companion pc = rw (unlike 4 refl, unlike 46 refl, unlike 47 refl, unlike 48 refl, unlike 82 refl)
 
@@ -105,7 +105,7 @@ none :
     (words tags payloads names : List ℕ) (pc : ℕ) → 82 < opcode_of (get_or words pc 0)
     → numbers_of (lift_of words tags payloads names pc)
     ≡ pc ∷ get_or words pc 0 ∷ opcode_of (get_or words pc 0) ∷ replicate 50 0
-unfolding lift_of numbers_of head_numbers operands_numbers reads_numbers writes_numbers operands_of reads_of writes_of
+unfolding few lift_of numbers_of head_numbers operands_numbers reads_numbers writes_numbers
 none words tags payloads names pc h =
     let word = get_or words pc 0 in
     let o = opcode_of word in
@@ -118,7 +118,7 @@ unfolding lift_of numbers_of head_numbers confidence_of choose
 reviewed words tags payloads names pc h = rw (le-leb (opcode_of (get_or words pc 0)) 82 h)
 
 pub luads_records : LuadsRecords
-unfolding fallback_of choose constant_of name_of value_of signed64 float_of operands_of reads_of writes_of plus event_of
+unfolding few fallback_of choose constant_of name_of value_of signed64 float_of event_of
     constant upvalue upvalue_target rk rk_target count_less arguments results extended_index wrap loads tables
     arithmetic control calls record_body before companion_pc confidence_of lift_of float_bits head_numbers
     operands_numbers reads_numbers writes_numbers numbers_of eq to_bits of_bits of_int nan_bits

@@ -2,6 +2,7 @@
 -- their list; what "Records" says of the Rust; and cases of request C-24, of words of Lua 5.3.6 as numbers.
 -- Assumes nothing.
 use Rattle.std.specs.Prelude.{ℕ, ◌≡◌, Bool, true, false, List, [], ◌∷◌, ◌++◌, ℤ, pos, length, replicate}
+use Rattle.std.specs.Prelude.{Option, Some, None}
 use Rattle.common.specs.Limits.{heaviest_weight}
 use Rattle.runs.specs.Weights.{weight_count}
 use Rattle.fields.specs.lua54.Opcodes.{OP_MOVE, OP_LOADI, OP_FORLOOP}
@@ -10,32 +11,26 @@ use Rattle.fields.specs.lua54.Word.{opcode_of, a_of, sbx_of}
 use Rattle.fields.specs.declared.version.Version.TheVariants.{Lua53}
 use Rattle.sweep.specs.declared.edges.Successors.{Successors}
 use Rattle.sweep.specs.declared.edges.Successors.TheVariants.{Invalid, Stop, One, Two}
-use Rattle.runs.specs.declared.longest.Run.TheVariants.{Accepted, Refused}
 use Rattle.runs.specs.Script.{lua54, script_of}
 use Rattle.sweep.specs.Steps.{serves_of}
 use Rattle.steps.specs.lua54.Successors.{successors_of}
 use Rattle.steps.specs.lua53.Successors.{successors_of as successors_of_53}
-use Rattle.runs.specs.Run.{run_of}
+use Rattle.runs.specs.Run.{accepted_run, number_of, place_of, run_of}
 use Rattle.runs.specs.Counted.{ones}
 use Rattle.values.specs.declared.ir.TypedOperand.{TypedOperand}
 use Rattle.values.specs.declared.ir.TypedOperand.TheVariants as O
 use Rattle.values.specs.declared.ir.EffectTarget.{EffectTarget}
 use Rattle.values.specs.declared.ir.EffectTarget.TheVariants as E
 use Rattle.values.specs.declared.ir.ImplicitEffect.{ImplicitEffect}
-use Rattle.values.specs.declared.ir.ImplicitEffect.TheVariants.{NoEffect, ConditionalSkip, CompanionPair}
+use Rattle.values.specs.declared.ir.ImplicitEffect.TheVariants.{ConditionalSkip, CompanionPair}
 use Rattle.values.specs.declared.ir.CompanionRole.TheVariants as role
-use Rattle.values.specs.declared.ir.Fallback.{Fallback}
-use Rattle.values.specs.declared.ir.Fallback.TheVariants as fallback
-use Rattle.values.specs.declared.ir.OperandSlot.{OperandSlot}
-use Rattle.values.specs.declared.ir.TargetSlot.{TargetSlot}
-use Rattle.values.specs.declared.ir.OptionalPc.{OptionalPc}
-use Rattle.values.specs.declared.ir.OptionalPc.TheVariants.{NoPc, Pc}
 use Rattle.values.specs.declared.ir.Confidence.{Confidence}
 use Rattle.values.specs.declared.ir.Confidence.TheVariants.{Reviewed, Unverified}
 use Rattle.values.specs.declared.ir.SemanticInstruction.{SemanticInstruction}
 use Rattle.values.specs.declared.model.ConstantValue.TheVariants.{Nil}
 use Rattle.builders.specs.Shapes.{operands_of, reads_of, writes_of}
 use Rattle.records.specs.Lift.{lift_of}
+use Rattle.records.specs.Sources.{operand_in, target_in}
 
 pub data PCase : Type 0 where
   -- a word is this opcode, with this A and this sBx
@@ -54,17 +49,17 @@ pub data PCase : Type 0 where
   weighed53 : List ℕ → List ℕ → ℕ → ℕ → PCase
   refused53 : List ℕ → List ℕ → ℕ → ℕ → PCase
   -- of these words, the record of this number has this jump target
-  jumps : List ℕ → ℕ → OptionalPc → PCase
+  jumps : List ℕ → ℕ → Option ℕ → PCase
   -- .. these reads and these writes
   touches : List ℕ → ℕ → List EffectTarget → List EffectTarget → PCase
   -- .. in all places, those past the count too, these 4 operands, 3 reads and 2 writes
   fills : List ℕ → ℕ → List TypedOperand → List EffectTarget → List EffectTarget → PCase
   -- .. these operands and this companion
-  shows : List ℕ → ℕ → List TypedOperand → OptionalPc → PCase
+  shows : List ℕ → ℕ → List TypedOperand → Option ℕ → PCase
   -- .. this implicit effect and this companion
-  pairs : List ℕ → ℕ → ImplicitEffect → OptionalPc → PCase
+  pairs : List ℕ → ℕ → Option ImplicitEffect → Option ℕ → PCase
   -- .. this fallback
-  falls : List ℕ → ℕ → Fallback → PCase
+  falls : List ℕ → ℕ → Option ℕ → PCase
   -- .. this confidence
   trusts : List ℕ → ℕ → Confidence → PCase
 
@@ -72,38 +67,32 @@ pub data PCase : Type 0 where
 abbrev record_at : List ℕ → ℕ → SemanticInstruction
 record_at words pc = lift_of words [] [] [] pc
 
--- what stands in its places
-
-abbrev operands_in : List OperandSlot → List TypedOperand
-operands_in [] = []
-operands_in (slot ∷ slots) = slot.operand ∷ operands_in slots
-
-abbrev targets_in : List TargetSlot → List EffectTarget
-targets_in [] = []
-targets_in (slot ∷ slots) = slot.target ∷ targets_in slots
-
 abbrev pub HoldsOf : PCase → Type 0
 HoldsOf (fields word opcode a sbx) = (opcode_of word ≡ opcode) × (a_of word ≡ a) × (sbx_of word ≡ sbx)
 HoldsOf (steps words p s) = successors_of words p ≡ s
 HoldsOf (serving p q t) = serves_of p q ≡ t
 HoldsOf (run words longest first) =
-    run_of (lua54 words) ones (length words) (length words) ≡ Accepted longest first
+    run_of (lua54 words) ones (length words) (length words) ≡ accepted_run longest first
 HoldsOf (weighed words weights longest first) =
-    run_of (lua54 words) weights (length words) (length words) ≡ Accepted longest first
+    run_of (lua54 words) weights (length words) (length words) ≡ accepted_run longest first
 HoldsOf (steps53 words p s) = successors_of_53 words p ≡ s
 HoldsOf (run53 words longest first) =
-    run_of (script_of Lua53 words) ones (length words) (length words) ≡ Accepted longest first
+    run_of (script_of Lua53 words) ones (length words) (length words) ≡ accepted_run longest first
 HoldsOf (weighed53 words weights longest first) =
-    run_of (script_of Lua53 words) weights (length words) (length words) ≡ Accepted longest first
+    run_of (script_of Lua53 words) weights (length words) (length words) ≡ accepted_run longest first
 HoldsOf (refused53 words weights number place) =
-    run_of (script_of Lua53 words) weights (length words) (length words) ≡ Refused number place
+    (number_of (run_of (script_of Lua53 words) weights (length words) (length words)) ≡ number)
+    × (place_of (run_of (script_of Lua53 words) weights (length words) (length words)) ≡ place)
 HoldsOf (jumps words pc target) = (record_at words pc).jump_target ≡ target
 HoldsOf (touches words pc reads writes) =
     ((record_at words pc).reads ≡ reads_of reads) × ((record_at words pc).writes ≡ writes_of writes)
 HoldsOf (fills words pc operands reads writes) =
-    (operands_in (record_at words pc).operands.slots ≡ operands)
-    × (targets_in (record_at words pc).reads.slots ≡ reads)
-    × (targets_in (record_at words pc).writes.slots ≡ writes)
+    let r = record_at words pc in
+    (operand_in r.operands.slots 0 ∷ operand_in r.operands.slots 1
+    ∷ operand_in r.operands.slots 2 ∷ operand_in r.operands.slots 3 ∷ []
+    ≡ operands)
+    × (target_in r.reads.slots 0 ∷ target_in r.reads.slots 1 ∷ target_in r.reads.slots 2 ∷ [] ≡ reads)
+    × (target_in r.writes.slots 0 ∷ target_in r.writes.slots 1 ∷ [] ≡ writes)
 HoldsOf (shows words pc operands companion) =
     ((record_at words pc).operands ≡ operands_of operands) × ((record_at words pc).companion_pc ≡ companion)
 HoldsOf (pairs words pc effect companion) =
@@ -125,25 +114,25 @@ p_cases =
     fields 2147483649 OP_LOADI 0 (pos 1)
     -- "word 2147483192 at 3 jumps to 1; at 0 the Rust target is 18446744073709551614 and the word is bad"
     ∷ steps sheet 3 (One 1)
-    ∷ jumps sheet 3 (Pc 1)
-    ∷ jumps (2147483192 ∷ []) 0 (Pc 18446744073709551614)
+    ∷ jumps sheet 3 (Some 1)
+    ∷ jumps (2147483192 ∷ []) 0 (Some 18446744073709551614)
     ∷ steps (2147483192 ∷ []) 0 Invalid
     -- "word 16940996 (CALL A 255, B 2, C 1) reads register 255 and range 255 to 254, writes none"
     ∷ touches (16940996 ∷ []) 0 (E.Register 255 ∷ E.RegisterRange 255 254 ∷ []) []
     -- "word 4 alone: constant 0, companion 1": LOADKX, whose operands show the constant, and which reads it
-    ∷ shows (4 ∷ []) 0 (O.Register 0 ∷ O.Constant 0 Nil ∷ []) (Pc 1)
+    ∷ shows (4 ∷ []) 0 (O.Register 0 ∷ O.Constant 0 Nil ∷ []) (Some 1)
     ∷ touches (4 ∷ []) 0 (E.Constant 0 ∷ []) (E.Register 0 ∷ [])
     -- "word 46 at 0: pair effect 0, event 6": the pair names the event, and it is the fallback
-    ∷ pairs (46 ∷ []) 0 (CompanionPair 0 (role.Event TM_ADD)) NoPc
-    ∷ falls (46 ∷ []) 0 (fallback.Event TM_ADD)
+    ∷ pairs (46 ∷ []) 0 (Some (CompanionPair 0 (role.Event TM_ADD))) None
+    ∷ falls (46 ∷ []) 0 (Some TM_ADD)
     -- "word 82 Reviewed, 83 Unverified"
     ∷ trusts (82 ∷ []) 0 Reviewed
     ∷ trusts (83 ∷ []) 0 Unverified
     -- "word 163913 (FORLOOP, Bx 5) at 1: Rust target 0, step bad"
-    ∷ jumps (OP_MOVE ∷ 163913 ∷ OP_MOVE ∷ []) 1 (Pc 0)
+    ∷ jumps (OP_MOVE ∷ 163913 ∷ OP_MOVE ∷ []) 1 (Some 0)
     ∷ steps (OP_MOVE ∷ 163913 ∷ OP_MOVE ∷ []) 1 Invalid
     -- "word 74 at 0 of 3: Rust target 1, steps 1 and 2"
-    ∷ jumps (74 ∷ OP_MOVE ∷ OP_MOVE ∷ []) 0 (Pc 1)
+    ∷ jumps (74 ∷ OP_MOVE ∷ OP_MOVE ∷ []) 0 (Some 1)
     ∷ steps (74 ∷ OP_MOVE ∷ OP_MOVE ∷ []) 0 (Two 1 2)
     -- "FORLOOP with Bx 0 has one step; with Bx 1 it steps to itself, serving"
     ∷ steps (OP_FORLOOP ∷ OP_MOVE ∷ []) 0 (One 1)
@@ -169,9 +158,9 @@ record_places =
     ∷ fills (71 ∷ []) 0 (O.Register 0 ∷ O.Register 0 ∷ O.Register 0 ∷ O.Register 0 ∷ [])
     (E.Register 0 ∷ E.Register 0 ∷ E.Register 0 ∷ []) (E.Register 0 ∷ E.Register 0 ∷ [])
     -- "an absent effect, fallback, target or companion is an empty case": MOVE
-    ∷ pairs (0 ∷ []) 0 NoEffect NoPc
-    ∷ falls (0 ∷ []) 0 fallback.NoFallback
-    ∷ jumps (0 ∷ []) 0 NoPc
+    ∷ pairs (0 ∷ []) 0 None None
+    ∷ falls (0 ∷ []) 0 None
+    ∷ jumps (0 ∷ []) 0 None
     ∷ []
 
 -- "Corners where the Rust stands"
@@ -179,13 +168,13 @@ abbrev pub record_corners : List PCase
 record_corners =
     -- "A constant index past the table reads nil": here that of the EXTRAARG after LOADKX, which has the word
     -- before it as companion
-    shows (4 ∷ 210 ∷ []) 0 (O.Register 0 ∷ O.Constant 1 Nil ∷ []) (Pc 1)
-    ∷ shows (4 ∷ 210 ∷ []) 1 (O.ExtraArg 1 ∷ []) (Pc 0)
+    shows (4 ∷ 210 ∷ []) 0 (O.Register 0 ∷ O.Constant 1 Nil ∷ []) (Some 1)
+    ∷ shows (4 ∷ 210 ∷ []) 1 (O.ExtraArg 1 ∷ []) (Some 0)
     -- "EXTRAARG and 46 to 48 have no companion at word 0, yet the pair effect of 46 to 48 names 0"
-    ∷ shows (82 ∷ []) 0 (O.ExtraArg 0 ∷ []) NoPc
-    ∷ pairs (47 ∷ []) 0 (CompanionPair 0 (role.Event 6)) NoPc
-    ∷ pairs (48 ∷ []) 0 (CompanionPair 0 (role.Event 6)) NoPc
-    ∷ pairs (0 ∷ 0 ∷ 46 ∷ []) 2 (CompanionPair 1 (role.Event 6)) (Pc 1)
+    ∷ shows (82 ∷ []) 0 (O.ExtraArg 0 ∷ []) None
+    ∷ pairs (47 ∷ []) 0 (Some (CompanionPair 0 (role.Event 6))) None
+    ∷ pairs (48 ∷ []) 0 (Some (CompanionPair 0 (role.Event 6))) None
+    ∷ pairs (0 ∷ 0 ∷ 46 ∷ []) 2 (Some (CompanionPair 1 (role.Event 6))) (Some 1)
     -- "Register sums saturate at 255": of LOADNIL, SELF and TFORCALL
     ∷ touches (98184 ∷ []) 0 [] (E.RegisterRange 255 255 ∷ [])
     ∷ touches (32660 ∷ []) 0 (E.Register 0 ∷ E.Register 0 ∷ []) (E.Register 255 ∷ E.Register 255 ∷ [])
@@ -193,19 +182,19 @@ record_corners =
     -- "CONCAT with A 0, B 0 ends at 0"
     ∷ touches (53 ∷ []) 0 (E.RegisterRange 0 0 ∷ []) (E.Register 0 ∷ [])
     -- "FORLOOP and TFORLOOP targets stop at 0": TFORLOOP with Bx 2 at 0
-    ∷ jumps (65613 ∷ []) 0 (Pc 0)
+    ∷ jumps (65613 ∷ []) 0 (Some 0)
     ∷ []
 
 -- "Disagreements known so far"
 abbrev pub record_disagreements : List PCase
 record_disagreements =
     -- "C 0 to 16 to events C + 6, 17 to 4, 18 to 5, others to 25": with C 16 to 19
-    falls (268435502 ∷ []) 0 (fallback.Event 22)
-    ∷ falls (285212718 ∷ []) 0 (fallback.Event 4)
-    ∷ falls (301989934 ∷ []) 0 (fallback.Event 5)
-    ∷ falls (318767150 ∷ []) 0 (fallback.Event 25)
+    falls (268435502 ∷ []) 0 (Some 22)
+    ∷ falls (285212718 ∷ []) 0 (Some 4)
+    ∷ falls (301989934 ∷ []) 0 (Some 5)
+    ∷ falls (318767150 ∷ []) 0 (Some 25)
     -- "NEWTABLE's hints are exchanged and its EXTRAARG unmentioned": B 1, C 2
-    ∷ shows (33619987 ∷ []) 0 (O.Register 0 ∷ O.Count 1 false ∷ O.Count 2 false ∷ []) NoPc
+    ∷ shows (33619987 ∷ []) 0 (O.Register 0 ∷ O.Count 1 false ∷ O.Count 2 false ∷ []) None
     -- "TFORCALL's writes start one register low": A 0, C 1
     ∷ touches (16777292 ∷ []) 0 (E.RegisterRange 0 2 ∷ []) (E.RegisterRange 3 3 ∷ [])
     ∷ []
@@ -214,17 +203,17 @@ abbrev pub record_tests : List PCase
 record_tests =
     -- "opcodes 57 to 60, 66 and 67 list no reads"; where they skip to is pc + 2
     touches (57 ∷ []) 0 [] []
-    ∷ pairs (57 ∷ []) 0 (ConditionalSkip 2) NoPc
+    ∷ pairs (57 ∷ []) 0 (Some (ConditionalSkip 2)) None
     ∷ touches (58 ∷ []) 0 [] []
-    ∷ pairs (58 ∷ []) 0 (ConditionalSkip 2) NoPc
+    ∷ pairs (58 ∷ []) 0 (Some (ConditionalSkip 2)) None
     ∷ touches (59 ∷ []) 0 [] []
-    ∷ pairs (59 ∷ []) 0 (ConditionalSkip 2) NoPc
+    ∷ pairs (59 ∷ []) 0 (Some (ConditionalSkip 2)) None
     ∷ touches (60 ∷ []) 0 [] []
-    ∷ pairs (60 ∷ []) 0 (ConditionalSkip 2) NoPc
+    ∷ pairs (60 ∷ []) 0 (Some (ConditionalSkip 2)) None
     ∷ touches (66 ∷ []) 0 [] []
-    ∷ pairs (66 ∷ []) 0 (ConditionalSkip 2) NoPc
+    ∷ pairs (66 ∷ []) 0 (Some (ConditionalSkip 2)) None
     ∷ touches (67 ∷ []) 0 [] []
-    ∷ pairs (67 ∷ []) 0 (ConditionalSkip 2) NoPc
+    ∷ pairs (67 ∷ []) 0 (Some (ConditionalSkip 2)) None
     ∷ []
 
 -- request C-24: lopcodes.h of Lua 5.3.6 numbers LOADBOOL 3, JMP 30, EQ 31, TAILCALL 37, RETURN 38, FORLOOP

@@ -2,18 +2,22 @@
 -- a word's steps and a word's fields. One that is changed in its definition and in the code alike is refused
 -- here; those of service, witness and lua53 stand in these crates.
 -- Assumes nothing.
-use Rattle.std.specs.Prelude.{ℕ, ◌≡◌}
-use Rattle.common.specs.declared.answer.Answer.{Answer}
-use Rattle.common.specs.Flat.{flat_answer}
+use Rattle.std.specs.Prelude.{ℕ, ◌≡◌, Ok, Err, ⊤}
+use Rattle.common.specs.declared.c.FlatAnswer.{FlatAnswer}
+use Rattle.common.specs.Flat.{flat_result}
 use Rattle.fields.specs.lua54.Word as word
 use Rattle.sweep.specs.declared.edges.Successors.TheVariants.{Invalid, Stop, One, Two}
-use Rattle.runs.specs.declared.longest.Run.{Run}
-use Rattle.runs.specs.declared.longest.Run.TheVariants.{Accepted, Refused}
+use Rattle.common.specs.declared.refusal.Refusal.{Refusal}
+use Rattle.common.specs.Refusals.{refusal_number, refusal_place}
 use Rattle.runs.specs.declared.c.FlatSuccessors.{FlatSuccessors}
 use Rattle.runs.specs.declared.c.FlatRun.{FlatRun}
-use Rattle.runs.specs.Run.{number_of, place_of, longest_of, first_of}
+use Rattle.runs.specs.Run.{Run, accepted_run, number_of, place_of, longest_of, first_of}
 use Rattle.runs.specs.Flat.{flat_successors, flat_run}
 use Rattle.exports.specs.Flat.{flat_fields}
+
+-- an answer's two numbers
+abbrev pub ToldAnswer : FlatAnswer → ℕ → ℕ → Type 0
+ToldAnswer r number place = (r.number ≡ number) × (r.place ≡ place)
 
 -- a run's four numbers
 abbrev pub Told : FlatRun → ℕ → ℕ → ℕ → ℕ → Type 0
@@ -26,11 +30,13 @@ Steps s kind first second = (s.kind ≡ kind) × ((s.first ≡ first) × (s.seco
 
 pub record Flattened : Type 0 where
   -- "Each answer carries its number, 0 when accepted, and a place, 0 unless named"
-  pub answer : (r : Answer) → ((flat_answer r).number ≡ r.number) × ((flat_answer r).place ≡ r.place)
+  pub answer :
+      ((t : ⊤) → ToldAnswer (flat_result (Ok t)) 0 0)
+      × ((e : Refusal) → ToldAnswer (flat_result {X = ⊤} (Err e)) (refusal_number e) (refusal_place e))
   -- "The answer is L and the lowest word at which an L-word stretch begins"
-  pub accepted : (l f : ℕ) → Told (flat_run (Accepted l f)) 0 0 l f
+  pub accepted : (l f : ℕ) → Told (flat_run (accepted_run l f)) 0 0 l f
   -- "On refusal L and its first word are 0"
-  pub refused : (k p : ℕ) → Told (flat_run (Refused k p)) k p 0 0
+  pub refused : (e : Refusal) → Told (flat_run (Err e)) (refusal_number e) (refusal_place e) 0 0
   -- what contracts elsewhere say of an answer is what C gets
   pub run : (r : Run) → Told (flat_run r) (number_of r) (place_of r) (longest_of r) (first_of r)
   -- the header's kinds: 0 bad, 1 no next word, 2 one, 3 two, "given lower first"

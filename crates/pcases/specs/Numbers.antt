@@ -4,6 +4,9 @@
 -- Assumes nothing.
 use Rattle.std.specs.Prelude.{ℕ, ◌≡◌, List, [], ◌∷◌}
 use Rattle.common.specs.Numbers as number
+use Rattle.common.specs.declared.refusal.Refusal.{Refusal}
+use Rattle.common.specs.declared.refusal.Refusal.TheVariants as refusal
+use Rattle.common.specs.Refusals.{refusal_number, refusal_place}
 use Rattle.graph.specs.Graph.{In}
 
 -- all of them, by name
@@ -33,6 +36,10 @@ refusals =
     ∷ number.OVER_BUDGET
     ∷ number.OUT_OF_RANGE
     ∷ []
+
+-- what a refusal is told by
+abbrev pub Told : Refusal → ℕ → ℕ → Type 0
+Told e number place = (refusal_number e ≡ number) × (refusal_place e ≡ place)
 
 pub record Numbers : Type 0 where
   -- "Each answer carries its number, 0 when accepted"
@@ -83,3 +90,28 @@ pub record Numbers : Type 0 where
   pub twenty_two : number.OVER_BUDGET ≡ 22
   -- C-21: "23 a script count, q or choice out of range"
   pub twenty_three : number.OUT_OF_RANGE ≡ 23
+  -- "Each answer carries its number, .. and a place, 0 unless named": each refusal of the code by its number,
+  -- and by the place p where one is named
+  pub each : (p : ℕ)
+      → Told refusal.TooManyWords 1 0
+      × Told refusal.ConstantCount 2 0
+      × Told (refusal.UnknownTag p) 3 p
+      × Told (refusal.StringPastBytes p) 4 p
+      × Told (refusal.Names p) 5 p
+      × Told refusal.ShortSlice 6 0
+      × Told refusal.NoWords 7 0
+      × Told (refusal.ReachesInvalid p) 8 p
+      × Told refusal.NoStep 10 0
+      × Told refusal.ForeignMeter 11 0
+      × Told (refusal.MalformedLine p) 12 p
+      × Told refusal.TooManyLines 13 0
+      × Told refusal.HeaderDiffers 14 0
+      × Told refusal.MalformedChunk 15 0
+      × Told refusal.TooDeep 16 0
+      × Told (refusal.UnsetRegister p) 17 p
+      × Told (refusal.WeightsRefused p) 18 p
+      × Told (refusal.LowAboveHigh p) 19 p
+      × Told refusal.NoScript 20 0
+      × Told refusal.BudgetRange 21 0
+      × Told refusal.OverBudget 22 0
+      × Told refusal.OutOfRange 23 0

@@ -10,17 +10,16 @@ use lib.Dec.{ltb, eqb}
 use lib.ListN.{length, get_or}
 use Rattle.common.specs.Limits.{most_words}
 use Rattle.runs.specs.Weights.{weight_count, is_zero_at, lowest_zero, refuses_weights, weights_place}
-use Rattle.common.specs.Numbers.{TOO_MANY_WORDS, SHORT_SLICE, WEIGHTS_REFUSED}
 use Rattle.common.specs.Chain.{refuse_if}
 use Rattle.common.specs.Lowest.{lowest_from}
 use Rattle.common.proofs.Lowest.{lowest_laws}
 use Rattle.graph.specs.Longest.{longest, first}
 use Rattle.graph.proofs.Monotone.{monotone}
-use Rattle.runs.specs.declared.longest.Run.TheVariants as One
-use Rattle.ranges.specs.declared.range.RunRange.TheVariants.{Accepted, Refused}
+use Rattle.std.specs.Prelude.{Err}
+use Rattle.common.specs.declared.refusal.Refusal.TheVariants.{TooManyWords, ShortSlice, WeightsRefused}
 use Rattle.runs.specs.Script.{Script, Sound, graph_of, weight_of}
-use Rattle.runs.specs.Run.{number_of, place_of, longest_of, lowest_invalid, run_of}
-use Rattle.ranges.specs.Range.{low_run, high_run, is_above, lowest_above, runs_of, refuses_range}
+use Rattle.runs.specs.Run.{accepted_run, number_of, place_of, longest_of, lowest_invalid, run_of}
+use Rattle.ranges.specs.Range.{accepted_range, low_run, high_run, is_above, lowest_above, runs_of, refuses_range}
 use Rattle.ranges.specs.Between.{Between, RunBetween, RangeEnds, TableRefused}
 use Rattle.runs.proofs.Weights.{weight_laws}
 use Rattle.ranges.proofs.BothTables.{Ranges, ranges-of, checks, run_checked, runs_checked}
@@ -35,8 +34,8 @@ passes table e some =
 
 -- an answer's L lies between those of two others that are given or refused alike
 agree : (x : ℕ) (p q s t : Bool) (l f l' f' v a : ℕ) → l ≤ v → v ≤ l'
-    → let r = checks Refused x p q s t (Accepted l f l' f') in
-    let u = checks One.Refused x p q s t (One.Accepted v a) in
+    → let r = checks x p q s t (accepted_range l f l' f') in
+    let u = checks x p q s t (accepted_run v a) in
     ((number_of u ≡ number_of (low_run r)) × (place_of u ≡ place_of (low_run r))) × ((longest_of (low_run r) ≤ longest_of u) × (longest_of u ≤ longest_of (high_run r)))
 agree x true q s t l f l' f' v a h k = ((refl, refl), (zero-le, zero-le))
 agree x false true s t l f l' f' v a h k = ((refl, refl), (zero-le, zero-le))
@@ -45,8 +44,8 @@ agree x false false false true l f l' f' v a h k = ((refl, refl), (zero-le, zero
 agree x false false false false l f l' f' v a h k = ((refl, refl), (h, k))
 
 ends_of : (x : ℕ) (p q s t : Bool) (l f l' f' : ℕ)
-    → let r = checks Refused x p q s t (Accepted l f l' f') in
-    (checks One.Refused x p q s t (One.Accepted l f) ≡ low_run r) × (checks One.Refused x p q s t (One.Accepted l' f') ≡ high_run r)
+    → let r = checks x p q s t (accepted_range l f l' f') in
+    (checks x p q s t (accepted_run l f) ≡ low_run r) × (checks x p q s t (accepted_run l' f') ≡ high_run r)
 ends_of x true q s t l f l' f' = (refl, refl)
 ends_of x false true s t l f l' f' = (refl, refl)
 ends_of x false false true t l f l' f' = (refl, refl)
@@ -117,8 +116,8 @@ ends ws sound low high a b e =
 
 -- a table that is refused by itself
 refused_early : (p q : Bool) (x : ℕ)
-    → refuse_if p (One.Refused TOO_MANY_WORDS 0) (refuse_if q (One.Refused SHORT_SLICE 0) (One.Refused WEIGHTS_REFUSED x))
-    ≡ low_run (refuse_if p (Refused TOO_MANY_WORDS 0) (refuse_if q (Refused SHORT_SLICE 0) (Refused WEIGHTS_REFUSED x)))
+    → refuse_if p (Err TooManyWords) (refuse_if q (Err ShortSlice) (Err (WeightsRefused x)))
+    ≡ low_run (refuse_if p (Err TooManyWords) (refuse_if q (Err ShortSlice) (Err (WeightsRefused x))))
 refused_early true q x = refl
 refused_early false true x = refl
 refused_early false false x = refl

@@ -13,13 +13,12 @@ use Rattle.common.specs.Lowest.{First}
 use Rattle.common.proofs.Lowest.{lowest_laws}
 use Rattle.common.proofs.Order.{split, yes, no}
 use Rattle.graph.specs.Longest.{longest, first}
-use Rattle.runs.specs.declared.longest.Run.{Run}
-use Rattle.ranges.specs.declared.range.RunRange.{RunRange}
-use Rattle.ranges.specs.declared.range.RunRange.TheVariants.{Accepted, Refused}
+use Rattle.std.specs.Prelude.{Ok, Err}
+use Rattle.common.specs.declared.refusal.Refusal.TheVariants.{TooManyWords, ShortSlice, NoWords, ReachesInvalid, WeightsRefused, LowAboveHigh}
 use Rattle.runs.specs.Script.{Script, Sound, graph_of, weight_of}
 use Rattle.runs.specs.Weights.{refuses_weights, weights_place}
-use Rattle.runs.specs.Run.{number_of, place_of, lowest_invalid, run_of, untouched, marks_after, lengths_after}
-use Rattle.ranges.specs.Range.{low_run, high_run, is_above, lowest_above, runs_of, refuses_range, marks_after_both, lengths_after_both}
+use Rattle.runs.specs.Run.{Run, number_of, place_of, lowest_invalid, run_of, untouched, marks_after, lengths_after}
+use Rattle.ranges.specs.Range.{RunRange, accepted_range, low_run, high_run, is_above, lowest_above, runs_of, refuses_range, marks_after_both, lengths_after_both}
 use Rattle.ranges.specs.RangeOrder.{AboveAt, report, Sized, RangeOrder, RangeKept, RangeLeft}
 use Rattle.runs.proofs.Order.{few, short, shorter, long, longer, order}
 use Rattle.ranges.proofs.Between.{ends}
@@ -60,8 +59,8 @@ module _ (low high : List ℕ) where
 module _ (x y z w : ℕ) (r : RunRange) (accepted : number_of (low_run r) ≡ 0) (placed : place_of (low_run r) ≡ 0) where
   abbrev run : Bool → Bool → Bool → Bool → Bool → Bool → Bool → Run
   run a b c d e f g =
-      low_run (cond a (Refused 1 0) (cond b (Refused 6 0) (cond c (Refused 18 x) (cond d (Refused 18 y)
-      (cond e (Refused 19 z) (cond f (Refused 7 0) (cond g (Refused 8 w) r)))))))
+      low_run (cond a (Err TooManyWords) (cond b (Err ShortSlice) (cond c (Err (WeightsRefused x)) (cond d (Err (WeightsRefused y))
+      (cond e (Err (LowAboveHigh z)) (cond f (Err NoWords) (cond g (Err (ReachesInvalid w)) r)))))))
 
   record By (a b c d e f g : Bool) : Type 0 where
     one : (number_of (run a b c d e f g) ≡ 1) ↔ (a ≡ true)
@@ -182,7 +181,7 @@ module _ (ws : Script) (low high : List ℕ) (marks lengths : ℕ) where
   unfolding runs_of
   range_order =
       let b = by (weights_place low) (weights_place high) (lowest_above low high) (lowest_invalid ws)
-      (Accepted (longest (graph_of ws) (weight_of ws low)) (first (graph_of ws) (weight_of ws low))
+      (accepted_range (longest (graph_of ws) (weight_of ws low)) (first (graph_of ws) (weight_of ws low))
       (longest (graph_of ws) (weight_of ws high)) (first (graph_of ws) (weight_of ws high)))
       refl refl
       (ltb most_words n) (ltb marks n || ltb lengths n) (refuses_weights low) (refuses_weights high)
@@ -234,8 +233,8 @@ module _ (ws : Script) (low high : List ℕ) (marks lengths : ℕ) where
 -- The slices.
 
 same_number : (r : RunRange) → number_of (high_run r) ≡ number_of (low_run r)
-same_number (Accepted l f l' f') = refl
-same_number (Refused k p) = refl
+same_number (Ok r) = refl
+same_number (Err e) = refl
 
 untouched_by : (k : ℕ) → (k ≡ 0 → ⊥) → (k ≡ 8 → ⊥) → untouched k ≡ true
 untouched_by k a b = rw (ne_eqb k 0 a, ne_eqb k 8 b)

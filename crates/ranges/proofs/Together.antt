@@ -1,16 +1,16 @@
 -- A script that is searched, and its runs by two tables of weights. Assumes nothing.
-use mathlib.Core.Path.{◌≡◌, refl, ap, subst, ◌∙◌}
+use mathlib.Core.Path.{sym, ◌≡◌, refl, ap, subst, ◌∙◌}
 use mathlib.Core.List.{List, ◌++◌}
-use Prim.Native.Nat.{ℕ, ◌≤◌, ◌<◌}
+use Prim.Native.Nat.{ℕ}
 use lib.Dec.{eqb}
 use lib.ListN.{length, drop, replicate}
-use Rattle.common.specs.Numbers.{REACHES_INVALID}
-use Rattle.common.specs.Lowest.{lowest_from}
+use Rattle.common.specs.Lowest.{lowest_from, found}
+use Rattle.common.proofs.Lowest.{is_found, not_found}
 use Rattle.graph.specs.Graph.{Graph}
 use Rattle.graph.specs.Longest.{longest, first, most}
 use Rattle.fields.specs.declared.version.Version.{Version}
-use Rattle.runs.specs.declared.longest.Run.TheVariants as One
-use Rattle.ranges.specs.declared.range.RunRange.TheVariants.{Accepted, Refused}
+use Rattle.std.specs.Prelude.{Option, Some, None, Err}
+use Rattle.common.specs.declared.refusal.Refusal.TheVariants.{ReachesInvalid}
 use Rattle.runs.specs.Script.{Script, script_of, graph_of, weight_of, slot_mask}
 use Rattle.runs.specs.Run.{lowest_invalid}
 use Rattle.sweep.specs.Entries.{entries, graph_in}
@@ -19,6 +19,7 @@ use Rattle.sweep.specs.PassInvariants.{weight_by, Fills, at}
 use Rattle.twice.specs.TwiceInvariants.{Twice}
 use Rattle.runs.specs.Outcome.{Searched, Decided}
 use Rattle.ranges.specs.Outcome.{DecidedBoth}
+use Rattle.ranges.specs.Range.{accepted_range}
 use Rattle.sweep.proofs.Laws as sweep
 use Rattle.runs.proofs.Masks.{masked, filled-by}
 use Rattle.runs.proofs.Outcome.{decided_invalid, decided_accepted}
@@ -37,7 +38,7 @@ module _ (version : Version) (words : List ℕ) {m l : List ℕ} (s : Searched (
   low_is = ap (λ (x : ℕ). weight_by x words low) mask_is ∙ masked version words low
 
   -- both passes
-  module _ {i v a : ℕ} (m' l' : List ℕ)
+  module _ {i : Option ℕ} {v a : ℕ} (m' l' : List ℕ)
       (t : Twice (weight_by mask words low) (weight_by mask words high) l i v a m' l')
       (m-kept : length m' ≡ length m) (l-kept : length l' ≡ length l) where
     fills : Fills (weight_of ws high) l l' i
@@ -52,18 +53,22 @@ module _ (version : Version) (words : List ℕ) {m l : List ℕ} (s : Searched (
           marked = subst (λ (g : Graph). Marked g m') graph_is t.marked;
         }
 
-    lowest : i ≡ lowest_invalid ws
+    lowest : i ≡ found ws.size (lowest_invalid ws)
     unfolding lowest_invalid
-    lowest = t.lowest-invalid ∙ (sweep.laws).carries.lowest-invalid ws.size ws.steps (entries l) s.settled
+    lowest =
+        t.lowest-invalid
+        ∙ ap (found (length (entries l))) ((sweep.laws).carries.lowest-invalid ws.size ws.steps (entries l) s.settled)
+        ∙ ap (λ (n : ℕ). found n (lowest_invalid ws)) s.settled.same
 
     pub twice_length : length l' ≡ ws.size
     twice_length = l-kept ∙ s.lent.l_same
 
-    pub twice_invalid : {c : List ℕ} → i < ws.size → c ≡ replicate ws.size 0 ++ drop ws.size l'
-        → DecidedBoth ws low high (Refused REACHES_INVALID i) m' c
-    twice_invalid {c} h e =
-        let d : Decided ws high (One.Refused REACHES_INVALID i) m' c = measured_invalid version words again high fills l-kept h e in
-        let b : Decided ws low (One.Refused REACHES_INVALID i) m' c = decided_invalid ws low d.marks lowest h d.lengths in
+    pub twice_invalid : {p : ℕ} {c : List ℕ} → i ≡ Some p → c ≡ replicate ws.size 0 ++ drop ws.size l'
+        → DecidedBoth ws low high (Err (ReachesInvalid p)) m' c
+    twice_invalid {p} {c} h e =
+        let q = is_found (sym h ∙ lowest) in
+        let d : Decided ws high (Err (ReachesInvalid p)) m' c = measured_invalid version words again high fills l-kept h e in
+        let b : Decided ws low (Err (ReachesInvalid p)) m' c = decided_invalid ws low d.marks q.0 q.1 d.lengths in
         decided_both b d refl
 
     low-longest : v ≡ longest (graph_of ws) (weight_of ws low)
@@ -72,8 +77,8 @@ module _ (version : Version) (words : List ℕ) {m l : List ℕ} (s : Searched (
     low_first : a ≡ first (graph_of ws) (weight_of ws low)
     low_first = t.first_is ∙ ap (λ (g : Graph). first g (weight_by mask words low)) graph_is ∙ ap (first (graph_of ws)) low_is
 
-    pub twice_accepted : {x y : ℕ} → ws.size ≤ i → x ≡ most (at l') ws.size → y ≡ lowest_from (λ p. eqb (at l' p) x) 0 ws.size
-        → DecidedBoth ws low high (Accepted v a x y) m' l'
+    pub twice_accepted : {x y : ℕ} → i ≡ None → x ≡ most (at l') ws.size → y ≡ lowest_from (λ p. eqb (at l' p) x) 0 ws.size
+        → DecidedBoth ws low high (accepted_range v a x y) m' l'
     twice_accepted {x} {y} h e d =
         let b = measured_accepted version words again high fills l-kept h e d in
-        decided_both (decided_accepted ws low b.marks (subst (λ (z : ℕ). ws.size ≤ z) lowest h) low-longest low_first refl) b refl
+        decided_both (decided_accepted ws low b.marks (not_found (sym h ∙ lowest)) low-longest low_first refl) b refl

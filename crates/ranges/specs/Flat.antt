@@ -1,27 +1,33 @@
 -- The answer of the exported function: the enum as a struct of numbers. The proof of `FlatReports`
 -- is `proofs/Flat.antt`.
 -- Assumes nothing.
-use Rattle.std.specs.Prelude.{◌≡◌}
+use Rattle.std.specs.Prelude.{◌≡◌, Ok, Err}
+use Rattle.common.specs.Refusals.{refusal_number, refusal_place}
 use Rattle.runs.specs.Run.{number_of, place_of, longest_of, first_of}
-use Rattle.ranges.specs.Range.{low_run, high_run}
-use Rattle.ranges.specs.declared.range.RunRange.{RunRange}
-use Rattle.ranges.specs.declared.range.RunRange.TheVariants.{Accepted, Refused}
+use Rattle.ranges.specs.Range.{RunRange, low_run, high_run}
 use Rattle.ranges.specs.declared.c.FlatRange.{FlatRange}
 
 -- number and place, L and its first word by the low table and by the high one. "On refusal L
 -- and its first word are 0"
 abbrev pub flat_range : RunRange → FlatRange
-flat_range (Accepted l f l' f') =
+flat_range (Ok r) =
     record {
       number = 0;
       place = 0;
-      low_longest = l;
-      low_first = f;
-      high_longest = l';
-      high_first = f';
+      low_longest = r.low.longest;
+      low_first = r.low.first;
+      high_longest = r.high.longest;
+      high_first = r.high.first;
     }
-flat_range (Refused k p) =
-    record { number = k; place = p; low_longest = 0; low_first = 0; high_longest = 0; high_first = 0 }
+flat_range (Err e) =
+    record {
+      number = refusal_number e;
+      place = refusal_place e;
+      low_longest = 0;
+      low_first = 0;
+      high_longest = 0;
+      high_first = 0;
+    }
 
 -- "Report the longest run for both tables", by the answers of a run that the two reports are
 pub record FlatReports : Type 0 where

@@ -6,8 +6,7 @@
 use Rattle.std.specs.Prelude.{◌≡◌, List, ℕ}
 use Rattle.runs.specs.Script.{Script}
 use Rattle.runs.specs.Outcome.{decided, Decided}
-use Rattle.ranges.specs.declared.range.RunRange.{RunRange}
-use Rattle.ranges.specs.Range.{both_of}
+use Rattle.ranges.specs.Range.{RunRange, both_of}
 
 -- by two tables: the slices are those of the high one's run
 pub record DecidedBoth (ws : Script) (low high : List ℕ) (r : RunRange) (m l : List ℕ) : Type 0 where

@@ -2,33 +2,40 @@
 -- two lent slices, refusals included.
 -- Assumes nothing.
 use Rattle.std.specs.Prelude.{Bool, cond, ◌||◌, List, ℕ, ltb, eqb, get_or}
+use Rattle.std.specs.Prelude.{Result, Ok, Err, ⊤}
 use Rattle.runs.specs.Weights.{weight_count, refuses_weights, weights_place}
-use Rattle.common.specs.Numbers.{NO_WORDS, REACHES_INVALID, WEIGHTS_REFUSED, LOW_ABOVE_HIGH}
-use Rattle.common.specs.Chain.{refuse_if, refuse_room, answer, accepted}
+use Rattle.common.specs.Chain.{refuse_if, check_room}
 use Rattle.common.specs.Lowest.{lowest_from}
-use Rattle.common.specs.declared.answer.Answer.{Answer}
+use Rattle.common.specs.declared.refusal.Refusal.{Refusal}
+use Rattle.common.specs.declared.refusal.Refusal.TheVariants.{NoWords, ReachesInvalid}
+use Rattle.common.specs.declared.refusal.Refusal.TheVariants.{WeightsRefused, LowAboveHigh}
 use Rattle.graph.specs.Longest.{longest, first}
-use Rattle.runs.specs.declared.longest.Run.{Run}
-use Rattle.runs.specs.declared.longest.Run.TheVariants as One
-use Rattle.ranges.specs.declared.range.RunRange.{RunRange}
-use Rattle.ranges.specs.declared.range.RunRange.TheVariants.{Accepted, Refused}
+use Rattle.ranges.specs.declared.range.LongestRange.{LongestRange}
 use Rattle.runs.specs.Script.{Script, graph_of, weight_of}
-use Rattle.runs.specs.Run.{lowest_invalid, marks_after, lengths_after}
+use Rattle.runs.specs.Run.{Run, lowest_invalid, marks_after, lengths_after}
 
 -- "Report the longest run for both tables": each report as the answer of a run
+abbrev pub RunRange : Type 0
+RunRange = Result LongestRange Refusal
+
 abbrev pub low_run : RunRange → Run
-low_run (Accepted l f l' f') = One.Accepted l f
-low_run (Refused k p) = One.Refused k p
+low_run (Ok r) = Ok r.low
+low_run (Err e) = Err e
 
 abbrev pub high_run : RunRange → Run
-high_run (Accepted l f l' f') = One.Accepted l' f'
-high_run (Refused k p) = One.Refused k p
+high_run (Ok r) = Ok r.high
+high_run (Err e) = Err e
 
 -- two runs as one answer, refused as the first of them that is
 abbrev pub both_of : Run → Run → RunRange
-both_of (One.Accepted l f) (One.Accepted l' f') = Accepted l f l' f'
-both_of (One.Accepted l f) (One.Refused k p) = Refused k p
-both_of (One.Refused k p) r = Refused k p
+both_of (Ok l) (Ok h) = Ok (record { low = l; high = h })
+both_of (Ok l) (Err e) = Err e
+both_of (Err e) r = Err e
+
+-- each L and its first word
+abbrev pub accepted_range : ℕ → ℕ → ℕ → ℕ → RunRange
+accepted_range l f l' f' =
+    Ok (record { low = record { longest = l; first = f }; high = record { longest = l'; first = f' } })
 
 -- "a low above its high"
 abbrev pub is_above : List ℕ → List ℕ → ℕ → Bool
@@ -40,28 +47,28 @@ lowest_above low high = lowest_from (is_above low high) 0 weight_count
 
 -- what refuses the tables, as the chain below has it: "19 a low above its high; after 18
 -- on both tables, low first"
-abbrev pub range_refusal : List ℕ → List ℕ → Answer
-range_refusal low high =
-    refuse_if (refuses_weights low) (answer WEIGHTS_REFUSED (weights_place low))
-    (refuse_if (refuses_weights high) (answer WEIGHTS_REFUSED (weights_place high))
-    (refuse_if (ltb (lowest_above low high) weight_count) (answer LOW_ABOVE_HIGH (lowest_above low high))
-    accepted))
+abbrev pub range_answer : List ℕ → List ℕ → Result ⊤ Refusal
+range_answer low high =
+    refuse_if (refuses_weights low) (Err (WeightsRefused (weights_place low)))
+    (refuse_if (refuses_weights high) (Err (WeightsRefused (weights_place high)))
+    (refuse_if (ltb (lowest_above low high) weight_count) (Err (LowAboveHigh (lowest_above low high)))
+    (Ok tt)))
 
 -- of the words, the two tables, and the lengths of the marks slice and the lengths slice
 unfoldable pub runs_of : Script → List ℕ → List ℕ → ℕ → ℕ → RunRange
 runs_of ws low high marks lengths =
     -- 1 and 6
-    refuse_room (λ (number : ℕ). Refused number 0) ws.size (ltb marks ws.size || ltb lengths ws.size)
+    check_room ws.size (ltb marks ws.size || ltb lengths ws.size)
     -- "18 on both tables, low first"
-    (refuse_if (refuses_weights low) (Refused WEIGHTS_REFUSED (weights_place low))
-    (refuse_if (refuses_weights high) (Refused WEIGHTS_REFUSED (weights_place high))
+    (refuse_if (refuses_weights low) (Err (WeightsRefused (weights_place low)))
+    (refuse_if (refuses_weights high) (Err (WeightsRefused (weights_place high)))
     -- "19 a low above its high; .. the place is the lowest such opcode"
-    (refuse_if (ltb (lowest_above low high) weight_count) (Refused LOW_ABOVE_HIGH (lowest_above low high))
+    (refuse_if (ltb (lowest_above low high) weight_count) (Err (LowAboveHigh (lowest_above low high)))
     -- "no words"
-    (refuse_if (eqb ws.size 0) (Refused NO_WORDS 0)
+    (refuse_if (eqb ws.size 0) (Err NoWords)
     -- "a reachable bad word; place: the lowest"
-    (refuse_if (ltb (lowest_invalid ws) ws.size) (Refused REACHES_INVALID (lowest_invalid ws))
-    (Accepted
+    (refuse_if (ltb (lowest_invalid ws) ws.size) (Err (ReachesInvalid (lowest_invalid ws)))
+    (accepted_range
     (longest (graph_of ws) (weight_of ws low))
     (first (graph_of ws) (weight_of ws low))
     (longest (graph_of ws) (weight_of ws high))

@@ -4,10 +4,9 @@
 -- here. proofs/RangeOrder.antt proves the records for any script, tables and slices.
 -- Assumes nothing.
 use Rattle.std.specs.Prelude.{◌≡◌, ◌↔◌, ◌⊎◌, true, false, List, ℕ, ◌≤◌, ◌<◌, length, get_or}
-use Rattle.runs.specs.declared.longest.Run.{Run}
 use Rattle.runs.specs.Script.{Script}
 use Rattle.runs.specs.Weights.{refuses_weights, weights_place}
-use Rattle.runs.specs.Run.{number_of, place_of, marks_after, lengths_after}
+use Rattle.runs.specs.Run.{Run, number_of, place_of, marks_after, lengths_after}
 use Rattle.runs.specs.Order.{Fewer, Short, Long}
 use Rattle.ranges.specs.Range.{low_run, runs_of, marks_after_both, lengths_after_both}
 

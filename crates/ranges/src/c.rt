@@ -4,7 +4,8 @@ ghost use Rattle.runs.specs.Script.{lua54};
 ghost use Rattle.ranges.specs.Range.{runs_of, marks_after_both, lengths_after_both};
 ghost use Rattle.ranges.specs.Flat.{flat_range};
 
-use crate::RunRange;
+use crate::LongestRange;
+use common::Refusal;
 use fields::version::Version;
 
 // As C gets both reports; crate `lua53` answers it too.
@@ -19,31 +20,28 @@ pub struct FlatRange {
     pub high_first: u64,
 }
 
-pub fn flat_range(runs: RunRange) -> FlatRange
-    ensures { result ≡ flat_range runs }
-{
-    match runs {
-        RunRange::Accepted {
-            low_longest,
-            low_first,
-            high_longest,
-            high_first,
-        } => FlatRange {
-            number: 0,
-            place: 0,
-            low_longest: low_longest as u64,
-            low_first: low_first as u64,
-            high_longest: high_longest as u64,
-            high_first: high_first as u64,
-        },
-        RunRange::Refused { number, place } => FlatRange {
-            number: number as u64,
-            place: place as u64,
-            low_longest: 0,
-            low_first: 0,
-            high_longest: 0,
-            high_first: 0,
-        },
+impl From<Result<LongestRange, Refusal>> for FlatRange {
+    ghost from_gives = { λ runs flat. flat ≡ flat_range runs };
+
+    fn from(runs: Result<LongestRange, Refusal>) -> FlatRange {
+        match runs {
+            Ok(LongestRange { low, high }) => FlatRange {
+                number: 0,
+                place: 0,
+                low_longest: u64::from(low.longest),
+                low_first: low.first as u64,
+                high_longest: u64::from(high.longest),
+                high_first: high.first as u64,
+            },
+            Err(refusal) => FlatRange {
+                number: u64::from(refusal.number()),
+                place: refusal.place() as u64,
+                low_longest: 0,
+                low_first: 0,
+                high_longest: 0,
+                high_first: 0,
+            },
+        }
     }
 }
 
@@ -61,5 +59,5 @@ pub fn lawendeb_longest_runs(
     ensures lengths_after { lengths.new ≡ lengths_after_both (lua54 words.now) low.now
         high.now marks.old lengths.old }
 {
-    flat_range(crate::longest_runs(Version::Lua54, words, low, high, marks, lengths))
+    FlatRange::from(crate::longest_runs(Version::Lua54, words, low, high, marks, lengths))
 }

@@ -4,5 +4,5 @@
 pub mod c;
 pub mod range;
 
-pub use c::{FlatRange, flat_range, lawendeb_longest_runs};
-pub use range::{RunRange, longest_runs};
+pub use c::{FlatRange, lawendeb_longest_runs};
+pub use range::{LongestRange, longest_runs};

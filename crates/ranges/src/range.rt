@@ -1,42 +1,28 @@
 // The longest run by a lowest and by a highest weight for every opcode (request C-18).
-ghost use Rattle.std.specs.Prelude.{◌≡◌, length};
+ghost use Rattle.std.specs.Prelude.{◌≡◌, length, ltb};
+ghost use Rattle.std.specs.List.{position, zip};
 ghost use Rattle.runs.specs.Weights.{weight_count};
 ghost use Rattle.runs.specs.Script.{script_of};
 ghost use Rattle.sweep.specs.SearchInvariants.{Lent};
-ghost use Rattle.ranges.specs.Range.{
-  lowest_above,
-  range_refusal,
-  refuses_range,
-  runs_of,
-  marks_after_both,
-  lengths_after_both,
-};
+ghost use Rattle.ranges.specs.Range.{range_answer, refuses_range, runs_of};
+ghost use Rattle.ranges.specs.Range.{marks_after_both, lengths_after_both};
 ghost use Rattle.runs.specs.Outcome.{Searched};
 ghost use Rattle.ranges.specs.Outcome.{DecidedBoth};
 
-use common::Answer;
-use common::numbers::*;
-use common::sizes::room_refusal;
-use common::widths::smaller_size;
+use common::Refusal;
+use common::sizes::check_room;
 use fields::version::Version;
+use runs::Longest;
 use runs::inner::{search_words, slot_mask};
-use runs::weighing::{WEIGHTS, refuses_weights, weights_place};
+use runs::weighing::{WEIGHTS, check_weights};
 use sweep::inner::{clear_lengths, find_first, find_longest};
 use twice::inner::fill_twice;
 
-// Both reports, or what refuses them.
-#[derive(Drop)]
-pub enum RunRange {
-    Accepted {
-        low_longest: u32,
-        low_first: usize,
-        high_longest: u32,
-        high_first: usize,
-    },
-    Refused {
-        number: u8,
-        place: usize,
-    },
+// Both reports.
+#[derive(Clone, Copy, Debug, PartialEq, Eq)]
+pub struct LongestRange {
+    pub low: Longest,
+    pub high: Longest,
 }
 
 // Whether 18 or 19 refuses two tables of 128 weights: a low weight is 0 or above its high one. Where none is,
@@ -47,15 +33,8 @@ fn has_refused(low: &[u8], high: &[u8]) -> bool
     ensures { result ≡ refuses_range low.now high.now }
 {
     let mut refused = false;
-    let mut i = 0;
-    while i < WEIGHTS {
-        if low[i] == 0 {
-            refused = true;
-        }
-        if low[i] > high[i] {
-            refused = true;
-        }
-        i += 1;
+    for (i, weight) in low.iter().enumerate() {
+        refused |= (*weight == 0) | (*weight > high[i]);
     }
     refused
 }
@@ -64,56 +43,32 @@ fn has_refused(low: &[u8], high: &[u8]) -> bool
 fn refuses_range(low: &[u8], high: &[u8]) -> bool
     ensures { result ≡ refuses_range low.now high.now }
 {
-    if low.len() != WEIGHTS {
-        return true;
-    }
-    if high.len() != WEIGHTS {
+    if low.len() != WEIGHTS || high.len() != WEIGHTS {
         return true;
     }
     has_refused(low, high)
 }
 
-// The lowest opcode whose low weight is above its high one, or the count.
-fn lowest_above(low: &[u8], high: &[u8]) -> usize
-    requires { (length low.now ≡ weight_count) × (length high.now ≡ weight_count) }
-    ensures { result ≡ lowest_above low.now high.now }
+// The lowest opcode whose low weight is above its high one.
+fn lowest_above(low: &[u8], high: &[u8]) -> Option<usize>
+    ensures { result ≡ position (λ weights. ltb weights.1 weights.0) (zip low.now high.now) }
 {
-    let mut i = 0;
-    while i < WEIGHTS {
-        if high[i] < low[i] {
-            return i;
-        }
-        i += 1;
-    }
-    i
+    low.iter().zip(high).position(|(low, high)| high < low)
 }
 
 // Numbers 18, of the low table and of the high one, and 19. Which of them it is, is asked of refused tables
 // alone.
-fn range_refusal(low: &[u8], high: &[u8]) -> Answer
-    ensures { result ≡ range_refusal low.now high.now }
+fn check_range(low: &[u8], high: &[u8]) -> Result<(), Refusal>
+    ensures { result ≡ range_answer low.now high.now }
 {
-    if refuses_range(low, high) {
-        if refuses_weights(low) {
-            return Answer {
-                number: WEIGHTS_REFUSED,
-                place: weights_place(low),
-            };
-        }
-        if refuses_weights(high) {
-            return Answer {
-                number: WEIGHTS_REFUSED,
-                place: weights_place(high),
-            };
-        }
-        return Answer {
-            number: LOW_ABOVE_HIGH,
-            place: lowest_above(low, high),
-        };
+    if !refuses_range(low, high) {
+        return Ok(());
     }
-    Answer {
-        number: ACCEPTED,
-        place: 0,
+    check_weights(low)?;
+    check_weights(high)?;
+    match lowest_above(low, high) {
+        Some(place) => Err(Refusal::LowAboveHigh(place)),
+        None => Ok(()),
     }
 }
 
@@ -126,7 +81,7 @@ fn measure_runs(
     high: &[u8],
     marks: &mut [u8],
     lengths: &mut [u32],
-) -> RunRange
+) -> Result<LongestRange, Refusal>
     requires { Searched (script_of version words.now) marks.old lengths.old
         × ((length low.now ≡ weight_count) × (length high.now ≡ weight_count)) }
     ensures { DecidedBoth (script_of version words.now) low.now
@@ -134,21 +89,19 @@ fn measure_runs(
 {
     let n = words.len();
     let lows = fill_twice(slot_mask(version), words, low, high, marks, lengths);
-    if lows.invalid < n {
+    if let Some(place) = lows.invalid {
         clear_lengths(lengths, n);
-        return RunRange::Refused {
-            number: REACHES_INVALID,
-            place: lows.invalid,
-        };
+        return Err(Refusal::ReachesInvalid(place));
     }
     let longest = find_longest(lengths, n);
     let first = find_first(lengths, n, longest);
-    RunRange::Accepted {
-        low_longest: lows.longest,
-        low_first: lows.first,
-        high_longest: longest,
-        high_first: first,
-    }
+    Ok(LongestRange {
+        low: Longest {
+            longest: lows.longest,
+            first: lows.first,
+        },
+        high: Longest { longest, first },
+    })
 }
 
 // The runs of words that pass the checks of their number, of the slices and of the tables. What is reachable
@@ -160,7 +113,7 @@ fn runs_of_words(
     high: &[u8],
     marks: &mut [u8],
     lengths: &mut [u32],
-) -> RunRange
+) -> Result<LongestRange, Refusal>
     requires { Lent (length words.now) marks.old lengths.old
         × ((length low.now ≡ weight_count) × (length high.now ≡ weight_count)) }
     ensures { DecidedBoth (script_of version words.now) low.now
@@ -179,7 +132,7 @@ pub fn longest_runs(
     high: &[u8],
     marks: &mut [u8],
     lengths: &mut [u32],
-) -> RunRange
+) -> Result<LongestRange, Refusal>
     ensures value { result ≡ runs_of (script_of version words.now) low.now high.now
         (length marks.old) (length lengths.old) }
     ensures marks_after { marks.new ≡ marks_after_both (script_of version words.now)
@@ -188,22 +141,10 @@ pub fn longest_runs(
         low.now high.now marks.old lengths.old }
 {
     let n = words.len();
-    let number = room_refusal(n, smaller_size(marks.len(), lengths.len()));
-    if number != ACCEPTED {
-        return RunRange::Refused { number, place: 0 };
-    }
-    let range = range_refusal(low, high);
-    if range.number != ACCEPTED {
-        return RunRange::Refused {
-            number: range.number,
-            place: range.place,
-        };
-    }
+    check_room(n, marks.len().min(lengths.len()))?;
+    check_range(low, high)?;
     if n == 0 {
-        return RunRange::Refused {
-            number: NO_WORDS,
-            place: 0,
-        };
+        return Err(Refusal::NoWords);
     }
     runs_of_words(
         version,

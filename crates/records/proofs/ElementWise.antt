@@ -1,6 +1,6 @@
 -- What the caller's list of records is afterwards, element by element.
 -- Assumes nothing.
-use mathlib.Core.Path.{◌≡◌, refl, sym, ◌∙◌, subst}
+use mathlib.Core.Path.{◌≡◌, refl, sym, ap, ◌∙◌, subst}
 use Prim.Native.Nat.{ℕ, zero, suc, ◌<◌, ◌≤◌}
 use native.Mathlib.Omega.{arith}
 use native.Mathlib.Nat.{not-suc-le-zero}
@@ -9,13 +9,15 @@ use mathlib.Core.List.{List}
 use lib.Dec.{eqb}
 use lib.ListN.{length, get_or, length-set}
 use lib.Seq.{get_or-set_same, get_or-set_other}
-use borrow.Author.Tests.{eqb-true, eqb-false, eq-eqb}
+use borrow.Author.Tests.{eqb-true, eqb-false}
 use Rattle.values.specs.declared.ir.SemanticInstruction.{SemanticInstruction}
-use Rattle.common.specs.Chain.{choose}
 use Rattle.records.specs.Lift.{lift_of}
-use Rattle.tables.specs.Refusals.{answer_of, plan_of}
+use Rattle.std.specs.Prelude.{Result, Ok, Err, ⊤}
+use Rattle.common.specs.declared.refusal.Refusal.{Refusal}
+use Rattle.tables.specs.Laws.{WrittenLaws}
+use Rattle.tables.specs.Refusals.{answer_of, written}
 use Rattle.records.specs.Walk.{filled_records, ElementWise}
-use Rattle.tables.proofs.Laws.{plan_laws}
+use Rattle.tables.proofs.Laws.{written_laws}
 
 fits : {n m l : ℕ} → suc n ≤ m → l ≡ m → n < l
 fits a e = omega (arith, a, e)
@@ -56,22 +58,23 @@ module _ (words tags payloads names : List ℕ) where
   below (suc n) ys i d h l = below_at n ys i d h l (below n ys i d (omega (arith, h))) (eqb i n) refl
 
   module _ (bytes : ℕ) (ys : List SemanticInstruction) where
-    abbrev count : ℕ
-    count = (plan_of (length words) tags payloads names bytes (length ys)).count
+    abbrev answer : Result ⊤ Refusal
+    answer = answer_of (length words) tags payloads names bytes (length ys)
 
-    all : (answer_of (length words) tags payloads names bytes (length ys)).number ≡ 0 → count ≡ length words
-    unfolding plan_of choose
-    all e = rw (eq-eqb _ 0 e)
+    laws : WrittenLaws (length words) tags payloads names bytes (length ys)
+    laws = written_laws (length words) tags payloads names bytes (length ys)
 
-    none : eqb (answer_of (length words) tags payloads names bytes (length ys)).number 0 ≡ false → count ≡ 0
-    unfolding plan_of choose
-    none e = rw e
+    all : answer ≡ Ok tt → written (length words) answer ≡ length words
+    all e = ap (written (length words)) e
+
+    none : (refusal : Refusal) → answer ≡ Err refusal → written (length words) answer ≡ 0
+    none refusal e = ap (written (length words)) e
 
     pub element_wise : ElementWise words tags payloads names bytes ys
     element_wise =
         record {
-          same_length = length_filled count ys;
-          lifted = λ e i d h. below count ys i d (plan_laws (length words) tags payloads names bytes (length ys)).within_room (omega (arith, h, all e));
-          untouched = λ i d h. past count ys i d (omega (arith, h, (plan_laws (length words) tags payloads names bytes (length ys)).within_words));
-          refused = λ e. rw (none e);
+          same_length = length_filled (written (length words) answer) ys;
+          lifted = λ e i d h. below (written (length words) answer) ys i d laws.within_room (omega (arith, h, all e));
+          untouched = λ i d h. past (written (length words) answer) ys i d (omega (arith, h, laws.within_words));
+          refused = λ refusal e. rw (none refusal e);
         }

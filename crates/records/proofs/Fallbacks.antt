@@ -12,7 +12,7 @@ use Rattle.fields.specs.lua54.Opcodes.{OP_TBC, OP_CALL, OP_TAILCALL}
 use Rattle.fields.specs.lua54.Events.{TM_INDEX, TM_NEWINDEX, TM_LEN, TM_UNM, TM_BNOT, TM_CONCAT, TM_CALL, TM_CLOSE}
 use Rattle.fields.specs.Rows.{Row, row, lookup}
 use Rattle.fields.specs.lua54.Table.{FallbackRule, fixed, by_c, no_fallback, fallback_number, fallback_of}
-use Rattle.values.specs.declared.ir.Fallback.TheVariants.{NoFallback, Event}
+use Rattle.std.specs.Prelude.{Some, None}
 use Rattle.builders.specs.Parts.{event_of}
 use Rattle.records.specs.Lift.{fallback_by}
 
@@ -60,17 +60,17 @@ unfolding fallback_of
 small o = small_lookup rules no_fallback o all_small tt
 
 module _ (c : ℕ) where
-  pub falls_nowhere : (r : FallbackRule) → Small r → fallback_number r ≡ 27 → NoFallback ≡ fallback_by r c
+  pub falls_nowhere : (r : FallbackRule) → Small r → fallback_number r ≡ 27 → None ≡ fallback_by r c
   falls_nowhere (fixed event) p e = absurd (omega arith)
   falls_nowhere by_c p e = absurd (omega arith)
   falls_nowhere no_fallback p e = refl
 
-  pub falls_by_c : (r : FallbackRule) → Small r → fallback_number r ≡ 26 → Event (event_of c) ≡ fallback_by r c
+  pub falls_by_c : (r : FallbackRule) → Small r → fallback_number r ≡ 26 → Some (event_of c) ≡ fallback_by r c
   falls_by_c (fixed event) p e = absurd (omega arith)
   falls_by_c by_c p e = refl
   falls_by_c no_fallback p e = absurd (omega arith)
 
-  pub falls_fixed : (r : FallbackRule) (n : ℕ) → n ≡ fallback_number r → (n ≡ 27 → ⊥) → (n ≡ 26 → ⊥) → Event n ≡ fallback_by r c
+  pub falls_fixed : (r : FallbackRule) (n : ℕ) → n ≡ fallback_number r → (n ≡ 27 → ⊥) → (n ≡ 26 → ⊥) → Some n ≡ fallback_by r c
   falls_fixed (fixed event) n e f g = rw e
   falls_fixed by_c n e f g = absurd (g e)
   falls_fixed no_fallback n e f g = absurd (f e)

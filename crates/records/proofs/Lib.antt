@@ -1,4 +1,3 @@
 pub mod ElementWise
 pub mod Fallbacks
-pub mod Laws
 pub mod Sources

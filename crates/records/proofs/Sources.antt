@@ -1,13 +1,14 @@
 -- Where what a record says comes from: arm by arm, what it pushes; then group by group, which arm is taken.
 -- Assumes nothing.
 use Prim.Native.Nat.{ℕ, zero, suc}
-use mathlib.Core.Path.{◌≡◌, refl, subst}
+use mathlib.Core.Path.{◌≡◌, refl, sym, subst}
 use mathlib.Core.Bool.{Bool, true, false}
 use mathlib.Core.List.{List, [], ◌∷◌}
+use Rattle.std.specs.Prelude.{Option}
 use lib.IntN.{ℤ}
 use lib.Dec.{eqb, leb}
 use lib.Ieee.{Float, binary64, of_int}
-use lib.ListN.{get_or}
+use lib.ListN.{get_or, take}
 use Rattle.fields.specs.declared.lua54.word.RawInstruction54.{RawInstruction54}
 use Rattle.fields.specs.lua54.Word.{fields_of, opcode_of}
 use Rattle.values.specs.declared.ir.TypedOperand.{TypedOperand}
@@ -15,11 +16,12 @@ use Rattle.values.specs.declared.ir.TypedOperand.TheVariants as O
 use Rattle.values.specs.declared.ir.EffectTarget.{EffectTarget}
 use Rattle.values.specs.declared.ir.EffectTarget.TheVariants as E
 use Rattle.values.specs.declared.ir.ImplicitEffect.{ImplicitEffect}
-use Rattle.values.specs.declared.ir.OptionalPc.{OptionalPc}
 use Rattle.common.specs.Chain.{choose}
+use Rattle.values.specs.Few.{few}
 use Rattle.values.specs.Values.{constant_of, name_of}
+use Rattle.values.proofs.Places.{place_made}
 use Rattle.builders.specs.declared.builders.Body.{Body}
-use Rattle.builders.specs.Shapes.{operands_of, reads_of, writes_of, body}
+use Rattle.builders.specs.Shapes.{body}
 use Rattle.builders.specs.Parts.{constant, upvalue, upvalue_target, rk, rk_target, count_less, arguments, results}
 use Rattle.families.specs.Families as F
 use Rattle.objects.specs.Objects as objects
@@ -89,57 +91,29 @@ module _ (tags payloads names : List ℕ) (float : Float) where
 
   -- the places of a list of what is pushed: that, then register 0
 
-  four : (x y z u : TypedOperand) → FromOperand x → FromOperand y → FromOperand z → FromOperand u → (k : ℕ)
-      → FromOperand (operand_in (record { operand = x } ∷ record { operand = y } ∷ record { operand = z } ∷ record { operand = u } ∷ []) k)
-  four x y z u p q r s zero = p
-  four x y z u p q r s (suc zero) = q
-  four x y z u p q r s (suc (suc zero)) = r
-  four x y z u p q r s (suc (suc (suc zero))) = s
-  four x y z u p q r s (suc (suc (suc (suc k)))) = tt
+  first_operands : (n : ℕ) (xs : List TypedOperand) → Operands xs → (k : ℕ) → FromOperand (operand_in (take n xs) k)
+  first_operands zero xs h k = tt
+  first_operands (suc n) [] h k = tt
+  first_operands (suc n) (x ∷ xs) h zero = h.0
+  first_operands (suc n) (x ∷ xs) h (suc k) = first_operands n xs h.1 k
 
-  three : (x y z : EffectTarget) → FromTarget x → FromTarget y → FromTarget z → (k : ℕ)
-      → FromTarget (target_in (record { target = x } ∷ record { target = y } ∷ record { target = z } ∷ []) k)
-  three x y z p q r zero = p
-  three x y z p q r (suc zero) = q
-  three x y z p q r (suc (suc zero)) = r
-  three x y z p q r (suc (suc (suc k))) = tt
+  first_targets : (n : ℕ) (xs : List EffectTarget) → Targets xs → (k : ℕ) → FromTarget (target_in (take n xs) k)
+  first_targets zero xs h k = tt
+  first_targets (suc n) [] h k = tt
+  first_targets (suc n) (x ∷ xs) h zero = h.0
+  first_targets (suc n) (x ∷ xs) h (suc k) = first_targets n xs h.1 k
 
-  two : (x y : EffectTarget) → FromTarget x → FromTarget y → (k : ℕ)
-      → FromTarget (target_in (record { target = x } ∷ record { target = y } ∷ []) k)
-  two x y p q zero = p
-  two x y p q (suc zero) = q
-  two x y p q (suc (suc k)) = tt
+  in_operands : (n : ℕ) (xs : List TypedOperand) → Operands xs → (k : ℕ)
+      → FromOperand (operand_in (few n (O.Register 0) xs).slots k)
+  in_operands n xs h k = subst FromOperand (sym (place_made (O.Register 0) n xs k)) (first_operands n xs h k)
 
-  abbrev none : TypedOperand
-  none = O.Register 0
+  in_targets : (n : ℕ) (xs : List EffectTarget) → Targets xs → (k : ℕ)
+      → FromTarget (target_in (few n (E.Register 0) xs).slots k)
+  in_targets n xs h k = subst FromTarget (sym (place_made (E.Register 0) n xs k)) (first_targets n xs h k)
 
-  abbrev nowhere : EffectTarget
-  nowhere = E.Register 0
-
-  in_operands : (xs : List TypedOperand) → Operands xs → (k : ℕ) → FromOperand (operand_in (operands_of xs).slots k)
-  unfolding operands_of
-  in_operands [] h = four none none none none tt tt tt tt
-  in_operands (x ∷ []) h = four x none none none h.0 tt tt tt
-  in_operands (x ∷ y ∷ []) h = four x y none none h.0 h.1.0 tt tt
-  in_operands (x ∷ y ∷ z ∷ []) h = four x y z none h.0 h.1.0 h.1.1.0 tt
-  in_operands (x ∷ y ∷ z ∷ u ∷ xs) h = four x y z u h.0 h.1.0 h.1.1.0 h.1.1.1.0
-
-  in_reads : (xs : List EffectTarget) → Targets xs → (k : ℕ) → FromTarget (target_in (reads_of xs).slots k)
-  unfolding reads_of
-  in_reads [] h = three nowhere nowhere nowhere tt tt tt
-  in_reads (x ∷ []) h = three x nowhere nowhere h.0 tt tt
-  in_reads (x ∷ y ∷ []) h = three x y nowhere h.0 h.1.0 tt
-  in_reads (x ∷ y ∷ z ∷ xs) h = three x y z h.0 h.1.0 h.1.1.0
-
-  in_writes : (xs : List EffectTarget) → Targets xs → (k : ℕ) → FromTarget (target_in (writes_of xs).slots k)
-  unfolding writes_of
-  in_writes [] h = two nowhere nowhere tt tt
-  in_writes (x ∷ []) h = two x nowhere h.0 tt
-  in_writes (x ∷ y ∷ xs) h = two x y h.0 h.1.0
-
-  pushed : (xs : List TypedOperand) (ys zs : List EffectTarget) (e : ImplicitEffect) (j : OptionalPc)
+  pushed : (xs : List TypedOperand) (ys zs : List EffectTarget) (e : Option ImplicitEffect) (j : Option ℕ)
       → Operands xs → Targets ys → Targets zs → From (body xs ys zs e j)
-  pushed xs ys zs e j p q r = record { operands = in_operands xs p; reads = in_reads ys q; writes = in_writes zs r }
+  pushed xs ys zs e j p q r = record { operands = in_operands 4 xs p; reads = in_targets 3 ys q; writes = in_targets 2 zs r }
 
   -- what several arms share
 
@@ -181,10 +155,10 @@ module _ (tags payloads names : List ℕ) (float : Float) where
     a_unary : From (F.unary raw)
     a_unary = pushed _ _ _ _ _ (tt, (tt, tt)) (tt, tt) (tt, tt)
 
-    a_load : (value : TypedOperand) (effect : ImplicitEffect) → FromOperand value → From (F.load raw value effect)
+    a_load : (value : TypedOperand) (effect : Option ImplicitEffect) → FromOperand value → From (F.load raw value effect)
     a_load value effect h = pushed _ _ _ _ _ (tt, (h, tt)) tt (tt, tt)
 
-    a_load_constant : (i : ℕ) (effect : ImplicitEffect) → From (F.load_constant_body tags payloads raw i effect)
+    a_load_constant : (i : ℕ) (effect : Option ImplicitEffect) → From (F.load_constant_body tags payloads raw i effect)
     a_load_constant i effect = pushed _ _ _ _ _ (tt, (a_constant i, tt)) (tt, tt) (tt, tt)
 
     a_loadnil : From (F.loadnil raw)
@@ -284,7 +258,7 @@ module _ (tags payloads names : List ℕ) (float : Float) where
     an_extraarg : From (objects.extraarg raw)
     an_extraarg = pushed _ _ _ _ _ (tt, tt) tt tt
 
-  a_bare : (effect : ImplicitEffect) → From (F.bare effect)
+  a_bare : (effect : Option ImplicitEffect) → From (F.bare effect)
   a_bare effect = pushed _ _ _ _ _ tt tt tt
 
   -- the groups: LOADF alone has a float

@@ -1,27 +1,25 @@
 -- Where what a record says comes from: a constant, an upvalue's name and a float are those of the lent
 -- tables and of the word itself.
 -- Assumes nothing.
-use Rattle.std.specs.Prelude.{ℕ, ◌≡◌, List, Float, get_or}
+use Rattle.std.specs.Prelude.{ℕ, ◌≡◌, List, Float, get_or, Option}
 use Rattle.std.specs.Float.{binary64}
 use Rattle.std.specs.Float.Ieee.{of_int}
 use Rattle.fields.specs.lua54.Word.{sbx_of}
 use Rattle.values.specs.declared.model.ConstantValue.{ConstantValue}
-use Rattle.values.specs.declared.model.Name.{Name}
+use Rattle.values.specs.declared.model.Span.{Span}
 use Rattle.values.specs.declared.ir.TypedOperand.{TypedOperand}
 use Rattle.values.specs.declared.ir.TypedOperand.TheVariants as O
 use Rattle.values.specs.declared.ir.EffectTarget.{EffectTarget}
 use Rattle.values.specs.declared.ir.EffectTarget.TheVariants as E
-use Rattle.values.specs.declared.ir.OperandSlot.{OperandSlot}
-use Rattle.values.specs.declared.ir.TargetSlot.{TargetSlot}
 use Rattle.values.specs.Values.{constant_of, name_of}
 use Rattle.records.specs.Lift.{lift_of}
 
--- place k of a record's list; past its end there would be register 0
-abbrev pub operand_in : List OperandSlot → ℕ → TypedOperand
-operand_in slots k = (get_or slots k (record { operand = O.Register 0 })).operand
+-- place k of a record's list; past its places there would be register 0
+abbrev pub operand_in : List TypedOperand → ℕ → TypedOperand
+operand_in operands k = get_or operands k (O.Register 0)
 
-abbrev pub target_in : List TargetSlot → ℕ → EffectTarget
-target_in slots k = (get_or slots k (record { target = E.Register 0 })).target
+abbrev pub target_in : List EffectTarget → ℕ → EffectTarget
+target_in targets k = get_or targets k (E.Register 0)
 
 -- "LOADF's value is sBx, exact"
 abbrev pub immediate_float : List ℕ → ℕ → Float
@@ -38,14 +36,14 @@ pub record Sources (words tags payloads names : List ℕ) (pc : ℕ) : Type 0 wh
       → operand_in (lift_of words tags payloads names pc).operands.slots k ≡ O.ImmediateFloat value
       → value ≡ immediate_float words pc
   pub operand_names :
-      (k index : ℕ) (name : Name)
+      (k index : ℕ) (name : Option Span)
       → operand_in (lift_of words tags payloads names pc).operands.slots k ≡ O.Upvalue index name
       → name ≡ name_of names index
   pub read_names :
-      (k index : ℕ) (name : Name)
+      (k index : ℕ) (name : Option Span)
       → target_in (lift_of words tags payloads names pc).reads.slots k ≡ E.Upvalue index name
       → name ≡ name_of names index
   pub write_names :
-      (k index : ℕ) (name : Name)
+      (k index : ℕ) (name : Option Span)
       → target_in (lift_of words tags payloads names pc).writes.slots k ≡ E.Upvalue index name
       → name ≡ name_of names index

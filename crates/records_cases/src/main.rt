@@ -3,36 +3,23 @@
 // held to the stored output.
 #![tactic(auto)]
 
-mod lent;
 mod list;
 mod questions;
 mod sums;
 
 use std::io::Stdout;
+use vectors::part;
 
 fn ask(out: Stdout, line: &[u8]) {
-    match vectors::which(line, b"plan|sums|lift") {
-        0 => {
-            questions::plan(out, line);
-        }
-        1 => {
-            questions::sums(out, line);
-        }
-        2 => {
-            questions::lift(out, line);
-        }
+    match part(line, 0) {
+        b"plan" => questions::plan(out, line),
+        b"sums" => questions::sums(out, line),
+        b"lift" => questions::lift(out, line),
         _ => {}
     }
 }
 
-fn ask_all(out: Stdout, text: &[u8]) {
-    for i in 0..text.len() {
-        ask(out, vectors::line_at(text, i));
-    }
-}
-
 fn main(rt: HostRuntime) {
-    let mut page = io::large_buffer();
-    let n = vectors::read(rt.stdin(), &mut page);
-    ask_all(rt.stdout(), pages::first(&page, n));
+    let out = rt.stdout();
+    vectors::ask_each(rt.stdin(), |line| ask(out, line));
 }

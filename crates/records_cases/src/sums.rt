@@ -7,10 +7,5 @@ fn mix(sum: u64, x: u64) -> u64 {
 }
 
 pub fn record(sum: u64, r: SemanticInstruction) -> u64 {
-    let numbers = numbers_of(r);
-    let mut mixed = sum;
-    for i in 0..53 {
-        mixed = mix(mixed, numbers[i]);
-    }
-    mixed
+    numbers_of(r).iter().fold(sum, |mixed, &x| mix(mixed, x))
 }

@@ -2,7 +2,8 @@
 -- Assumes nothing.
 use mathlib.Core.Path.{◌≡◌, refl, sym, ap, ◌∙◌}
 use mathlib.Core.Logic.{◌⊎◌, inl, inr, ⊎_elim}
-use mathlib.Core.Bool.{Bool, true, false, cond, ◌&&◌, ◌||◌}
+use mathlib.Core.Bool.{Bool, true, false, cond, ◌||◌}
+use Rattle.std.specs.Prelude.{Option, Some, None}
 use mathlib.Core.List.{List, [], ◌∷◌, ◌++◌}
 use Prim.Native.Nat.{ℕ, zero, suc, ◌+◌, ◌-◌, ◌≤◌, ◌<◌, max}
 use native.Mathlib.Omega.{arith}
@@ -15,25 +16,27 @@ use Rattle.rehearsal.specs.declared.machine.Move.TheVariants.{Return, Starve, Go
 use Rattle.rehearsal.specs.declared.machine.Turn.{Turn}
 use Rattle.rehearsal.specs.declared.machine.Turn.TheVariants.{Over, Returned, Starved}
 use Rattle.rehearsal.specs.Machine.{Event, State, task_at, move_of, moved, followed, trace}
-use Rattle.rehearsal.specs.Running.{turned, turn_of}
+use Rattle.rehearsal.specs.Running.{turned, turn_of, ran_of}
 
--- the running numbers of a script while a trace is read: whether it had a turn, the words of others since, the
--- longest wait
+-- the running numbers of a script while a trace is read: the words of others since its last, none before its first;
+-- the longest wait
 pub record Count : Type 0 where
-  pub had : Bool
-  pub others : ℕ
+  pub since : Option ℕ
   pub longest : ℕ
 
+abbrev pub or_none : Option ℕ → ℕ
+or_none None = 0
+or_none (Some n) = n
+
+abbrev pub more_since : ℕ → Option ℕ → Option ℕ
+more_since m None = None
+more_since m (Some n) = Some (n + m)
+
 abbrev pub own_word : ℕ → Count → Count
-own_word nth c = record {
-  had = true;
-  others = 0;
-  longest = cond (c.had && eqb nth 0) (max c.longest c.others)
-      c.longest;
-}
+own_word nth c = record { since = Some 0; longest = cond (eqb nth 0) (max c.longest (or_none c.since)) c.longest }
 
 abbrev pub others_words : ℕ → Count → Count
-others_words m c = record { had = c.had; others = c.others + m; longest = c.longest }
+others_words m c = record { since = more_since m c.since; longest = c.longest }
 
 -- script i's numbers after m words of a script, the first of which was the nth of its turn
 unfoldable pub counted : ℕ → ℕ → ℕ → ℕ → Count → Count
@@ -52,6 +55,10 @@ pub counted_none : (i who nth : ℕ) (c : Count) → counted i who nth 0 c ≡ c
 unfolding counted
 counted_none i who nth c = refl
 
+since_more : (m : ℕ) (s : Option ℕ) → more_since (suc m) (more_since 1 s) ≡ more_since (suc (suc m)) s
+since_more m None = refl
+since_more m (Some n) = let a : n + 1 + suc m ≡ n + suc (suc m) = omega arith in rw a
+
 counted_more : (i who nth m : ℕ) (c : Count) → counted i who (nth + 1) m (counted i who nth 1 c)
     ≡ counted i who nth (suc m) c
 unfolding counted
@@ -62,12 +69,7 @@ counted_more i who nth (suc m) c = go (eqb who i) refl where
       (others_words (suc m) (cond (eqb who i) (own_word nth c) (others_words 1 c)))
       ≡ cond (eqb who i) (own_word nth c) (others_words (suc (suc m)) c)
   go true e = rw (e, ne_eqb (nth + 1) 0 (λ h. omega arith))
-  go false e = let a : c.others + 1 + suc m ≡ c.others + suc (suc m) = omega arith in rw (e, a)
-
-abbrev pub ran_of : Turn → ℕ
-ran_of (Over n p at) = n
-ran_of (Returned n at) = n
-ran_of (Starved n) = n
+  go false e = rw (e, since_more m c.since)
 
 -- a turn's words count on from those that ran, and there are at most as many as have room
 pub ran_least : (g : Graph) (choices : List ℕ) (room p taken n : ℕ) → n ≤ ran_of (turn_of g choices room p taken n)

@@ -6,7 +6,7 @@ use Rattle.std.specs.Prelude.{◌≡◌, ◌⊎◌, List, ℕ, zero, suc, ◌+�
 use Rattle.common.specs.Numbers.{«ACCEPTED»}
 use Rattle.runs.specs.Run as Run
 use Rattle.rehearsal.specs.Trial.{trial_of, trial_marks, trial_lengths}
-use Rattle.rehearsal.specs.Rehearse.{Tried, script_at}
+use Rattle.rehearsal.specs.Rehearse.{Tried, tried_number, tried_place, untried, accepted_by, script_at}
 
 module _ (w0 w1 w2 w3 : List ℕ) (k : ℕ) (marks lengths : List ℕ) where
   -- the longest run gives this number for script i
@@ -29,11 +29,10 @@ module _ (w0 w1 w2 w3 : List ℕ) (k : ℕ) (marks lengths : List ℕ) where
   -- longest run alone, so that a rehearsal that clears the slices first, in `acceptance` and code alike, is
   -- refused at `last`
   abbrev pub left_below : ℕ → Tried
-  left_below zero = record { number = 0; place = 0; marks = marks; lengths = lengths }
+  left_below zero = untried marks lengths
   left_below (suc i) =
       record {
-        number = run_number i;
-        place = run_place i;
+        answer = accepted_by (trial_of (script_at w0 w1 w2 w3 i) marks lengths);
         marks = trial_marks (script_at w0 w1 w2 w3 i) (left_below i).marks (left_below i).lengths;
         lengths = trial_lengths (script_at w0 w1 w2 w3 i) (left_below i).marks (left_below i).lengths;
       }
@@ -53,8 +52,8 @@ module _ (w0 w1 w2 w3 : List ℕ) (k : ℕ) (marks lengths : List ℕ) where
         ≡ trial_lengths (script_at w0 w1 w2 w3 script) (left_below script).marks (left_below script).lengths
 
   pub record Accepting (t : Tried) : Type 0 where
-    pub accepted : t.number ≡ «ACCEPTED» → (i : ℕ) → i < k → run_number i ≡ «ACCEPTED»
-    pub refused : (t.number ≡ «ACCEPTED» → ⊥) → LowestRefused t.number t.place
+    pub accepted : tried_number t ≡ «ACCEPTED» → (i : ℕ) → i < k → run_number i ≡ «ACCEPTED»
+    pub refused : (tried_number t ≡ «ACCEPTED» → ⊥) → LowestRefused (tried_number t) (tried_place t)
     pub last : 0 < k → LastTried t.marks t.lengths
     pub marks_size : length t.marks ≡ length marks
     pub lengths_size : length t.lengths ≡ length lengths

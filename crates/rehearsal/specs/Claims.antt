@@ -1,10 +1,10 @@
 -- Request C-21: what is claimed of the answer that `rehearse` gives, a field for each sentence.
 -- proofs/Claims.antt proves `Claims` of all inputs.
 -- Assumes nothing.
-use Rattle.std.specs.Prelude.{◌≡◌, ◌↔◌, true, List, [], ℕ, ◌*◌, ◌-◌, ◌≤◌, ◌<◌}
+use Rattle.std.specs.Prelude.{◌≡◌, ◌↔◌, true, List, [], ◌∷◌, ℕ, Ok, Err, ◌*◌, ◌-◌, ◌≤◌, ◌<◌}
 use Rattle.common.specs.Numbers.{«ACCEPTED»}
 use Rattle.graph.specs.Graph.{In}
-use Rattle.rehearsal.specs.declared.answer.Rehearsal.TheVariants.{Rehearsed, Refused}
+use Rattle.common.specs.declared.refusal.Refusal.TheVariants.{OutOfRange}
 use Rattle.rehearsal.specs.Machine.{Event}
 use Rattle.rehearsal.specs.Waits.{longest_wait, WaitIn, Waits, turns_of}
 use Rattle.rehearsal.specs.Schedule.{Scheduled}
@@ -56,8 +56,9 @@ module _ (w0 w1 w2 w3 : List ℕ) (k q : ℕ) (choices : List ℕ) (limit : ℕ)
         → wait_of (rehearse_of w0 w1 w2 w3 k q choices limit marks lengths) i ≡ longest_wait i events
     -- in the order in which the scripts are given, as Rust gets it, and as C does
     pub report :
-        rehearse_of w0 w1 w2 w3 k q choices limit marks lengths ≡ Rehearsed (longest_wait 0 events)
-        (longest_wait 1 events) (longest_wait 2 events) (longest_wait 3 events)
+        rehearse_of w0 w1 w2 w3 k q choices limit marks lengths
+        ≡ Ok (longest_wait 0 events ∷ longest_wait 1 events ∷ longest_wait 2 events
+        ∷ longest_wait 3 events ∷ [])
     pub flat :
         flat_rehearsal (rehearse_of w0 w1 w2 w3 k q choices limit marks lengths)
         ≡ record {
@@ -84,11 +85,11 @@ module _ (w0 w1 w2 w3 : List ℕ) (k q : ℕ) (choices : List ℕ) (limit : ℕ)
         → Rehearses
     -- "with k scripts no wait .. exceeds (k - 1) times q": of each number that the answer reports
     pub bound : (i : ℕ) → wait_of (rehearse_of w0 w1 w2 w3 k q choices limit marks lengths) i ≤ (k - 1) * q
-    -- "23 a script count, q or choice out of range": its place is 0
+    -- "23 a script count, q or choice out of range": its place is 0, as of each refusal that names none
     pub range : (out_of_range k q choices ≡ true → ⊥) ↔ InRange k q choices
     pub turned-away :
         (InRange k q choices → ⊥)
-        → rehearse_of w0 w1 w2 w3 k q choices limit marks lengths ≡ Refused 23 0
+        → rehearse_of w0 w1 w2 w3 k q choices limit marks lengths ≡ Err OutOfRange
     -- "before anything is rehearsed": no slice is touched
     pub untouched :
         (InRange k q choices → ⊥)

@@ -1,7 +1,8 @@
 -- What the code keeps: a turn at a time, and running numbers in place of the trace. The contracts of private
 -- functions cite it; proofs/Turns.antt joins it to the machine and to the waits.
 -- Assumes nothing.
-use Rattle.std.specs.Prelude.{cond, List, [], ◌∷◌, ℕ, zero, suc, ◌+◌, ◌-◌, ◌≤◌, ◌<◌, min, max, ltb, eqb, take}
+use Rattle.std.specs.Prelude.{◌≡◌, cond, List, [], ◌∷◌, ◌++◌, ℕ, zero, suc, ◌+◌, ◌-◌, ◌≤◌, ◌<◌, min, max, eqb}
+use Rattle.std.specs.Prelude.{length, get_or, set, replicate, Option, Some, None}
 use Rattle.graph.specs.Graph.{Graph}
 use Rattle.rehearsal.specs.declared.machine.Task.{Task}
 use Rattle.rehearsal.specs.declared.machine.Move.{Move}
@@ -9,10 +10,8 @@ use Rattle.rehearsal.specs.declared.machine.Move.TheVariants.{Return, Starve, Go
 use Rattle.rehearsal.specs.declared.machine.Turn.{Turn}
 use Rattle.rehearsal.specs.declared.machine.Turn.TheVariants.{Over, Returned, Starved}
 use Rattle.rehearsal.specs.declared.machine.Tally.{Tally}
-use Rattle.rehearsal.specs.declared.machine.Tallies.{Tallies}
-use Rattle.rehearsal.specs.declared.machine.Queue.{Queue}
 use Rattle.rehearsal.specs.declared.machine.Stage.{Stage}
-use Rattle.rehearsal.specs.Machine.{task_at, move_of}
+use Rattle.rehearsal.specs.Machine.{task_at, move_of, tasks_from}
 
 -- a word's move within a turn of which so many words ran, where `on` is the rest of the turn
 abbrev pub turned : Graph → ℕ → ℕ → ℕ → Move → (ℕ → ℕ → Turn) → Turn
@@ -27,100 +26,83 @@ turn_of g choices (suc room) p taken ran =
     turned g p taken ran (move_of choices taken (g.successors p))
     (λ to at. turn_of g choices room to at (ran + 1))
 
-abbrev pub tally_at : Tallies → ℕ → Tally
-tally_at b i = cond (eqb i 0) b.first (cond (eqb i 1) b.second (cond (eqb i 2) b.third b.fourth))
+-- so many words of the turn ran
+abbrev pub ran_of : Turn → ℕ
+ran_of (Over n p at) = n
+ran_of (Returned n at) = n
+ran_of (Starved n) = n
 
-unfoldable pub with_tally : Tallies → ℕ → Tally → Tallies
-with_tally b i t =
-    record {
-      first = cond (eqb i 0) t b.first;
-      second = cond (eqb i 1) t b.second;
-      third = cond (eqb i 2) t b.third;
-      fourth = cond (ltb 2 i) t b.fourth;
-    }
+-- the words since a turn ended with so many words left, now that `left` are: 0 if there was none
+abbrev pub waited : Option ℕ → ℕ → ℕ
+waited None left = 0
+waited (Some ended) left = ended - left
+
+-- a turn that ended, if there was one, left no fewer words
+abbrev pub NotBefore : ℕ → Option ℕ → Type 0
+NotBefore left None = Unit {0}
+NotBefore left (Some ended) = left ≤ ended
 
 -- the tally of a script that ran so many words, of those that were left. "a turn of no words is none"
 unfoldable pub noted_tally : Tally → ℕ → ℕ → Tally
 noted_tally t left ran =
     cond (eqb ran 0) t
-    (record {
-      turned = 1;
-      ended = left - ran;
-      longest = cond (ltb 0 t.turned) (max t.longest (t.ended - left)) t.longest;
-    })
+    (record { ended = Some (left - ran); longest = max t.longest (waited t.ended left) })
 
-unfoldable pub noted_tallies : Tallies → ℕ → ℕ → ℕ → Tallies
-noted_tallies b who left ran = with_tally b who (noted_tally (tally_at b who) left ran)
+abbrev pub new_tally : Tally
+new_tally = record { ended = None; longest = 0 }
 
-abbrev pub queued_tasks : Queue → List Task
-queued_tasks q = take q.size (q.a ∷ q.b ∷ q.c ∷ q.d ∷ [])
+abbrev pub tally_at : List Tally → ℕ → Tally
+tally_at b i = get_or b i new_tally
 
-unfoldable pub without_first : Queue → Queue
-without_first q = record { size = q.size - 1; a = q.b; b = q.c; c = q.d; d = q.d }
+unfoldable pub noted_tallies : List Tally → ℕ → ℕ → ℕ → List Tally
+noted_tallies b who left ran = set b who (noted_tally (tally_at b who) left ran)
 
--- the first leaves its place and goes to the end as s
-unfoldable pub to_the_end : Queue → Task → Queue
-to_the_end q s =
-    record {
-      size = q.size;
-      a = cond (eqb q.size 1) s q.b;
-      b = cond (eqb q.size 2) s q.c;
-      c = cond (eqb q.size 3) s q.d;
-      d = s;
-    }
+-- "when all have returned": the last that returns leaves no words to run
+abbrev pub left_for : List Task → ℕ → ℕ
+left_for [] left = 0
+left_for (s ∷ rest) left = left
 
--- a stage after a turn of its queue's first
-abbrev pub staged : Stage → Turn → Stage
+-- a stage after a turn of s, its queue's first, where `rest` comes after s
+abbrev pub staged : Stage → Task → List Task → Turn → Stage
 -- a choice is needed and none is left: no words are left to run
-staged st (Starved n) =
+staged st s rest (Starved n) =
     record {
-      queue = st.queue;
-      tallies = noted_tallies st.tallies st.queue.a.script st.left n;
+      queue = rest;
+      tallies = noted_tallies st.tallies s.script st.left n;
       left = 0;
       taken = st.taken;
     }
--- the last that returns leaves no words to run
-staged st (Returned n at) =
+staged st s rest (Returned n at) =
     record {
-      queue = without_first st.queue;
-      tallies = noted_tallies st.tallies st.queue.a.script st.left n;
-      left = cond (eqb st.queue.size 1) 0 (st.left - n);
+      queue = rest;
+      tallies = noted_tallies st.tallies s.script st.left n;
+      left = left_for rest (st.left - n);
       taken = at;
     }
-staged st (Over n p at) =
+staged st s rest (Over n p at) =
     record {
-      queue = to_the_end st.queue (task_at st.queue.a.script p);
-      tallies = noted_tallies st.tallies st.queue.a.script st.left n;
+      queue = rest ++ (task_at s.script p ∷ []);
+      tallies = noted_tallies st.tallies s.script st.left n;
       left = st.left - n;
       taken = at;
     }
 
 module _ (graphs : ℕ → Graph) (q : ℕ) (choices : List ℕ) where
-  abbrev pub first_turn : Stage → Turn
-  first_turn st =
-      turn_of (graphs st.queue.a.script) choices (min q st.left) st.queue.a.word st.taken 0
+  abbrev pub first_turn : Stage → Task → Turn
+  first_turn st s = turn_of (graphs s.script) choices (min q st.left) s.word st.taken 0
+
+  -- after a turn of the first of these tasks
+  abbrev pub stage_after : Stage → List Task → Stage
+  stage_after st [] = st
+  stage_after st (s ∷ rest) = staged st s rest (first_turn st s)
 
   unfoldable pub next_stage : Stage → Stage
-  next_stage st = staged st (first_turn st)
-
-abbrev pub new_tally : ℕ → Tally
-new_tally limit = record { turned = 0; ended = limit; longest = 0 }
+  next_stage st = stage_after st st.queue
 
 -- k scripts before anything ran
 unfoldable pub start_stage : ℕ → ℕ → Stage
 start_stage k limit =
-    record {
-      queue = record { size = k; a = task_at 0 0; b = task_at 1 0; c = task_at 2 0; d = task_at 3 0 };
-      tallies =
-          record {
-            first = new_tally limit;
-            second = new_tally limit;
-            third = new_tally limit;
-            fourth = new_tally limit;
-          };
-      left = limit;
-      taken = 0;
-    }
+    record { queue = tasks_from 0 k; tallies = replicate 4 new_tally; left = limit; taken = 0 }
 
 -- the tasks are of the four scripts
 abbrev pub TasksListed : List Task → Type 0
@@ -129,7 +111,8 @@ TasksListed (s ∷ ss) = (s.script < 4) × TasksListed ss
 
 -- what holds between two turns
 pub record Fine (st : Stage) : Type 0 where
-  pub some : 0 < st.left → 0 < st.queue.size
-  pub few : st.queue.size ≤ 4
-  pub tasks : TasksListed (queued_tasks st.queue)
-  pub ends : (i : ℕ) → i < 4 → st.left ≤ (tally_at st.tallies i).ended
+  pub some : 0 < st.left → 0 < length st.queue
+  pub few : length st.queue ≤ 4
+  pub tasks : TasksListed st.queue
+  pub four : length st.tallies ≡ 4
+  pub ends : (i : ℕ) → i < 4 → NotBefore st.left (tally_at st.tallies i).ended

@@ -2,7 +2,8 @@
 ghost use Rattle.std.specs.Prelude.{◌≡◌};
 ghost use Rattle.rehearsal.specs.Flat.{flat_rehearsal};
 
-use crate::answer::Rehearsal;
+use crate::rehearsing::Waits;
+use common::Refusal;
 
 // The refusal's number and place, or 0 and 0 and the longest wait of each script.
 #[repr(C)]
@@ -16,34 +17,28 @@ pub struct FlatRehearsal {
     pub fourth: u64,
 }
 
-pub fn flat_rehearsal(r: Rehearsal) -> FlatRehearsal
-    ensures { result ≡ flat_rehearsal r }
-{
-    match r {
-        Rehearsal::Rehearsed {
-            first,
-            second,
-            third,
-            fourth,
-        } => {
-            return FlatRehearsal {
+impl From<Result<Waits, Refusal>> for FlatRehearsal {
+    ghost from_gives = { λ rehearsal flat. flat ≡ flat_rehearsal rehearsal };
+
+    #[tactic(auto, unfolding(crate::specs::Flat::flat_rehearsal))]
+    fn from(rehearsal: Result<Waits, Refusal>) -> FlatRehearsal {
+        match rehearsal {
+            Ok(waits) => FlatRehearsal {
                 number: 0,
                 place: 0,
-                first: first as u64,
-                second: second as u64,
-                third: third as u64,
-                fourth: fourth as u64,
-            };
-        }
-        Rehearsal::Refused { number, place } => {
-            return FlatRehearsal {
-                number: number as u64,
-                place: place as u64,
+                first: u64::from(waits[0]),
+                second: u64::from(waits[1]),
+                third: u64::from(waits[2]),
+                fourth: u64::from(waits[3]),
+            },
+            Err(refusal) => FlatRehearsal {
+                number: u64::from(refusal.number()),
+                place: refusal.place() as u64,
                 first: 0,
                 second: 0,
                 third: 0,
                 fourth: 0,
-            };
+            },
         }
     }
 }

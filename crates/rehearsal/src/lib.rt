@@ -3,13 +3,12 @@
 #![tactic(auto)]
 
 mod acceptance;
-pub mod answer;
 pub mod c;
 pub mod machine;
+mod queue;
 pub mod rehearsing;
 mod rotation;
 mod tallies;
 mod turn;
 
-pub use answer::Rehearsal;
-pub use rehearsing::rehearse;
+pub use rehearsing::{Waits, rehearse};

@@ -1,5 +1,10 @@
 // What a rehearsal is made of: a script in the ready queue, what becomes of a word, what a turn comes
 // to, and the running numbers.
+ghost use Rattle.std.specs.Prelude.{◌≡◌};
+ghost use Rattle.rehearsal.specs.Running.{ran_of};
+
+use crate::queue::Queue;
+use common::limits::MOST_SCRIPTS;
 
 // A script that has not returned, and the word it is at.
 #[derive(Clone, Copy)]
@@ -20,7 +25,7 @@ pub enum Move {
 }
 
 // What a turn comes to, of which so many words ran.
-#[derive(Drop)]
+#[derive(Clone, Copy)]
 pub enum Turn {
     // It is over: the script is at a word, with so many choices used up.
     Over(u32, usize, usize),
@@ -30,39 +35,30 @@ pub enum Turn {
     Starved(u32),
 }
 
-// The running numbers of a script: 1 if it had a turn, else 0; the words that were left when its last one
-// ended; and its longest wait. A wait is then the difference of two numbers of words left, so that a turn
-// touches its own script's numbers only.
+impl Turn {
+    pub fn ran(self) -> u32
+        ensures { result ≡ ran_of self }
+    {
+        match self {
+            Turn::Over(ran, _, _) | Turn::Returned(ran, _) | Turn::Starved(ran) => ran,
+        }
+    }
+}
+
+// The running numbers of a script: the words that were left when its last turn ended, if it had one; and its
+// longest wait. A wait is then the difference of two numbers of words left, so that a turn touches its own
+// script's numbers only.
 #[derive(Clone, Copy)]
 pub struct Tally {
-    pub turned: u32,
-    pub ended: u32,
+    pub ended: Option<u32>,
     pub longest: u32,
-}
-
-#[derive(Clone, Copy)]
-pub struct Tallies {
-    pub first: Tally,
-    pub second: Tally,
-    pub third: Tally,
-    pub fourth: Tally,
-}
-
-// The ready queue: the scripts that have not returned, `size` of them. The first has the turn.
-#[derive(Clone, Copy)]
-pub struct Queue {
-    pub size: usize,
-    pub a: Task,
-    pub b: Task,
-    pub c: Task,
-    pub d: Task,
 }
 
 // A rehearsal between two turns. It is over when no words are left.
 #[derive(Drop)]
 pub struct Stage {
     pub queue: Queue,
-    pub tallies: Tallies,
+    pub tallies: [Tally; MOST_SCRIPTS],
     pub left: u32,
     pub taken: usize,
 }

@@ -3,11 +3,15 @@ ghost use Rattle.std.specs.Prelude.{◌≡◌};
 ghost use Rattle.rehearsal.specs.Rehearse.{rehearse_of, marks_left, lengths_left};
 
 use crate::acceptance::{accept, out_of_range};
-use crate::answer::Rehearsal;
 use crate::rotation::play;
-use common::numbers::{ACCEPTED, OUT_OF_RANGE};
+use common::Refusal;
+use common::limits::MOST_SCRIPTS;
+
+// The longest wait of each script; 0 for one that is not there.
+pub type Waits = [u32; MOST_SCRIPTS];
 
 // The longest wait of each of `count` scripts, or the first refusal that applies.
+// Kept: w0 to w3 apart, as the documents name them and C lends them (lawendeb_rehearse).
 pub fn rehearse(
     w0: &[u32],
     w1: &[u32],
@@ -19,7 +23,7 @@ pub fn rehearse(
     limit: u32,
     marks: &mut [u8],
     lengths: &mut [u32],
-) -> Rehearsal
+) -> Result<Waits, Refusal>
     ensures value { result ≡ rehearse_of w0.now w1.now w2.now w3.now
         count quantum choices.now limit marks.old lengths.old }
     ensures marks_after { marks.new
@@ -30,23 +34,9 @@ pub fn rehearse(
         choices.now limit marks.old lengths.old }
 {
     if out_of_range(count, quantum, choices) {
-        return Rehearsal::Refused {
-            number: OUT_OF_RANGE,
-            place: 0,
-        };
+        return Err(Refusal::OutOfRange);
     }
-    let a = accept(w0, w1, w2, w3, count, marks, lengths);
-    if a.number != ACCEPTED {
-        return Rehearsal::Refused {
-            number: a.number,
-            place: a.place,
-        };
-    }
-    let b = play(w0, w1, w2, w3, count, quantum, choices, limit);
-    Rehearsal::Rehearsed {
-        first: b.first.longest,
-        second: b.second.longest,
-        third: b.third.longest,
-        fourth: b.fourth.longest,
-    }
+    let scripts = [w0, w1, w2, w3];
+    accept(&scripts, count, marks, lengths)?;
+    Ok(play(&scripts, count, quantum, choices, limit))
 }

@@ -3,7 +3,7 @@ ghost use Rattle.std.specs.Prelude.{◌≡◌};
 ghost use Rattle.rehearsal.specs.Rehearse.{rehearse_of, marks_left, lengths_left};
 ghost use Rattle.rehearsal.specs.Flat.{flat_rehearsal};
 
-use rehearsal::c::{FlatRehearsal, flat_rehearsal};
+use rehearsal::c::FlatRehearsal;
 use rehearsal::rehearse;
 
 #[unsafe(no_mangle)]
@@ -28,7 +28,7 @@ pub extern "C" fn lawendeb_rehearse(
         ≡ lengths_left w0.now w1.now w2.now w3.now count quantum
         choices.now limit marks.old lengths.old }
 {
-    flat_rehearsal(rehearse(
+    FlatRehearsal::from(rehearse(
         w0, w1, w2, w3, count, quantum, choices, limit, marks, lengths,
     ))
 }

@@ -8,7 +8,6 @@ use native.Mathlib.Nat.{pos_of_ne-zero}
 use native.Mathlib.Omega.{arith}
 use borrow.Author.Tests.{eqb-true, eq-eqb, lt-ltb, le-ltb}
 use Rattle.common.specs.Limits.{most_words, heaviest_weight}
-use Rattle.common.specs.Numbers.{NO_WORDS, REACHES_INVALID}
 use Rattle.common.specs.Lowest.{lowest}
 use Rattle.common.proofs.Order.{split, same_or_not}
 use Rattle.common.proofs.Lowest.{lowest_laws}
@@ -19,10 +18,10 @@ use Rattle.graph.specs.Meaning.{Meaning}
 use Rattle.graph.proofs.Laws.{laws}
 use Rattle.graph.proofs.Meaning.{meaning}
 use Rattle.graph.proofs.Ceiling.{ceiling}
-use Rattle.runs.specs.declared.longest.Run.{Run}
-use Rattle.runs.specs.declared.longest.Run.TheVariants.{Accepted, Refused}
+use Rattle.std.specs.Prelude.{Err}
+use Rattle.common.specs.declared.refusal.Refusal.TheVariants.{NoWords, ReachesInvalid}
 use Rattle.runs.specs.Script.{Script, Sound, graph_of, weight_of}
-use Rattle.runs.specs.Run.{reaches_invalid, lowest_invalid, run_of}
+use Rattle.runs.specs.Run.{Run, accepted_run, reaches_invalid, lowest_invalid, run_of}
 use Rattle.runs.specs.Weights.{Weighs}
 use Rattle.runs.specs.Demand.{MeetsInvalidAt, MeetsInvalid, Passes, Demand}
 use Rattle.runs.proofs.Weights.{weight_laws}
@@ -77,7 +76,7 @@ module _ (ws : Script) (sound : Sound ws) (weights : List ℕ) (weighs : Weighs 
 
   -- Each number in turn.
 
-  none : ws.size ≡ 0 → Demand ws weights (Refused NO_WORDS 0)
+  none : ws.size ≡ 0 → Demand ws weights (Err NoWords)
   none z =
       let unmet-here : MeetsInvalid ws → ⊥ = λ m. omega (arith, inside m.met.reachable) in
       record {
@@ -93,7 +92,7 @@ module _ (ws : Script) (sound : Sound ws) (weights : List ℕ) (weighs : Weighs 
         ceiling = omega arith;
       }
 
-  invalid : lowest_invalid ws < ws.size → Demand ws weights (Refused REACHES_INVALID (lowest_invalid ws))
+  invalid : lowest_invalid ws < ws.size → Demand ws weights (Err (ReachesInvalid (lowest_invalid ws)))
   invalid h =
       let m : MeetsInvalid ws = record { word = lowest_invalid ws; met = met h } in
       record {
@@ -109,7 +108,7 @@ module _ (ws : Script) (sound : Sound ws) (weights : List ℕ) (weighs : Weighs 
         ceiling = omega arith;
       }
 
-  accepted : 0 < ws.size → ws.size ≤ lowest_invalid ws → Demand ws weights (Accepted (longest graph w) (first graph w))
+  accepted : 0 < ws.size → ws.size ≤ lowest_invalid ws → Demand ws weights (accepted_run (longest graph w) (first graph w))
   accepted some valid =
       record {
         refused = (λ k. absurd (omega arith), ⊎_elim (λ z. omega arith) (λ m. absurd (unmet valid m)));

@@ -29,5 +29,5 @@ entry_laws =
           λ ws weights m l few a b weighed some m' l' d.
           let o = outcome_words ws weights m l few a b weighed some d in
           (sym o.0, o.1.0, o.1.1);
-      refused = λ ws weights m l number place e u. (outcome_kept ws weights m l number e u).1;
+      refused = λ ws weights m l e r u. (outcome_kept ws weights m l e r u).1;
     }

@@ -7,6 +7,7 @@ pub mod Order
 pub mod Laws
 pub mod Masks
 pub mod Outcome
+pub mod Room
 pub mod Searched
 pub mod Slices
 pub mod Weights

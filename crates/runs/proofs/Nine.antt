@@ -10,12 +10,12 @@ use Rattle.common.specs.Limits.{most_words}
 use Rattle.graph.specs.Graph.{weigh}
 use Rattle.graph.specs.Longest.{longest, first}
 use Rattle.graph.proofs.Ceiling.{ceiling}
-use Rattle.runs.specs.declared.longest.Run.{Run}
-use Rattle.runs.specs.declared.longest.Run.TheVariants.{Accepted, Refused}
+use Rattle.std.specs.Prelude.{Err}
+use Rattle.common.specs.declared.refusal.Refusal.TheVariants.{TooManyWords, ShortSlice, NoWords, ReachesInvalid, WeightsRefused}
 use Rattle.sweep.specs.Steps.{unit_weight}
 use Rattle.runs.specs.Script.{Script, Sound, graph_of, weight_of}
 use Rattle.runs.specs.Weights.{refuses_weights, weights_place}
-use Rattle.runs.specs.Run.{number_of, longest_of, lowest_invalid, run_of}
+use Rattle.runs.specs.Run.{Run, accepted_run, number_of, longest_of, lowest_invalid, run_of}
 use Rattle.runs.specs.Counted.{ones}
 use Rattle.runs.proofs.Lawful.{lawful}
 use Rattle.runs.proofs.Counted.{ones_weigh}
@@ -23,11 +23,11 @@ use Rattle.runs.proofs.Counted.{ones_weigh}
 -- the chain of the run's checks, by its tests
 abbrev pub chain : Bool → Bool → Bool → Bool → Bool → ℕ → ℕ → ℕ → ℕ → Run
 chain a b c d e p q l f =
-    cond a (Refused 1 0) (cond b (Refused 6 0) (cond c (Refused 18 p) (cond d (Refused 7 0) (cond e (Refused 8 q) (Accepted l f)))))
+    cond a (Err TooManyWords) (cond b (Err ShortSlice) (cond c (Err (WeightsRefused p)) (cond d (Err NoWords) (cond e (Err (ReachesInvalid q)) (accepted_run l f)))))
 
-module _ (P : Run → Type 0) (p q l f : ℕ) (one : P (Refused 1 0)) (six : P (Refused 6 0))
-    (eighteen : P (Refused 18 p)) (seven : P (Refused 7 0)) (eight : P (Refused 8 q))
-    (accepted : P (Accepted l f)) where
+module _ (P : Run → Type 0) (p q l f : ℕ) (one : P (Err TooManyWords)) (six : P (Err ShortSlice))
+    (eighteen : P (Err (WeightsRefused p))) (seven : P (Err NoWords)) (eight : P (Err (ReachesInvalid q)))
+    (accepted : P (accepted_run l f)) where
   each : (a b c d e : Bool) → P (chain a b c d e p q l f)
   each true b c d e = one
   each false true c d e = six

@@ -1,13 +1,13 @@
 -- A script that is searched, and its lengths by a table of weights. Assumes nothing.
 use mathlib.Core.Path.{◌≡◌, refl, sym, ap, subst, ◌∙◌}
 use mathlib.Core.List.{List, ◌++◌, append-nil}
-use Prim.Native.Nat.{ℕ, ◌≤◌, ◌<◌}
+use Prim.Native.Nat.{ℕ}
 use lib.Dec.{eqb}
 use lib.ListN.{length, drop, replicate}
 use lib.Seq.{drop-length}
-use Rattle.common.specs.Numbers.{REACHES_INVALID}
 use Rattle.common.specs.Lists.{tabulate}
-use Rattle.common.specs.Lowest.{lowest_from}
+use Rattle.common.specs.Lowest.{lowest_from, found}
+use Rattle.common.proofs.Lowest.{is_found, not_found}
 use Rattle.common.proofs.Over.{over_laws}
 use Rattle.graph.specs.Graph.{Graph, Lawful}
 use Rattle.graph.specs.Marks.{mark_of}
@@ -15,9 +15,10 @@ use Rattle.graph.specs.Longest.{length_of, most}
 use Rattle.graph.specs.Laws.{Passing}
 use Rattle.graph.proofs.Laws.{laws}
 use Rattle.fields.specs.declared.version.Version.{Version}
-use Rattle.runs.specs.declared.longest.Run.TheVariants.{Accepted, Refused}
+use Rattle.std.specs.Prelude.{Option, Some, None, Err}
+use Rattle.common.specs.declared.refusal.Refusal.TheVariants.{ReachesInvalid}
 use Rattle.runs.specs.Script.{Script, script_of, graph_of, weight_of}
-use Rattle.runs.specs.Run.{lowest_invalid}
+use Rattle.runs.specs.Run.{accepted_run, lowest_invalid}
 use Rattle.sweep.specs.Entries.{entries, graph_in, Settled}
 use Rattle.sweep.specs.SearchInvariants.{Lent, Held, Marked, Marks}
 use Rattle.sweep.specs.PassInvariants.{Lengths, FillAsks, Fills, at}
@@ -65,7 +66,7 @@ module _ (version : Version) (words : List ℕ) where
     marks_are = over_laws.whole (mark_of (graph_of ws)) ws.size m s.lent.m_same s.marked
 
     -- and what it leaves, by a table of weights
-    module _ (weights : List ℕ) {l' : List ℕ} {i : ℕ} (f : Fills (weight_of ws weights) l l' i) (same : length l' ≡ length l) where
+    module _ (weights : List ℕ) {l' : List ℕ} {i : Option ℕ} (f : Fills (weight_of ws weights) l l' i) (same : length l' ≡ length l) where
       abbrev w : ℕ → ℕ
       w = weight_of ws weights
 
@@ -75,9 +76,12 @@ module _ (version : Version) (words : List ℕ) where
       each : Lengths (graph_of ws) w l'
       each = subst (λ (g : Graph). Lengths g w l') (graph_is l s.settled) f.lengths
 
-      lowest : i ≡ lowest_invalid ws
+      lowest : i ≡ found ws.size (lowest_invalid ws)
       unfolding lowest_invalid
-      lowest = f.lowest-invalid ∙ (sweep.laws).carries.lowest-invalid ws.size ws.steps (entries l) s.settled
+      lowest =
+          f.lowest-invalid
+          ∙ ap (found (length (entries l))) ((sweep.laws).carries.lowest-invalid ws.size ws.steps (entries l) s.settled)
+          ∙ ap (λ (n : ℕ). found n (lowest_invalid ws)) s.settled.same
 
       passing : Passing (graph_of ws) w
       passing = laws.passing (graph_of ws) law w
@@ -88,14 +92,14 @@ module _ (version : Version) (words : List ℕ) where
           let d : drop ws.size l' ≡ drop (length l') l' = ap (λ (n : ℕ). drop n l') (sym filled_length) in
           e ∙ ap (λ (x : List ℕ). replicate ws.size 0 ++ x) (d ∙ drop-length l') ∙ append-nil (replicate ws.size 0) ∙ over_laws.zeros 0 ws.size
 
-      pub measured_invalid : {c : List ℕ} → i < ws.size → c ≡ replicate ws.size 0 ++ drop ws.size l'
-          → Decided ws weights (Refused REACHES_INVALID i) m c
-      measured_invalid h e = decided_invalid ws weights marks_are lowest h (cleared e)
+      pub measured_invalid : {p : ℕ} {c : List ℕ} → i ≡ Some p → c ≡ replicate ws.size 0 ++ drop ws.size l'
+          → Decided ws weights (Err (ReachesInvalid p)) m c
+      measured_invalid h e = let q = is_found (sym h ∙ lowest) in decided_invalid ws weights marks_are q.0 q.1 (cleared e)
 
-      pub measured_accepted : {v a : ℕ} → ws.size ≤ i → v ≡ most (at l') ws.size → a ≡ lowest_from (λ p. eqb (at l' p) v) 0 ws.size
-          → Decided ws weights (Accepted v a) m l'
+      pub measured_accepted : {v a : ℕ} → i ≡ None → v ≡ most (at l') ws.size → a ≡ lowest_from (λ p. eqb (at l' p) v) 0 ws.size
+          → Decided ws weights (accepted_run v a) m l'
       measured_accepted {v} h e d =
           let found = e ∙ passing.longest_found (at l') each in
-          decided_accepted ws weights marks_are (subst (λ (x : ℕ). ws.size ≤ x) lowest h) found
+          decided_accepted ws weights marks_are (not_found (sym h ∙ lowest)) found
           (d ∙ ap (λ (x : ℕ). lowest_from (λ p. eqb (at l' p) x) 0 ws.size) found ∙ passing.first_found (at l') each)
           (over_laws.whole (length_of (graph_of ws) w) ws.size l' filled_length each)

@@ -6,11 +6,14 @@ use mathlib.Core.List.{List}
 use Prim.Native.Nat.{ℕ, ◌+◌, ◌≤◌, ◌<◌}
 use native.Mathlib.Omega.{arith}
 use borrow.Author.Tests.{eqb-true, eqb-false, eq-eqb, ne_eqb, lt-ltb, le-ltb, ltb-false, not-false}
+use Rattle.std.specs.Prelude.{nat_eq}
+use Rattle.std.specs.List.{position, position_or_len}
+use Rattle.std.specs.Option.{unwrap_or}
 use lib.Dec.{ltb, eqb}
 use lib.ListN.{length, get_or}
 use Rattle.common.proofs.Tests.{neither}
 use Rattle.common.specs.Lowest.{lowest_from}
-use Rattle.common.proofs.Lowest.{lowest_laws}
+use Rattle.common.proofs.Lowest.{lowest_laws, first_item}
 use Rattle.common.proofs.Order.{split, same_or_not}
 use Rattle.runs.specs.Weights.{weight_count, is_zero_at, lowest_zero, refuses_weights, weights_place}
 use Rattle.runs.specs.Laws.{Weighing}
@@ -77,9 +80,13 @@ module _ (weights : List ℕ) where
   unfolding weights_place
   place_count n = simp (ne_eqb (length weights) weight_count n)
 
-  pub place_zero : {i : ℕ} → length weights ≡ weight_count → i ≡ zero_from weights → i ≡ weights_place weights
+  pub place_found : {i : ℕ} → length weights ≡ weight_count → i ≡ unwrap_or (position (λ x. nat_eq x 0) weights) weight_count → i ≡ weights_place weights
   unfolding weights_place lowest_zero
-  place_zero e d = d ∙ simp (eq-eqb (length weights) weight_count e)
+  place_found {i} e d =
+      let f : position_or_len (λ x. nat_eq x 0) weights ≡ zero_from weights = first_item (λ x. nat_eq x 0) weights 0 ∙ ap (lowest_from (is_zero_at weights) 0) e in
+      d ∙ rw (e, f)
+      (⊎_elim (λ h. rw (le-ltb (zero_from weights) weight_count h) (omega (arith, h, (lowest_laws.first (is_zero_at weights) 0 weight_count).upto)))
+      (λ h. rw (lt-ltb (zero_from weights) weight_count h)) (split weight_count (zero_from weights)))
 
 pub weight_laws : (weights : List ℕ) → refuses_weights weights ≡ false → Weighing weights
 unfolding refuses_weights lowest_zero

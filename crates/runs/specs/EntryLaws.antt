@@ -2,10 +2,11 @@
 -- crate `sweep`: what the search leaves, and what the outcome of a run in the first parts of two slices is
 -- for the whole. proofs/EntryLaws.antt proves `EntryLaws`, and `Laws` has it.
 -- Assumes nothing.
-use Rattle.std.specs.Prelude.{◌≡◌, true, false, List, ◌++◌, ℕ, ◌≤◌, ◌<◌, length, drop}
+use Rattle.std.specs.Prelude.{◌≡◌, true, false, List, ◌++◌, ℕ, ◌≤◌, ◌<◌, length, drop, Err}
 use Rattle.common.specs.Limits.{most_words}
+use Rattle.common.specs.declared.refusal.Refusal.{Refusal}
+use Rattle.common.specs.Refusals.{refusal_number}
 use Rattle.fields.specs.declared.version.Version.{Version}
-use Rattle.runs.specs.declared.longest.Run.TheVariants.{Refused}
 use Rattle.runs.specs.Script.{Script, script_of, graph_of}
 use Rattle.runs.specs.Weights.{refuses_weights}
 use Rattle.runs.specs.Run.{run_of, untouched, lowest_invalid, marks_after, lengths_after}
@@ -32,6 +33,6 @@ pub record EntryLaws : Type 0 where
       × (l' ++ drop ws.size l ≡ lengths_after ws weights m l)
   -- a refusal that comes before the search leaves the slices
   pub refused :
-      (ws : Script) (weights m l : List ℕ) (number place : ℕ)
-      → run_of ws weights (length m) (length l) ≡ Refused number place → untouched number ≡ true
+      (ws : Script) (weights m l : List ℕ) (e : Refusal)
+      → run_of ws weights (length m) (length l) ≡ Err e → untouched (refusal_number e) ≡ true
       → (m ≡ marks_after ws weights m l) × (l ≡ lengths_after ws weights m l)

@@ -4,10 +4,9 @@
 -- for any script, weights and slices.
 -- Assumes nothing.
 use Rattle.std.specs.Prelude.{◌≡◌, ◌↔◌, ◌⊎◌, true, false, List, ℕ, ◌≤◌, ◌<◌, length, get_or}
-use Rattle.runs.specs.declared.longest.Run.{Run}
 use Rattle.runs.specs.Script.{Script}
 use Rattle.runs.specs.Weights.{refuses_weights, weights_place}
-use Rattle.runs.specs.Run.{run_of, number_of, place_of}
+use Rattle.runs.specs.Run.{Run, run_of, number_of, place_of}
 
 -- a weight of 0 at i
 abbrev pub ZeroAt : List ℕ → ℕ → Type 0

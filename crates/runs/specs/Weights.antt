@@ -1,8 +1,12 @@
 -- Request C-17, "A weight for every opcode": the table that the caller lends. No word is read here.
 -- Assumes nothing.
 use Rattle.std.specs.Prelude.{◌≡◌, Bool, false, cond, not, ◌||◌, List, ℕ, ◌≤◌, ltb, eqb, length, get_or}
+use Rattle.std.specs.Prelude.{Result, Ok, Err, ⊤}
 use Rattle.common.specs.Lowest.{lowest_from}
 use Rattle.common.specs.Limits.{heaviest_weight}
+use Rattle.common.specs.Chain.{refuse_if}
+use Rattle.common.specs.declared.refusal.Refusal.{Refusal}
+use Rattle.common.specs.declared.refusal.Refusal.TheVariants.{WeightsRefused}
 
 -- "128 weights of 1 to 255"
 abbrev pub weight_count : ℕ
@@ -23,6 +27,11 @@ refuses_weights weights = not (eqb (length weights) weight_count) || ltb (lowest
 -- "the place is the lowest zero weight, or 0 for the count"
 unfoldable pub weights_place : List ℕ → ℕ
 weights_place weights = cond (eqb (length weights) weight_count) (lowest_zero weights) 0
+
+-- both: what number 18's check answers
+unfoldable pub weights_answer : List ℕ → Result ⊤ Refusal
+weights_answer weights =
+    refuse_if (refuses_weights weights) (Err (WeightsRefused (weights_place weights))) (Ok tt)
 
 -- a table that number 18 lets through, of bytes as every lent one is
 pub record Weighs (weights : List ℕ) : Type 0 where

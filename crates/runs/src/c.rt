@@ -3,7 +3,8 @@
 ghost use Rattle.std.specs.Prelude.{◌≡◌};
 ghost use Rattle.runs.specs.Flat.{flat_successors, flat_run};
 
-use crate::longest::Run;
+use crate::longest::Longest;
+use common::Refusal;
 use sweep::edges::Successors;
 
 #[repr(C)]
@@ -23,48 +24,41 @@ pub struct FlatRun {
     pub first: u64,
 }
 
-pub fn flat_successors(s: Successors) -> FlatSuccessors
-    ensures { result ≡ flat_successors s }
-{
-    match s {
-        Successors::Invalid => FlatSuccessors {
-            kind: 0,
-            first: 0,
-            second: 0,
-        },
-        Successors::Stop => FlatSuccessors {
-            kind: 1,
-            first: 0,
-            second: 0,
-        },
-        Successors::One(q) => FlatSuccessors {
-            kind: 2,
-            first: q as u64,
-            second: 0,
-        },
-        Successors::Two(q, r) => FlatSuccessors {
-            kind: 3,
-            first: q as u64,
-            second: r as u64,
-        },
+impl From<Successors> for FlatSuccessors {
+    ghost from_gives = { λ s flat. flat ≡ flat_successors s };
+
+    fn from(s: Successors) -> FlatSuccessors {
+        let (kind, first, second) = match s {
+            Successors::Invalid => (0, 0, 0),
+            Successors::Stop => (1, 0, 0),
+            Successors::One(q) => (2, q, 0),
+            Successors::Two(q, r) => (3, q, r),
+        };
+        FlatSuccessors {
+            kind,
+            first: first as u64,
+            second: second as u64,
+        }
     }
 }
 
-pub fn flat_run(run: Run) -> FlatRun
-    ensures { result ≡ flat_run run }
-{
-    match run {
-        Run::Accepted { longest, first } => FlatRun {
-            number: 0,
-            place: 0,
-            longest: longest as u64,
-            first: first as u64,
-        },
-        Run::Refused { number, place } => FlatRun {
-            number: number as u64,
-            place: place as u64,
-            longest: 0,
-            first: 0,
-        },
+impl From<Result<Longest, Refusal>> for FlatRun {
+    ghost from_gives = { λ run flat. flat ≡ flat_run run };
+
+    fn from(run: Result<Longest, Refusal>) -> FlatRun {
+        match run {
+            Ok(Longest { longest, first }) => FlatRun {
+                number: 0,
+                place: 0,
+                longest: u64::from(longest),
+                first: first as u64,
+            },
+            Err(refusal) => FlatRun {
+                number: u64::from(refusal.number()),
+                place: refusal.place() as u64,
+                longest: 0,
+                first: 0,
+            },
+        }
     }
 }

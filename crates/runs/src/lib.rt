@@ -7,4 +7,4 @@ pub mod longest;
 pub mod script;
 pub mod weighing;
 
-pub use longest::{Run, longest_run};
+pub use longest::{Longest, longest_run};

@@ -7,17 +7,17 @@ ghost use Rattle.runs.specs.Outcome.{Searched, Decided};
 ghost use Rattle.runs.specs.Weights.{weight_count};
 
 use crate::script::{settle_script, slot_mask};
-use crate::weighing::{refuses_weights, weights_place};
-use common::numbers::*;
-use common::sizes::room_refusal;
-use common::widths::smaller_size;
+use crate::weighing::check_weights;
+use common::Refusal;
+use common::sizes::check_room;
 use fields::version::Version;
 use sweep::inner::{clear_lengths, fill_lengths, find_first, find_longest, mark_reachable};
 
-#[derive(Drop)]
-pub enum Run {
-    Accepted { longest: u32, first: usize },
-    Refused { number: u8, place: usize },
+// L, and the lowest word at which such a segment begins.
+#[derive(Clone, Copy, Debug, PartialEq, Eq)]
+pub struct Longest {
+    pub longest: u32,
+    pub first: usize,
 }
 
 // The entries of the words, in the lengths, which end searched, and the marks.
@@ -37,7 +37,7 @@ pub fn measure_run(
     weights: &[u8],
     marks: &[u8],
     lengths: &mut [u32],
-) -> Run
+) -> Result<Longest, Refusal>
     requires { Searched (script_of version words.now) marks.now lengths.old
         × (length weights.now ≡ weight_count) }
     ensures { Decided (script_of version words.now) weights.now result
@@ -45,16 +45,13 @@ pub fn measure_run(
 {
     let n = words.len();
     let invalid = fill_lengths(slot_mask(version), words, weights, marks, lengths);
-    if invalid < n {
+    if let Some(place) = invalid {
         clear_lengths(lengths, n);
-        return Run::Refused {
-            number: REACHES_INVALID,
-            place: invalid,
-        };
+        return Err(Refusal::ReachesInvalid(place));
     }
     let longest = find_longest(lengths, n);
     let first = find_first(lengths, n, longest);
-    Run::Accepted { longest, first }
+    Ok(Longest { longest, first })
 }
 
 // The run of words that pass the checks of their number and of the slices.
@@ -64,7 +61,7 @@ fn run_of_words(
     weights: &[u8],
     marks: &mut [u8],
     lengths: &mut [u32],
-) -> Run
+) -> Result<Longest, Refusal>
     requires { Lent (length words.now) marks.old lengths.old
         × (length weights.now ≡ weight_count) }
     ensures { Decided (script_of version words.now) weights.now result
@@ -82,7 +79,7 @@ pub fn longest_run(
     weights: &[u8],
     marks: &mut [u8],
     lengths: &mut [u32],
-) -> Run
+) -> Result<Longest, Refusal>
     ensures value { result ≡ run_of (script_of version words.now) weights.now
         (length marks.old) (length lengths.old) }
     ensures marks_after { marks.new ≡ marks_after (script_of version words.now)
@@ -91,21 +88,10 @@ pub fn longest_run(
         weights.now marks.old lengths.old }
 {
     let n = words.len();
-    let number = room_refusal(n, smaller_size(marks.len(), lengths.len()));
-    if number != ACCEPTED {
-        return Run::Refused { number, place: 0 };
-    }
-    if refuses_weights(weights) {
-        return Run::Refused {
-            number: WEIGHTS_REFUSED,
-            place: weights_place(weights),
-        };
-    }
+    check_room(n, marks.len().min(lengths.len()))?;
+    check_weights(weights)?;
     if n == 0 {
-        return Run::Refused {
-            number: NO_WORDS,
-            place: 0,
-        };
+        return Err(Refusal::NoWords);
     }
     run_of_words(version, words, weights, &mut marks[..n], &mut lengths[..n])
 }

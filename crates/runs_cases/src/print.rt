@@ -1,61 +1,45 @@
 // What the cases print.
-use print_cases::{bytes, number, numbers};
+use common::Refusal;
 pub use print_cases::{end, text};
-use ranges::RunRange;
-use runs::Run;
+use print_cases::{number, numbers, refusal};
+use ranges::LongestRange;
+use runs::Longest;
 use std::io::Stdout;
 use sweep::edges::Successors;
 
+fn longest(out: Stdout, l: Longest) {
+    number(out, l.longest);
+    number(out, l.first as u64);
+}
+
 // The number, then L and first, or the place.
-pub fn answer(out: Stdout, run: Run) {
+pub fn answer(out: Stdout, run: Result<Longest, Refusal>) {
     match run {
-        Run::Accepted { longest, first } => {
+        Ok(l) => {
             text(out, b" accepted");
-            number(out, longest as u64);
-            number(out, first as u64);
+            longest(out, l);
         }
-        Run::Refused { number: k, place } => {
-            text(out, b" refused");
-            number(out, k as u64);
-            number(out, place as u64);
-        }
+        Err(e) => refusal(out, e),
     }
 }
 
 // The number, then L and first of both tables, or the place.
-pub fn range(out: Stdout, runs: RunRange) {
+pub fn range(out: Stdout, runs: Result<LongestRange, Refusal>) {
     match runs {
-        RunRange::Accepted {
-            low_longest,
-            low_first,
-            high_longest,
-            high_first,
-        } => {
+        Ok(both) => {
             text(out, b" accepted");
-            number(out, low_longest as u64);
-            number(out, low_first as u64);
-            number(out, high_longest as u64);
-            number(out, high_first as u64);
+            longest(out, both.low);
+            longest(out, both.high);
         }
-        RunRange::Refused { number: k, place } => {
-            text(out, b" refused");
-            number(out, k as u64);
-            number(out, place as u64);
-        }
+        Err(e) => refusal(out, e),
     }
 }
 
 pub fn steps(out: Stdout, s: Successors) {
     match s {
-        Successors::Invalid => {
-            text(out, b" bad");
-        }
-        Successors::Stop => {
-            text(out, b" none");
-        }
-        Successors::One(a) => {
-            number(out, a as u64);
-        }
+        Successors::Invalid => text(out, b" bad"),
+        Successors::Stop => text(out, b" none"),
+        Successors::One(a) => number(out, a as u64),
         Successors::Two(a, b) => {
             number(out, a as u64);
             number(out, b as u64);
@@ -65,7 +49,7 @@ pub fn steps(out: Stdout, s: Successors) {
 
 pub fn slices(out: Stdout, marks: &[u8], lengths: &[u32]) {
     text(out, b" marks");
-    bytes(out, marks);
+    numbers(out, marks);
     text(out, b" lengths");
     numbers(out, lengths);
 }

@@ -6,10 +6,9 @@ use mathlib.Core.List.{List, [], ◌∷◌}
 use Prim.Native.Nat.{ℕ, ◌+◌, ◌/◌, ◌%◌, ◌≤◌, ◌<◌}
 use native.Mathlib.Numerals.{add-one}
 use native.Mathlib.Omega.{arith}
-use borrow.Author.Tests.{lt-ltb, le-ltb, ltb-false, eq-eqb, ne_eqb}
+use borrow.Author.Tests.{le-ltb, ltb-false, eq-eqb, ne_eqb}
 use lib.Dec.{ltb, eqb}
 use lib.ListN.{length, get_or, length-append}
-use Rattle.common.specs.Limits.{most_words}
 use Rattle.common.proofs.Order.{split, same_or_not}
 use Rattle.graph.specs.Graph.{Graph}
 use Rattle.graph.specs.Marks.{mark_of}
@@ -24,17 +23,8 @@ use Rattle.service.proofs.Near.{entering}
 
 -- one edge
 module _ (w p q : ℕ) where
-  pub forward : p < w → w < q → ◌≡◌ {A = ℕ} 1 (cond (crosses w p q) 1 0)
-  forward a b = rw (lt-ltb p w a, lt-ltb w q b)
-
   pub not_past : p < w → q ≤ w → ◌≡◌ {A = ℕ} 0 (cond (crosses w p q) 1 0)
   not_past a b = rw (le-ltb w q b, and-false, le-ltb w p (omega arith), and-false)
-
-  pub back : w ≤ p → q < w → w < p → ◌≡◌ {A = ℕ} 1 (cond (crosses w p q) 1 0)
-  back a b d = rw (le-ltb p w a, lt-ltb q w b, lt-ltb w p d)
-
-  pub from_itself : w ≤ p → p ≤ w → ◌≡◌ {A = ℕ} 0 (cond (crosses w p q) 1 0)
-  from_itself a b = rw (le-ltb p w a, le-ltb w p b, and-false)
 
   pub not_back : w ≤ p → w ≤ q → ◌≡◌ {A = ℕ} 0 (cond (crosses w p q) 1 0)
   not_back a b = rw (le-ltb p w a, le-ltb q w b)
@@ -115,9 +105,6 @@ module _ (w p : ℕ) where
 
 -- the words are not too many, and each has a mark
 module _ (m l : List ℕ) (a : FillAsks m l) where
-  pub words_few : length l ≤ most_words
-  words_few = omega (arith, a.held.lent.few, entering.as_long l)
-
   pub marks_long : length m ≡ length l
   marks_long = a.held.lent.m_same ∙ entering.as_long l
 

@@ -9,8 +9,9 @@ use lib.Dec.{ltb, leb, eqb}
 use lib.ListN.{length, get_or, drop}
 use borrow.Author.Tests.{lt-ltb, le-ltb, leb-true, le-leb, eqb-true, eq-eqb}
 use Rattle.common.specs.Limits.{most_words}
-use Rattle.common.specs.Numbers.{TOO_MANY_WORDS}
-use Rattle.common.specs.Chain.{refuse_if, answer, accepted}
+use Rattle.std.specs.Prelude.{Ok, Err}
+use Rattle.common.specs.declared.refusal.Refusal.{Refusal}
+use Rattle.common.specs.Chain.{refuse_if}
 use Rattle.common.specs.Lists.{over}
 use Rattle.common.proofs.Order.{split}
 use Rattle.common.proofs.Over.{over_laws}
@@ -18,12 +19,10 @@ use Rattle.graph.specs.Marks.{mark_of}
 use Rattle.graph.specs.Distance.{distance_of}
 use Rattle.graph.proofs.Distance.{distances}
 use Rattle.runs.specs.Script.{Script, Sound, graph_of}
-use Rattle.runs.specs.declared.longest.Run.{Run}
-use Rattle.runs.specs.Run.{number_of, marks_after, lengths_after}
+use Rattle.runs.specs.Run.{Run, number_of, marks_after, lengths_after}
 use Rattle.runs.specs.Counted.{ones}
 use Rattle.runs.proofs.Laws.{laws}
-use Rattle.service.specs.Questions.{unit_run, within_mark, listed_at, within_of, marks_within, lengths_within, list_by, list_within}
-use Rattle.service.specs.Pass.{answer_by}
+use Rattle.service.specs.Questions.{unit_run, answer_by, within_mark, listed_at, within_of, marks_within, lengths_within, list_by, list_within}
 use Rattle.service.specs.Nearest.{AcceptedRun}
 use Rattle.service.specs.ListedWords.{IsWithin, WordsListed, ListWithin}
 use Rattle.service.proofs.Sizes.{run_many}
@@ -61,7 +60,7 @@ module _ (ws : Script) (sound : Sound ws) (d : ℕ) (m l list : List ℕ) where
     few : ws.size ≤ most_words
     few = (laws.enough ws ones (length m) (length l) (ap number_of r.run)).few
 
-    answer_is : within_of ws (length m) (length l) (length list) ≡ accepted
+    answer_is : within_of ws (length m) (length l) (length list) ≡ Ok tt
     answer_is = sym (by_run few long).0 ∙ ap answer_by r.run
 
     list_is : list_within ws d m l list ≡ over (listed_at (graph_of ws) d) ws.size list
@@ -108,15 +107,13 @@ module _ (ws : Script) (sound : Sound ws) (d : ℕ) (m l list : List ℕ) where
               };
         }
 
-  refusal : ws.size ≤ length list → (n p : ℕ) → unit_run ws (length m) (length l) ≡ Run.Refused n p
-      → within_of ws (length m) (length l) (length list) ≡ answer n p
-  refusal long n p e = ⊎_elim (λ few. sym (by_run few long).0 ∙ ap answer_by e) (λ h. of_many h) (split ws.size most_words)
+  refusal : ws.size ≤ length list → (k : Refusal) → unit_run ws (length m) (length l) ≡ Err k
+      → within_of ws (length m) (length l) (length list) ≡ Err k
+  refusal long k e = ⊎_elim (λ few. sym (by_run few long).0 ∙ ap answer_by e) (λ h. of_many h) (split ws.size most_words)
     where
-      of_many : most_words < ws.size → within_of ws (length m) (length l) (length list) ≡ answer n p
+      of_many : most_words < ws.size → within_of ws (length m) (length l) (length list) ≡ Err k
       of_many h =
-          let z : Run.Refused TOO_MANY_WORDS 0
-          ≡ Run.Refused n p = sym (run_many ws (length m) (length l) h) ∙ e in
-          sym (within_many ws d m l list h).0 ∙ (cc)
+          sym (within_many ws d m l list h).0 ∙ ap answer_by (sym (run_many ws (length m) (length l) h) ∙ e)
 
   marks_run : ws.size ≤ length list → marks_within ws m l list ≡ marks_after ws ones m l
   unfolding marks_within
@@ -126,9 +123,9 @@ module _ (ws : Script) (sound : Sound ws) (d : ℕ) (m l list : List ℕ) where
   unfolding lengths_within
   lengths_run h = rw (le-ltb (length list) ws.size h)
 
-  untouched : (n p : ℕ) → unit_run ws (length m) (length l) ≡ Run.Refused n p → list_within ws d m l list ≡ list
+  untouched : (k : Refusal) → unit_run ws (length m) (length l) ≡ Err k → list_within ws d m l list ≡ list
   unfolding list_within
-  untouched n p e = rw e (go (ltb (length list) ws.size))
+  untouched k e = rw e (go (ltb (length list) ws.size))
     where
       go : (t : Bool) → refuse_if t list list ≡ list
       go true = refl

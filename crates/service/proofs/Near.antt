@@ -3,7 +3,7 @@ use mathlib.Core.Path.{◌≡◌, refl, sym, ap, subst, ◌∙◌}
 use mathlib.Core.Logic.{inl, inr, ⊎_elim}
 use mathlib.Core.Bool.{true, false, cond}
 use mathlib.Core.List.{List}
-use Prim.Native.Nat.{ℕ, ◌+◌, ◌*◌, ◌/◌, ◌%◌, ◌≤◌, ◌<◌, min}
+use Prim.Native.Nat.{ℕ, ◌+◌, ◌-◌, ◌*◌, ◌/◌, ◌%◌, ◌≤◌, ◌<◌, min}
 use native.Mathlib.Omega.{arith}
 use borrow.Author.Tests.{lt-ltb, le-ltb, lt-leb, leb-true}
 use lib.ListN.{length, get_or, set, get_or-eq_default}
@@ -19,7 +19,7 @@ use Rattle.sweep.specs.Steps.{list_of, ordered, serves_of}
 use Rattle.sweep.specs.Entries.{«TARGETS», «ENTRIES», entry_at, entries, graph_in}
 use Rattle.sweep.specs.Laws.{Laws}
 use Rattle.sweep.proofs.Laws.{laws}
-use Rattle.service.specs.Pass.{noted, Nearing, Holds, Notes}
+use Rattle.service.specs.Pass.{noted, Nearing, Holds}
 
 -- the laws of settled entries
 abbrev pub entering : Laws
@@ -125,14 +125,6 @@ module _ (l : List ℕ) (p : ℕ) (steps : (q : ℕ) → In q (list_of (entry_at
       both : (entry l p / «TARGETS» ≡ 2 → ⊥) → In (target l p) (list_of (entry_at (entry l p) p))
       both z = subst (λ (s : Successors). In (target l p) (list_of s)) (sym ((entering.kinds (entry l p) p).both x y z)) (ordered_has (p + 1) (target l p))
 
--- what is noted above a word is low
-module _ (l : List ℕ) (p a : ℕ) (n : Nearing l p a) where
-  pub next_low : a < most_words
-  next_low = let h = n.low (p + 1) (omega arith) in omega (arith, n.next)
-
-  pub target_low : serves_of p (target l p) ≡ false → get_or l (target l p) 0 / «ENTRIES» < most_words
-  target_low e = n.low (target l p) (laws.forward p (target l p) e)
-
 -- the distances of the words from k on are noted in l, which was l₀, and a is that of word k
 pub record Noting (l₀ l : List ℕ) (k a : ℕ) : Type 0 where
   pub holds : Holds l₀
@@ -145,15 +137,9 @@ pub same_length : (l₀ l : List ℕ) → entries l ≡ entries l₀ → length 
 same_length l₀ l e = sym (entering.as_long l) ∙ ap length e ∙ entering.as_long l₀
 
 module _ (l₀ : List ℕ) where
-  pub noting_none : Holds l₀ → Noting l₀ l₀ (length l₀) 0
-  noting_none h =
-      record {
-        holds = h;
-        kept = refl;
-        upto = omega arith;
-        from = λ q a b. absurd (omega arith);
-        next = ap (λ (x : ℕ). x / «ENTRIES») (sym (get_or-eq_default l₀ 0 (omega arith)));
-      }
+  -- a turn's word is the one below
+  pub noting_turn : {l : List ℕ} {i a : ℕ} → Noting l₀ l i a → 0 < i → Noting l₀ l (i - 1 + 1) a
+  noting_turn {l} {i} {a} f h = let e : i ≡ i - 1 + 1 = omega arith in subst (λ (x : ℕ). Noting l₀ l x a) e f
 
   module _ {l : List ℕ} (p : ℕ) {a : ℕ} (f : Noting l₀ l (p + 1) a) where
     long : length l ≡ length l₀
@@ -230,6 +216,3 @@ module _ (l₀ : List ℕ) where
 
         above : (q : ℕ) → p ≤ q → (q ≡ p → ⊥) → p + 1 ≤ q
         above q x n = omega arith
-
-  pub noting_done : {l : List ℕ} {k a from : ℕ} → Noting l₀ l k a → k ≤ from → Notes from l₀ l
-  noting_done f h = record { kept = f.kept; each = λ q x y. f.from q (omega arith) y }

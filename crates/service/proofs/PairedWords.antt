@@ -11,10 +11,11 @@ use lib.ListN.{length, get_or, set, length-set, get_or-eq_default}
 use lib.Seq.{get_or-set_same, get_or-set_other, drop-length}
 use Rattle.common.specs.Limits.{most_words}
 use Rattle.common.specs.Lists.{tabulate, over}
-use Rattle.common.specs.Lowest.{lowest_from}
+use Rattle.std.specs.Prelude.{Option, Some, None}
+use Rattle.common.specs.Lowest.{lowest_from, found}
 use Rattle.common.proofs.Order.{split, same_or_not, past, one_of, bit}
 use Rattle.common.proofs.Stores.{at_set}
-use Rattle.common.proofs.Lowest.{lowest_laws}
+use Rattle.common.proofs.Lowest.{lowest_laws, nothing_found, found_first}
 use Rattle.graph.specs.Graph.{Graph, In, Lawful}
 use Rattle.graph.specs.Marks.{mark_of}
 use Rattle.graph.specs.Longest.{best, length_of}
@@ -26,20 +27,20 @@ use Rattle.sweep.specs.declared.edges.Successors.{Successors}
 use Rattle.sweep.specs.declared.edges.Successors.TheVariants.{One, Two}
 use Rattle.sweep.specs.Steps.{list_of, is_invalid, ordered, serves_of, unit_weight}
 use Rattle.sweep.specs.Entries.{«ENTRIES», entry_at, entries, entry_steps, graph_in, invalid_by}
-use Rattle.sweep.specs.PassInvariants.{FillAsks, steps_in, invalid_from}
+use Rattle.sweep.specs.PassInvariants.{FillAsks, steps_in}
 use Rattle.service.specs.Questions.{listed_at}
-use Rattle.service.specs.Pairs.{«LENGTHS», distance_in, paired_length, pair_at, pair_by, Pairing, Paired, Pairs, listed_by}
+use Rattle.service.specs.Pairs.{«LENGTHS», distance_in, paired_length, pair_at, pair_by, Pairing, invalid_from, Paired, Pairs, listed_by}
 use Rattle.service.proofs.Near.{entering, going, in_order_one, in_order_up, in_order_down}
 
 -- two steps are no invalid word's
-pub both_valid : (q r p i : ℕ) → i ≡ cond (is_invalid (ordered q r)) p i
+pub both_valid : (q r p : ℕ) (i : Option ℕ) → i ≡ cond (is_invalid (ordered q r)) (Some p) i
 both_valid q r p i =
     ⊎_elim
     (λ a. ⊎_elim
-    (λ b. ap (λ (s : Successors). cond (is_invalid s) p i) (sym (in_order_one q r a b)))
-    (λ b. ap (λ (s : Successors). cond (is_invalid s) p i) (sym (in_order_down q r b)))
+    (λ b. ap (λ (s : Successors). cond (is_invalid s) (Some p) i) (sym (in_order_one q r a b)))
+    (λ b. ap (λ (s : Successors). cond (is_invalid s) (Some p) i) (sym (in_order_down q r b)))
     (split q r))
-    (λ a. ap (λ (s : Successors). cond (is_invalid s) p i) (sym (in_order_up q r a)))
+    (λ a. ap (λ (s : Successors). cond (is_invalid s) (Some p) i) (sym (in_order_up q r a)))
     (split r q)
 
 -- the pair of word p by its steps
@@ -92,20 +93,14 @@ module _ (l : List ℕ) (p : ℕ) where
           (split t p)
 
 -- a word paired
-module _ (m l : List ℕ) (p i : ℕ) where
-  pub paired_none : get_or m p 0 ≡ 0 → Paired m l p i 0 i
-  paired_none e = record { pair_is = λ es. simp (eq-eqb (get_or m p 0) 0 e); invalid_is = simp (eq-eqb (get_or m p 0) 0 e) }
-
-  pub paired_by : (get_or m p 0 ≡ 0 → ⊥) → {s : Successors} {v i' : ℕ} → steps_in l p ≡ s
-      → ((es : List ℕ) → v ≡ pair_by es l p (list_of s)) → i' ≡ cond (is_invalid s) p i
+module _ (m l : List ℕ) (p : ℕ) (i : Option ℕ) where
+  pub paired_by : (get_or m p 0 ≡ 0 → ⊥) → {s : Successors} {v : ℕ} {i' : Option ℕ} → steps_in l p ≡ s
+      → ((es : List ℕ) → v ≡ pair_by es l p (list_of s)) → i' ≡ cond (is_invalid s) (Some p) i
       → Paired m l p i v i'
   paired_by n e k d = record { pair_is = λ es. simp (ne_eqb (get_or m p 0) 0 n, e) (k es); invalid_is = simp (ne_eqb (get_or m p 0) 0 n, e) d }
 
   -- what is added to has room
   module _ {a : ℕ} (k : Pairing m l p a) where
-    pub next_few : (a / «LENGTHS» ≤ most_words) × (a % «LENGTHS» ≤ most_words)
-    next_few = (omega (arith, k.next, k.near (p + 1) (omega arith)), omega (arith, k.next, k.low (p + 1) (omega arith)))
-
     pub beyond_few : (t : ℕ) {x : ℕ} → x ≡ beyond_of l p t → (x / «LENGTHS» ≤ most_words) × (x % «LENGTHS» ≤ most_words)
     beyond_few t {x} e =
         ⊎_elim
@@ -174,16 +169,16 @@ least_same f h (x ∷ []) e = e x (inl refl)
 least_same f h (x ∷ y ∷ ys) e = ap₂ (λ (a b : ℕ). min a b) (e x (inl refl)) (least_same f h (y ∷ ys) (λ q i. e q (inr i)))
 
 -- the words from i on are paired in l, a is the pair of word i, and v the lowest invalid word among them; l₀ holds the entries of all
-pub record Passed (l₀ m l : List ℕ) (i a v : ℕ) : Type 0 where
+pub record Passed (l₀ m l : List ℕ) (i a : ℕ) (v : Option ℕ) : Type 0 where
   pub asks : FillAsks m l₀
   pub same : length l ≡ length l₀
   pub upto : i ≤ length l₀
   pub from : (q : ℕ) → i ≤ q → q < length l₀ → get_or l q 0 ≡ pair_at (graph_in (entries l₀)) q
   pub below : (q : ℕ) → q < i → get_or l q 0 % «ENTRIES» ≡ get_or (entries l₀) q 0
   pub above : a ≡ get_or l i 0
-  pub lowest : v ≡ lowest_from (invalid_by (length (entries l₀)) (entry_steps (entries l₀))) i (length (entries l₀) - i)
+  pub lowest : v ≡ found (length (entries l₀)) (lowest_from (invalid_by (length (entries l₀)) (entry_steps (entries l₀))) i (length (entries l₀) - i))
 
-pub passed_none : (m l : List ℕ) → FillAsks m l → Passed l m l (length l) 0 (length l)
+pub passed_none : (m l : List ℕ) → FillAsks m l → Passed l m l (length l) 0 None
 passed_none m l k =
     let n = entering.as_long l in
     record {
@@ -193,11 +188,28 @@ passed_none m l k =
       from = λ q d i. absurd (omega arith);
       below = λ q d. sym (entering.entry_is l q);
       above = sym (get_or-eq_default l 0 (omega arith));
-      lowest = lowest_laws.end (invalid_by (length (entries l)) (entry_steps (entries l))) (length (entries l)) (length l) (sym n);
+      lowest = nothing_found (omega (arith, lowest_laws.end (invalid_by (length (entries l)) (entry_steps (entries l))) (length (entries l)) (length l) (sym n)));
     }
 
+-- the pass is done
+pub passed_done : {l₀ m l : List ℕ} {i a : ℕ} {v : Option ℕ} → Passed l₀ m l i a v → i ≤ 0 → Pairs l₀ l v
+passed_done {l₀} {m} {l} {i} {a} {v} f h =
+    let t = invalid_by (length (entries l₀)) (entry_steps (entries l₀)) in
+    let e : i ≡ 0 = omega arith in
+    record {
+      each = λ q k. f.from q (omega arith) k;
+      lowest-invalid =
+          f.lowest
+          ∙ ap (found (length (entries l₀))) (ap (λ (x : ℕ). lowest_from t x (length (entries l₀) - x)) e ∙ lowest_laws.whole t (length (entries l₀)));
+    }
+
+-- a turn's word is the one below
+pub passed_turn : {l₀ m l : List ℕ} {i a : ℕ} {v : Option ℕ} → Passed l₀ m l i a v → 0 < i → Passed l₀ m l (i - 1 + 1) a v
+passed_turn {l₀} {m} {l} {i} {a} {v} f h =
+    let e : i ≡ i - 1 + 1 = omega arith in subst (λ (x : ℕ). Passed l₀ m l x a v) e f
+
 -- a turn of the pass
-module _ (l₀ m l : List ℕ) (p a v : ℕ) (f : Passed l₀ m l (p + 1) a v) where
+module _ (l₀ m l : List ℕ) (p a : ℕ) (v : Option ℕ) (f : Passed l₀ m l (p + 1) a v) where
   abbrev es : List ℕ
   es = entries l₀
 
@@ -278,21 +290,21 @@ module _ (l₀ m l : List ℕ) (p a v : ℕ) (f : Passed l₀ m l (p + 1) a v) w
   marked : (get_or m p 0 ≡ 0 → ⊥) → mark_of g p ≡ 1
   marked n = one_of ((laws.marking g law).bit p) (λ z. n (mark_is ∙ z))
 
-  found : cond (eqb (get_or m p 0) 0) 0 (pair_by es l p (list_of (steps_in l p))) ≡ pair_at g p
-  found =
+  pair_here : cond (eqb (get_or m p 0) 0) 0 (pair_by es l p (list_of (steps_in l p))) ≡ pair_at g p
+  pair_here =
       ⊎_elim
       (λ e. rw (eq-eqb (get_or m p 0) 0 e) (sym (pair_unmarked g law few p (sym mark_is ∙ e))))
       (λ n. rw (ne_eqb (get_or m p 0) 0 n) (pair_found (marked n)))
       (same_or_not (get_or m p 0) 0)
 
-  lowest_found : invalid_from m l p v ≡ cond (invalid_by (length es) (entry_steps es) p) p v
+  lowest_found : invalid_from m l p v ≡ cond (invalid_by (length es) (entry_steps es) p) (Some p) v
   lowest_found =
       ⊎_elim
       (λ e. let z : mark_of g p ≡ 0 = sym mark_is ∙ e in rw (eq-eqb (get_or m p 0) 0 e, ne_eqb (mark_of g p) 1 (λ o. omega arith)))
-      (λ n. rw (ne_eqb (get_or m p 0) 0 n, eq-eqb (mark_of g p) 1 (marked n)) (ap (λ (s : Successors). cond (is_invalid s) p v) entry_here))
+      (λ n. rw (ne_eqb (get_or m p 0) 0 n, eq-eqb (mark_of g p) 1 (marked n)) (ap (λ (s : Successors). cond (is_invalid s) (Some p) v) entry_here))
       (same_or_not (get_or m p 0) 0)
 
-  pub passed_more : {x y : ℕ} → Paired m l p v x y → Passed l₀ m (set l p x) p x y
+  pub passed_more : {x : ℕ} {y : Option ℕ} → Paired m l p v x y → Passed l₀ m (set l p x) p x y
   passed_more {x} {y} d =
       record {
         asks = f.asks;
@@ -301,24 +313,16 @@ module _ (l₀ m l : List ℕ) (p a v : ℕ) (f : Passed l₀ m l (p + 1) a v) w
         from =
             λ q h k.
             ⊎_elim
-            (λ w. w.1 ∙ d.pair_is es ∙ found ∙ ap (pair_at g) (sym w.0))
+            (λ w. w.1 ∙ d.pair_is es ∙ pair_here ∙ ap (pair_at g) (sym w.0))
             (λ w. w.1 ∙ f.from q (omega (arith, past h w.0)) k)
             (at_set l p x q (omega (arith, f.upto, f.same)));
         below = λ q h. ap (λ (z : ℕ). z % «ENTRIES») (get_or-set_other l p q x 0 (λ z. omega arith)) ∙ f.below q (omega arith);
         above = sym (get_or-set_same l p x 0 (omega (arith, f.upto, f.same)));
         lowest =
-            d.invalid_is ∙ lowest_found ∙ ap (λ (z : ℕ). cond (invalid_by (length es) (entry_steps es) p) p z) f.lowest
-            ∙ sym (lowest_laws.turn (invalid_by (length es) (entry_steps es)) (length es) p inside);
+            d.invalid_is ∙ lowest_found ∙ ap (λ (z : Option ℕ). cond (invalid_by (length es) (entry_steps es) p) (Some p) z) f.lowest
+            ∙ found_first (invalid_by (length es) (entry_steps es) p) _ inside
+            ∙ ap (found (length es)) (sym (lowest_laws.turn (invalid_by (length es) (entry_steps es)) (length es) p inside));
       }
-
-pub passed_done : {l₀ m l : List ℕ} {i a v : ℕ} → Passed l₀ m l i a v → i ≤ 0 → Pairs l₀ l v
-passed_done {l₀} {i = i} f h =
-    let e : i ≡ 0 = omega arith in
-    let t = invalid_by (length (entries l₀)) (entry_steps (entries l₀)) in
-    record {
-      each = λ p k. f.from p (omega arith) k;
-      lowest-invalid = f.lowest ∙ ap (λ (x : ℕ). lowest_from t x (length (entries l₀) - x)) e ∙ lowest_laws.whole t (length (entries l₀));
-    }
 
 -- a list that is written over whole
 pub whole : (f : ℕ → ℕ) (l₀ : List ℕ) {l : List ℕ} → l ≡ over f (length l₀) l₀ → l ≡ tabulate f 0 (length l₀)

@@ -1,13 +1,13 @@
 -- What the answer of `distance_to_service` says of the stretches of a function's words. proofs/Nearest.antt
 -- proves it of `nearest_of`, which the contract cites, for any words, any word w and slices of any lengths.
 -- Assumes nothing.
-use Rattle.std.specs.Prelude.{◌≡◌, ◌⊎◌, ◌↔◌, true, false, List, [], ◌∷◌, ℕ, ◌≤◌, length}
+use Rattle.std.specs.Prelude.{◌≡◌, ◌⊎◌, ◌↔◌, true, false, None, Some, Ok, Err, List, [], ◌∷◌, ℕ, ◌≤◌, length}
 use Rattle.graph.specs.Graph.{In, Reachable, Segment}
 use Rattle.graph.specs.Distance.{last_of}
 use Rattle.runs.specs.Script.{Script, graph_of}
-use Rattle.runs.specs.declared.longest.Run.TheVariants as Run
+use Rattle.runs.specs.Run.{accepted_run}
 use Rattle.sweep.specs.Steps.{is_invalid, list_of}
-use Rattle.service.specs.declared.distance.Nearest.TheVariants as Nearest
+use Rattle.common.specs.declared.refusal.Refusal.{Refusal}
 use Rattle.service.specs.Questions.{unit_run, nearest_of}
 
 -- "A return, here and in C-22, is a word that is not bad and has no step."
@@ -38,21 +38,20 @@ pub record FewestWords (ws : Script) (p k : ℕ) : Type 0 where
 pub record AcceptedRun (ws : Script) (marks lengths : ℕ) : Type 0 where
   pub longest : ℕ
   pub first : ℕ
-  pub run : unit_run ws marks lengths ≡ Run.Accepted longest first
+  pub run : unit_run ws marks lengths ≡ accepted_run longest first
 
 pub record NearestService (ws : Script) (w marks lengths : ℕ) : Type 0 where
   -- "From any reachable word of an accepted function, give the fewest words to the next serving step or
   -- return": every one has a fewest
   pub fewest :
       AcceptedRun ws marks lengths → Reachable (graph_of ws) w
-      → (k : ℕ) × (nearest_of ws w marks lengths ≡ Nearest.Fewest k) × FewestWords ws w k
+      → (k : ℕ) × (nearest_of ws w marks lengths ≡ Ok (Some k)) × FewestWords ws w k
   -- and only a reachable word does
-  pub exact : (k : ℕ) → nearest_of ws w marks lengths ≡ Nearest.Fewest k
+  pub exact : (k : ℕ) → nearest_of ws w marks lengths ≡ Ok (Some k)
       → Reachable (graph_of ws) w × FewestWords ws w k
   -- "An unreachable word, or one past the end, has no fewest, and the answer says so"
   pub unreachable : AcceptedRun ws marks lengths → (Reachable (graph_of ws) w → ⊥)
-      ↔ (nearest_of ws w marks lengths ≡ Nearest.Nowhere)
-  pub past_end : AcceptedRun ws marks lengths → ws.size ≤ w → nearest_of ws w marks lengths ≡ Nearest.Nowhere
+      ↔ (nearest_of ws w marks lengths ≡ Ok None)
+  pub past_end : AcceptedRun ws marks lengths → ws.size ≤ w → nearest_of ws w marks lengths ≡ Ok None
   -- "A refused function gets the longest run's refusal with all weights 1"
-  pub refused : (number place : ℕ) → (unit_run ws marks lengths ≡ Run.Refused number place)
-      ↔ (nearest_of ws w marks lengths ≡ Nearest.Refused number place)
+  pub refused : (e : Refusal) → (unit_run ws marks lengths ≡ Err e) ↔ (nearest_of ws w marks lengths ≡ Err e)

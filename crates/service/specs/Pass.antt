@@ -2,20 +2,16 @@
 -- What the private functions ask and leave. No exported contract cites it. What goes by entries reads no
 -- word, and holds for any steps.
 -- Assumes nothing.
-use Rattle.std.specs.Prelude.{◌≡◌, cond, ◌&&◌, List, [], ℕ, ◌+◌, ◌/◌, ◌%◌, ◌≤◌, ◌<◌, ltb, eqb, length, get_or}
+use Rattle.std.specs.Prelude.{◌≡◌, cond, ◌&&◌, Option, None, Some, List, [], ℕ, ◌+◌, ◌/◌, ◌%◌, ◌≤◌, ◌<◌, ltb}
+use Rattle.std.specs.Prelude.{eqb, length, get_or}
 use Rattle.common.specs.Limits.{most_words}
-use Rattle.common.specs.Chain.{answer}
-use Rattle.common.specs.declared.answer.Answer.{Answer}
 use Rattle.graph.specs.Graph.{Graph, In, Lawful}
 use Rattle.graph.specs.Marks.{mark_of}
 use Rattle.graph.specs.Distance.{distance_of}
 use Rattle.graph.specs.Crossing.{crossing_from}
 use Rattle.sweep.specs.declared.edges.Successors.{Successors}
-use Rattle.runs.specs.declared.longest.Run.{Run}
 use Rattle.sweep.specs.Steps.{list_of}
 use Rattle.sweep.specs.Entries.{«ENTRIES», entry_at, entries, graph_in}
-use Rattle.runs.specs.Run.{number_of, place_of}
-use Rattle.service.specs.declared.distance.Nearest.{Nearest}
 
 -- n words, some and not too many, with a place for each in both slices
 pub record Fits (n marks lengths : ℕ) : Type 0 where
@@ -47,12 +43,8 @@ pub record Notes (from : ℕ) (l l' : List ℕ) : Type 0 where
   pub each : (q : ℕ) → from ≤ q → q < length l → noted l' q ≡ distance_of (graph_in (entries l)) q
 
 -- the fewest words from word w of a graph
-abbrev pub fewest_in : Graph → ℕ → Nearest
-fewest_in g w = cond (ltb w g.size && eqb (mark_of g w) 1) (Nearest.Fewest (distance_of g w)) Nearest.Nowhere
-
--- the list's answer by that of the run
-abbrev pub answer_by : Run → Answer
-answer_by r = answer (number_of r) (place_of r)
+abbrev pub fewest_in : Graph → ℕ → Option ℕ
+fewest_in g w = cond (ltb w g.size && eqb (mark_of g w) 1) (Some (distance_of g w)) None
 
 -- r edges of a word p with these steps pass over w, if its mark is 1
 pub record CrossesFrom (w p mark : ℕ) (s : Successors) (r : ℕ) : Type 0 where

@@ -13,36 +13,17 @@ ghost use Rattle.service.specs.Questions.{crossed_by, crossed_of};
 ghost use Rattle.service.specs.Pass.{CrossesFrom};
 
 use crate::unit::unit_run;
-use common::numbers::ACCEPTED;
-use common::sizes::size_refusal;
-use common::widths::smaller_size;
+use common::Refusal;
+use common::sizes::check_sizes;
 use fields::version::Version;
-use runs::Run;
 use runs::inner::search_words;
 use sweep::inner::{ENTRIES, KIND_TARGET, TARGETS};
-
-#[derive(Drop)]
-pub enum Crossed {
-    Count(usize),
-    Refused { number: u8, place: usize },
-}
 
 // 1 if the edge from p to q passes over w.
 fn edge_crosses(w: usize, p: usize, q: usize) -> usize
     ensures { result ≡ cond (crosses w p q) 1 0 }
 {
-    if p < w {
-        if w < q {
-            return 1;
-        }
-        return 0;
-    }
-    if q < w {
-        if w < p {
-            return 1;
-        }
-    }
-    0
+    (p < w && w < q || q < w && w < p) as usize
 }
 
 // How many edges from word p, which has this entry, pass over w, if it is marked. No word lies between p and
@@ -50,10 +31,7 @@ fn edge_crosses(w: usize, p: usize, q: usize) -> usize
 fn crossings_from(w: usize, p: usize, mark: u8, entry: u32) -> usize
     ensures { CrossesFrom w p mark (entry_at entry p) result }
 {
-    if mark != 1 {
-        return 0;
-    }
-    if entry / TARGETS < KIND_TARGET {
+    if mark != 1 || entry / TARGETS < KIND_TARGET {
         return 0;
     }
     edge_crosses(w, p, (entry % TARGETS) as usize)
@@ -64,12 +42,9 @@ fn count_crossings(w: usize, marks: &[u8], lengths: &[u32]) -> usize
     requires { FillAsks marks.now lengths.now }
     ensures { result ≡ crossing_of (graph_in (entries lengths.now)) w }
 {
-    let n = lengths.len();
     let mut count: usize = 0;
-    let mut i = 0;
-    while i < n {
-        count += crossings_from(w, i, marks[i], lengths[i] % ENTRIES);
-        i += 1;
+    for (p, length) in lengths.iter().enumerate() {
+        count += crossings_from(w, p, marks[p], *length % ENTRIES);
     }
     count
 }
@@ -82,7 +57,7 @@ fn crossed_of_words(
     w: usize,
     marks: &mut [u8],
     lengths: &mut [u32],
-) -> Crossed
+) -> Result<usize, Refusal>
     requires { Lent (length words.now) marks.old lengths.old }
     ensures value { result ≡ crossed_by (decided (script_of version words.now) ones)
         (script_of version words.now) w }
@@ -91,15 +66,8 @@ fn crossed_of_words(
 {
     search_words(version, words, marks, lengths);
     let count = count_crossings(w, marks, lengths);
-    let run = unit_run(version, words, marks, lengths);
-    match run {
-        Run::Refused { number, place } => {
-            return Crossed::Refused { number, place };
-        }
-        Run::Accepted { longest, first } => {
-            return Crossed::Count(count);
-        }
-    }
+    unit_run(version, words, marks, lengths)?;
+    Ok(count)
 }
 
 // How many edges from reachable words pass over w, or the run's refusal with all weights 1.
@@ -110,7 +78,7 @@ pub fn crossing_edges(
     w: usize,
     marks: &mut [u8],
     lengths: &mut [u32],
-) -> Crossed
+) -> Result<usize, Refusal>
     ensures value { result ≡ crossed_of (script_of version words.now) w (length marks.old)
         (length lengths.old) }
     ensures marks_after { marks.new ≡ marks_after (script_of version words.now) ones
@@ -119,9 +87,6 @@ pub fn crossing_edges(
         marks.old lengths.old }
 {
     let n = words.len();
-    let number = size_refusal(n, smaller_size(marks.len(), lengths.len()));
-    if number != ACCEPTED {
-        return Crossed::Refused { number, place: 0 };
-    }
+    check_sizes(n, marks.len().min(lengths.len()))?;
     crossed_of_words(version, words, w, &mut marks[..n], &mut lengths[..n])
 }

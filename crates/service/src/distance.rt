@@ -13,36 +13,24 @@ ghost use Rattle.service.specs.Pass.{fewest_in};
 
 use crate::pass::note_distances;
 use crate::unit::unit_run;
-use common::numbers::ACCEPTED;
-use common::sizes::size_refusal;
-use common::widths::smaller_size;
+use common::Refusal;
+use common::sizes::check_sizes;
 use fields::version::Version;
-use runs::Run;
 use runs::inner::search_words;
 use sweep::inner::ENTRIES;
 
-#[derive(Drop)]
-pub enum Nearest {
-    Fewest(u32),
-    // An unreachable word, or one past the end.
-    Nowhere,
-    Refused { number: u8, place: usize },
-}
-
-// The fewest words from word w, by the entries and the marks that the search leaves. The entries stay.
-fn find_fewest(w: usize, marks: &[u8], lengths: &mut [u32]) -> Nearest
+// The fewest words from word w, none of an unreachable word or one past the end, by the entries and the marks
+// that the search leaves. The entries stay.
+fn find_fewest(w: usize, marks: &[u8], lengths: &mut [u32]) -> Option<u32>
     requires { FillAsks marks.now lengths.old }
     ensures value { result ≡ fewest_in (graph_in (entries lengths.old)) w }
     ensures lengths_unchanged { entries lengths.new ≡ entries lengths.old }
 {
-    if marks.len() <= w {
-        return Nearest::Nowhere;
-    }
-    if marks[w] != 1 {
-        return Nearest::Nowhere;
+    if marks.len() <= w || marks[w] != 1 {
+        return None;
     }
     note_distances(w, lengths);
-    Nearest::Fewest(lengths[w] / ENTRIES + 1)
+    Some(lengths[w] / ENTRIES + 1)
 }
 
 // The answer for words that pass the checks of their number and of the slices. The distance is found between
@@ -53,7 +41,7 @@ fn nearest_of_words(
     w: usize,
     marks: &mut [u8],
     lengths: &mut [u32],
-) -> Nearest
+) -> Result<Option<u32>, Refusal>
     requires { Lent (length words.now) marks.old lengths.old }
     ensures value { result ≡ nearest_by (decided (script_of version words.now) ones)
         (script_of version words.now) w }
@@ -61,26 +49,20 @@ fn nearest_of_words(
         (decided (script_of version words.now) ones) marks.new lengths.new }
 {
     search_words(version, words, marks, lengths);
-    let nearest = find_fewest(w, marks, lengths);
-    let run = unit_run(version, words, marks, lengths);
-    match run {
-        Run::Refused { number, place } => {
-            return Nearest::Refused { number, place };
-        }
-        Run::Accepted { longest, first } => {
-            return nearest;
-        }
-    }
+    let fewest = find_fewest(w, marks, lengths);
+    unit_run(version, words, marks, lengths)?;
+    Ok(fewest)
 }
 
-// The fewest words from word w, or the run's refusal with all weights 1. The slices get what that run leaves.
+// The fewest words from word w, if it has one, or the run's refusal with all weights 1. The slices get what
+// that run leaves.
 pub fn distance_to_service(
     version: Version,
     words: &[u32],
     w: usize,
     marks: &mut [u8],
     lengths: &mut [u32],
-) -> Nearest
+) -> Result<Option<u32>, Refusal>
     ensures value { result ≡ nearest_of (script_of version words.now) w (length marks.old)
         (length lengths.old) }
     ensures marks_after { marks.new ≡ marks_after (script_of version words.now) ones
@@ -89,9 +71,6 @@ pub fn distance_to_service(
         marks.old lengths.old }
 {
     let n = words.len();
-    let number = size_refusal(n, smaller_size(marks.len(), lengths.len()));
-    if number != ACCEPTED {
-        return Nearest::Refused { number, place: 0 };
-    }
+    check_sizes(n, marks.len().min(lengths.len()))?;
     nearest_of_words(version, words, w, &mut marks[..n], &mut lengths[..n])
 }

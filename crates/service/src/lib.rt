@@ -10,6 +10,6 @@ mod pass;
 mod unit;
 pub mod within;
 
-pub use crossing::{Crossed, crossing_edges};
-pub use distance::{Nearest, distance_to_service};
+pub use crossing::crossing_edges;
+pub use distance::distance_to_service;
 pub use within::list_within;

@@ -13,7 +13,6 @@ ghost use Rattle.sweep.specs.Steps.{serves_of};
 ghost use Rattle.sweep.specs.PassInvariants.{FillAsks};
 ghost use Rattle.service.specs.Pairs.{«LENGTHS», Pairing, Paired, Pairs};
 
-use common::widths::smaller;
 use sweep::edges::serves;
 use sweep::inner::{ENTRIES, KIND_NEXT, KIND_NONE, KIND_TARGET, RETURNS, TARGETS};
 
@@ -39,48 +38,45 @@ fn join(x: u32, y: u32) -> u32
     ensures { (result / «LENGTHS» ≡ min (x / «LENGTHS») (y / «LENGTHS»))
         × (result % «LENGTHS» ≡ max (x % «LENGTHS») (y % «LENGTHS»)) }
 {
-    let distance = smaller(x / LENGTHS, y / LENGTHS);
-    if x % LENGTHS < y % LENGTHS {
-        return distance * LENGTHS + y % LENGTHS;
-    }
-    distance * LENGTHS + x % LENGTHS
+    let distance = (x / LENGTHS).min(y / LENGTHS);
+    let length = (x % LENGTHS).max(y % LENGTHS);
+    distance * LENGTHS + length
 }
 
-// The pair of a word, and the lowest reachable invalid word from it on.
-#[derive(Drop)]
+// The pair of a word, and the lowest reachable invalid word from it on, if one is.
+#[derive(Clone, Copy)]
 struct Found {
     pair: u32,
-    invalid: usize,
+    invalid: Option<usize>,
 }
 
-// Word p, where the words above it are paired, `above` is the pair of the next, and `invalid` the lowest
-// invalid one among them. The next word's pair is handed on, so that a turn need not wait for what the one
-// before it stored.
-fn pair_word(marks: &[u8], lengths: &[u32], p: usize, above: u32, invalid: usize) -> Found
-    requires { Pairing marks.now lengths.now p above }
-    ensures { Paired marks.now lengths.now p invalid result.pair result.invalid }
+// Word p, where the words above it are paired, and `above` is what was found of the next. It is handed on, so
+// that a turn need not wait for what the one before it stored.
+fn pair_word(marks: &[u8], lengths: &[u32], p: usize, above: Found) -> Found
+    requires { Pairing marks.now lengths.now p above.pair }
+    ensures { Paired marks.now lengths.now p above.invalid result.pair result.invalid }
 {
     if marks[p] == 0 {
-        return Found { pair: 0, invalid };
+        return Found { pair: 0, ..above };
     }
     let entry = lengths[p] % ENTRIES;
     let kind = entry / TARGETS;
     if kind == KIND_NEXT {
         return Found {
-            pair: above + ONE_WORD,
-            invalid,
+            pair: above.pair + ONE_WORD,
+            ..above
         };
     }
     if kind == KIND_NONE {
         if entry % TARGETS == RETURNS {
             return Found {
                 pair: ONE_WORD,
-                invalid,
+                ..above
             };
         }
         return Found {
             pair: ONE_WORD,
-            invalid: p,
+            invalid: Some(p),
         };
     }
     let to = (entry % TARGETS) as usize;
@@ -88,29 +84,27 @@ fn pair_word(marks: &[u8], lengths: &[u32], p: usize, above: u32, invalid: usize
     if kind == KIND_TARGET {
         return Found {
             pair: x + ONE_WORD,
-            invalid,
+            ..above
         };
     }
     Found {
-        pair: join(above, x) + ONE_WORD,
-        invalid,
+        pair: join(above.pair, x) + ONE_WORD,
+        ..above
     }
 }
 
-// The pair of each word, where its entry stood. The lowest reachable invalid word, or the number of words.
-pub(crate) fn pair_words(marks: &[u8], lengths: &mut [u32]) -> usize
+// The pair of each word, where its entry stood. The lowest reachable invalid word, if one is.
+pub(crate) fn pair_words(marks: &[u8], lengths: &mut [u32]) -> Option<usize>
     requires { FillAsks marks.now lengths.old }
     ensures { Pairs lengths.old lengths.new result }
 {
-    let mut invalid = lengths.len();
-    let mut above: u32 = 0;
-    let mut i = lengths.len();
-    while 0 < i {
-        i -= 1;
-        let f = pair_word(marks, lengths, i, above, invalid);
-        lengths[i] = f.pair;
-        above = f.pair;
-        invalid = f.invalid;
+    let mut found = Found {
+        pair: 0,
+        invalid: None,
+    };
+    for i in (0..lengths.len()).rev() {
+        found = pair_word(marks, lengths, i, found);
+        lengths[i] = found.pair;
     }
-    invalid
+    found.invalid
 }

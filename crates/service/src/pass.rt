@@ -7,7 +7,6 @@ ghost use Rattle.graph.specs.Distance.{nearer};
 ghost use Rattle.sweep.specs.Entries.{entries, graph_in};
 ghost use Rattle.service.specs.Pass.{noted, Nearing, Holds, Notes};
 
-use common::widths::smaller;
 use sweep::edges::serves;
 use sweep::inner::{ENTRIES, KIND_NEXT, KIND_NONE, KIND_TARGET, TARGETS};
 
@@ -33,7 +32,7 @@ fn distance_at(lengths: &[u32], p: usize, above: u32) -> u32
     if kind == KIND_TARGET {
         return x + 1;
     }
-    smaller(above, x) + 1
+    above.min(x) + 1
 }
 
 // Notes the distances of the words from `from` on. The entries stay.
@@ -42,9 +41,7 @@ pub(crate) fn note_distances(from: usize, lengths: &mut [u32])
     ensures { Notes from lengths.old lengths.new }
 {
     let mut above: u32 = 0;
-    let mut i = lengths.len();
-    while from < i {
-        i -= 1;
+    for i in (from..lengths.len()).rev() {
         above = distance_at(lengths, i, above);
         lengths[i] = lengths[i] % ENTRIES + above * ENTRIES;
     }

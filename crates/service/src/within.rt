@@ -7,8 +7,14 @@ ghost use Rattle.sweep.specs.SearchInvariants.{Lent};
 ghost use Rattle.sweep.specs.PassInvariants.{FillAsks};
 ghost use Rattle.runs.specs.Outcome.{decided, Decided};
 ghost use Rattle.runs.specs.Counted.{ones};
-ghost use Rattle.service.specs.Questions.{list_by, within_of, marks_within, lengths_within, list_within};
-ghost use Rattle.service.specs.Pass.{answer_by};
+ghost use Rattle.service.specs.Questions.{
+  answer_by,
+  list_by,
+  within_of,
+  marks_within,
+  lengths_within,
+  list_within,
+};
 ghost use Rattle.service.specs.Pairs.{
   distance_in,
   paired_length,
@@ -19,10 +25,8 @@ ghost use Rattle.service.specs.Pairs.{
 };
 
 use crate::pairs::{LENGTHS, pair_words};
-use common::Answer;
-use common::numbers::*;
-use common::sizes::size_refusal;
-use common::widths::smaller_size;
+use common::Refusal;
+use common::sizes::check_sizes;
 use fields::version::Version;
 use runs::inner::search_words;
 use sweep::inner::clear_lengths;
@@ -35,23 +39,14 @@ const FARTHEST: u32 = 65535;
 fn shorten(d: usize) -> u32
     ensures { result ≡ min d 65535 }
 {
-    if d < FARTHEST as usize {
-        return d as u32;
-    }
-    FARTHEST
+    d.min(FARTHEST as usize) as u32
 }
 
 // What is listed of a word by its distance. An unreachable one has 0.
 fn listed(d: u32, distance: u32) -> u8
     ensures { result ≡ listed_by d distance }
 {
-    if distance == 0 {
-        return 0;
-    }
-    if distance <= d {
-        return 1;
-    }
-    0
+    (distance != 0 && distance <= d) as u8
 }
 
 // Takes the pairs apart: lists the words whose distance is at most d, and leaves the lengths.
@@ -62,38 +57,31 @@ fn write_list(d: u32, lengths: &mut [u32], list: &mut [u8])
     ensures list_after { list.new ≡ over (λ p. listed_by d (distance_in lengths.old p))
         (length lengths.old) list.old }
 {
-    let n = lengths.len();
-    let mut i = 0;
-    while i < n {
-        let pair = lengths[i];
-        list[i] = listed(d, pair / LENGTHS);
-        lengths[i] = pair % LENGTHS;
-        i += 1;
+    for (p, pair) in lengths.iter_mut().enumerate() {
+        list[p] = listed(d, *pair / LENGTHS);
+        *pair %= LENGTHS;
     }
 }
 
 // The list, the lengths and the answer, by the entries and the marks that the search leaves. How long the
 // longest run is, and where it begins, is not asked.
-fn list_searched(d: usize, marks: &[u8], lengths: &mut [u32], list: &mut [u8]) -> Answer
+fn list_searched(
+    d: usize,
+    marks: &[u8],
+    lengths: &mut [u32],
+    list: &mut [u8],
+) -> Result<(), Refusal>
     requires { FillAsks marks.now lengths.old × (length lengths.old ≤ length list.old) }
     ensures value { result ≡ answer_in (entries lengths.old) }
     ensures lengths_after { lengths.new ≡ lengths_in (entries lengths.old) }
     ensures list_after { list.new ≡ list_in d (entries lengths.old) list.old }
 {
-    let n = lengths.len();
-    let invalid = pair_words(marks, lengths);
-    if invalid < n {
-        clear_lengths(lengths, n);
-        return Answer {
-            number: REACHES_INVALID,
-            place: invalid,
-        };
+    if let Some(invalid) = pair_words(marks, lengths) {
+        clear_lengths(lengths, lengths.len());
+        return Err(Refusal::ReachesInvalid(invalid));
     }
     write_list(shorten(d), lengths, list);
-    Answer {
-        number: ACCEPTED,
-        place: 0,
-    }
+    Ok(())
 }
 
 // The list and the answer for words that pass the checks of their number and of the slices.
@@ -104,7 +92,7 @@ fn list_of_words(
     marks: &mut [u8],
     lengths: &mut [u32],
     list: &mut [u8],
-) -> Answer
+) -> Result<(), Refusal>
     requires { Lent (length words.now) marks.old lengths.old
         × (length words.now ≤ length list.old) }
     ensures value { result ≡ answer_by (decided (script_of version words.now) ones) }
@@ -126,7 +114,7 @@ pub fn list_within(
     marks: &mut [u8],
     lengths: &mut [u32],
     list: &mut [u8],
-) -> Answer
+) -> Result<(), Refusal>
     ensures value { result ≡ within_of (script_of version words.now) (length marks.old)
         (length lengths.old) (length list.old) }
     ensures marks_after { marks.new ≡ marks_within (script_of version words.now)
@@ -137,10 +125,6 @@ pub fn list_within(
         marks.old lengths.old list.old }
 {
     let n = words.len();
-    let room = smaller_size(marks.len(), lengths.len());
-    let number = size_refusal(n, smaller_size(list.len(), room));
-    if number != ACCEPTED {
-        return Answer { number, place: 0 };
-    }
+    check_sizes(n, list.len().min(marks.len().min(lengths.len())))?;
     list_of_words(version, words, d, &mut marks[..n], &mut lengths[..n], list)
 }

@@ -6,7 +6,7 @@ ghost use Rattle.runs.specs.Run.{marks_after, lengths_after};
 ghost use Rattle.runs.specs.Counted.{ones};
 ghost use Rattle.service.specs.Questions.{nearest_of, crossed_of, within_of};
 ghost use Rattle.service.specs.Questions.{marks_within, lengths_within, list_within};
-ghost use Rattle.common.specs.Flat.{flat_answer};
+ghost use Rattle.common.specs.Flat.{flat_result};
 ghost use Rattle.service.specs.Flat.{flat_nearest, flat_crossed};
 
 use common::c::FlatAnswer;
@@ -37,7 +37,7 @@ pub extern "C" fn lawendeb_list_within(
     lengths: &mut [u32],
     list: &mut [u8],
 ) -> FlatAnswer
-    ensures value { result ≡ flat_answer (within_of (lua54 words.now) (length marks.old)
+    ensures value { result ≡ flat_result (within_of (lua54 words.now) (length marks.old)
         (length lengths.old) (length list.old)) }
     ensures marks_after { marks.new ≡ marks_within (lua54 words.now) marks.old
         lengths.old list.old }

@@ -6,39 +6,25 @@ mod print;
 mod questions;
 
 use std::io::Stdout;
+use vectors::part;
 
 fn ask(out: Stdout, line: &[u8]) {
-    let question = vectors::which(line, b"title|distances|crossings|within|all");
-    if question > 4 {
-        return;
-    }
-    print::text(out, vectors::part(line, 1));
-    match question {
-        1 => {
-            questions::distances(out, line);
+    let question: fn(Stdout, &[u8]) = match part(line, 0) {
+        b"title" => questions::title,
+        b"distances" => questions::distances,
+        b"crossings" => questions::crossings,
+        b"within" => questions::within,
+        b"all" => questions::all,
+        _ => {
+            return;
         }
-        2 => {
-            questions::crossings(out, line);
-        }
-        3 => {
-            questions::within(out, line);
-        }
-        4 => {
-            questions::all(out, line);
-        }
-        _ => {}
-    }
+    };
+    print::text(out, part(line, 1));
+    question(out, line);
     print::end(out);
 }
 
-fn ask_all(out: Stdout, text: &[u8]) {
-    for i in 0..text.len() {
-        ask(out, vectors::line_at(text, i));
-    }
-}
-
 fn main(rt: HostRuntime) {
-    let mut page = io::large_buffer();
-    let n = vectors::read(rt.stdin(), &mut page);
-    ask_all(rt.stdout(), pages::first(&page, n));
+    let out = rt.stdout();
+    vectors::ask_each(rt.stdin(), |line| ask(out, line));
 }

@@ -11,11 +11,11 @@ use lib.ListN.{length, take, drop, length-append, take-append-drop}
 use lib.Seq.{take_at, drop_at, take-take, take-nil, drop-drop}
 use borrow.Author.Tests.{ne_eqb}
 use Rattle.common.specs.Limits.{most_word}
-use Rattle.sheet.specs.declared.reading.Sheet.{Sheet}
-use Rattle.sheet.specs.declared.reading.Sheet.TheVariants.{Words, Malformed, TooLong}
+use Rattle.std.specs.Prelude.{Ok, Err}
+use Rattle.common.specs.declared.refusal.Refusal.TheVariants.{MalformedLine, TooManyLines}
 use Rattle.sheet.specs.Columns.{columns}
 use Rattle.sheet.specs.Line.{line_of, line_value, is_line}
-use Rattle.sheet.specs.Format.{read_from, sheet_of, sheet_word_at, sheet_words}
+use Rattle.sheet.specs.Format.{Sheet, read_from, sheet_of, sheet_word_at, sheet_words}
 use Rattle.sheet.specs.Claims.{text_of, AllWords, Accepted, Broken, Overfull, SheetSays, Claims}
 use Rattle.sheet.proofs.Widths.{length_line}
 use Rattle.sheet.proofs.Round.{apart, line_shows, line_good, good_line, good_value}
@@ -47,11 +47,11 @@ sheet_past room ws rest a h = read_past room 0 ws rest a h ∙ rw (zero-add (len
 
 -- ---- what is so is answered
 
-only_words : (room : ℕ) (text : List ℕ) (n : ℕ) → Accepted room text n → sheet_of room text ≡ Words n
+only_words : (room : ℕ) (text : List ℕ) (n : ℕ) → Accepted room text n → sheet_of room text ≡ Ok n
 only_words room text n s =
     let h : length s.words ≤ room = omega (arith, s.count, s.fits) in
     rw (s.whole, ← append-nil (text_of s.words))
-    (sheet_past room s.words [] s.are_words h ∙ read_none (room - length s.words) (length s.words) [] refl ∙ ap Words s.count)
+    (sheet_past room s.words [] s.are_words h ∙ read_none (room - length s.words) (length s.words) [] refl ∙ ap Ok s.count)
 
 -- the first line of a text, and the rest
 first_line : (text : List ℕ) → is_line (take 11 text) ≡ true → text ≡ line_of (line_value (take 11 text)) ++ drop 11 text
@@ -64,15 +64,15 @@ no_line rest never = go (is_line (take 11 rest)) refl
     go true e = absurd (never (line_value (take 11 rest)) (drop 11 rest) (good_value (take 11 rest) e) (first_line rest e))
     go false e = refl
 
-only_malformed : (room : ℕ) (text : List ℕ) (line : ℕ) → Broken room text line → sheet_of room text ≡ Malformed line
+only_malformed : (room : ℕ) (text : List ℕ) (line : ℕ) → Broken room text line → sheet_of room text ≡ Err (MalformedLine line)
 only_malformed room text line s =
     let h : length s.words < room = omega (arith, s.count, s.fits) in
     rw s.whole
     (sheet_past room s.words s.rest s.are_words (omega arith)
     ∙ read_bad s.rest s.some (room - length s.words) (length s.words) (omega arith) (no_line s.rest s.no_line)
-    ∙ ap Malformed s.count)
+    ∙ ap (λ (i : ℕ). Err (MalformedLine i)) s.count)
 
-only_long : (room : ℕ) (text : List ℕ) → Overfull room text → sheet_of room text ≡ TooLong
+only_long : (room : ℕ) (text : List ℕ) → Overfull room text → sheet_of room text ≡ Err TooManyLines
 only_long room text s =
     let z : room - length s.words ≡ 0 = omega (arith, s.count) in
     rw s.whole
@@ -80,9 +80,10 @@ only_long room text s =
     ∙ rw z (read_full s.rest s.some (length s.words)))
 
 only : (room : ℕ) (text : List ℕ) (s : Sheet) → SheetSays room text s → sheet_of room text ≡ s
-only room text (Words n) s = only_words room text n s
-only room text (Malformed line) s = only_malformed room text line s
-only room text TooLong s = only_long room text s
+only room text (Ok n) s = only_words room text n s
+only room text (Err (MalformedLine line)) s = only_malformed room text line s
+only room text (Err TooManyLines) s = only_long room text s
+only room text (Err _) s = absurd s
 
 -- ---- what is answered is so: every text says something
 
@@ -99,9 +100,9 @@ unfolding text_of AllWords
 after room text w h t = go t.answer t.told
   where
     go : (s : Sheet) → SheetSays room text s → Told (suc room) (line_of w ++ text)
-    go (Words n) s =
+    go (Ok n) s =
         record {
-          answer = Words (suc n);
+          answer = Ok (suc n);
           told = record {
             words = w ∷ s.words;
             are_words = (h, s.are_words);
@@ -110,9 +111,9 @@ after room text w h t = go t.answer t.told
             whole = ap (λ (l : List ℕ). line_of w ++ l) s.whole;
           };
         }
-    go (Malformed line) s =
+    go (Err (MalformedLine line)) s =
         record {
-          answer = Malformed (suc line);
+          answer = Err (MalformedLine (suc line));
           told = record {
             words = w ∷ s.words;
             are_words = (h, s.are_words);
@@ -124,9 +125,9 @@ after room text w h t = go t.answer t.told
             no_line = s.no_line;
           };
         }
-    go TooLong s =
+    go (Err TooManyLines) s =
         record {
-          answer = TooLong;
+          answer = Err TooManyLines;
           told = record {
             words = w ∷ s.words;
             are_words = (h, s.are_words);
@@ -136,6 +137,7 @@ after room text w h t = go t.answer t.told
             some = s.some;
           };
         }
+    go (Err _) s = absurd s
 
 in_front : (room : ℕ) (text : List ℕ) → is_line (take 11 text) ≡ true → Told room (drop 11 text) → Told (suc room) text
 in_front room text e t =
@@ -144,14 +146,14 @@ in_front room text e t =
 
 empty_told : (room : ℕ) → Told room []
 unfolding text_of AllWords
-empty_told room = record { answer = Words 0; told = record { words = []; are_words = tt; count = refl; fits = omega arith; whole = refl } }
+empty_told room = record { answer = Ok 0; told = record { words = []; are_words = tt; count = refl; fits = omega arith; whole = refl } }
 
 told : (room : ℕ) (text : List ℕ) → Told room text
 unfolding text_of AllWords
 told zero [] = empty_told zero
 told zero (b ∷ text) =
     record {
-      answer = TooLong;
+      answer = Err TooManyLines;
       told = record {
         words = [];
         are_words = tt;
@@ -168,7 +170,7 @@ told (suc room) (b ∷ text) = go (is_line (take 11 (b ∷ text))) refl (told ro
     go true e r = in_front room (b ∷ text) e r
     go false e r =
         record {
-          answer = Malformed 1;
+          answer = Err (MalformedLine 1);
           told = record {
             words = [];
             are_words = tt;
@@ -210,12 +212,12 @@ back (w ∷ ws) a = words_cons w (text_of ws) a.0 (length ws) ∙ ap (λ (l : Li
 words_are : (text : List ℕ) (n : ℕ) (ws : List ℕ) → text ≡ text_of ws → length ws ≡ n → AllWords ws → sheet_words text n ≡ ws
 words_are text n ws e k a = rw (e, ← k) (back ws a)
 
-accepted : (room : ℕ) (text : List ℕ) (n : ℕ) → sheet_of room text ≡ Words n → text ≡ text_of (sheet_words text n)
+accepted : (room : ℕ) (text : List ℕ) (n : ℕ) → sheet_of room text ≡ Ok n → text ≡ text_of (sheet_words text n)
 accepted room text n e =
     let s : Accepted room text n = rw e at (says room text) in
     s.whole ∙ ap text_of (sym (words_are text n s.words s.whole s.count s.are_words))
 
-every : (room : ℕ) (ws : List ℕ) → AllWords ws → length ws ≤ room → sheet_of room (text_of ws) ≡ Words (length ws)
+every : (room : ℕ) (ws : List ℕ) → AllWords ws → length ws ≤ room → sheet_of room (text_of ws) ≡ Ok (length ws)
 every room ws a h = only_words room (text_of ws) (length ws) (record { words = ws; are_words = a; count = refl; fits = h; whole = refl })
 
 -- ---- what the filling needs
@@ -236,7 +238,7 @@ pub record Filling (room : ℕ) (text : List ℕ) (n : ℕ) : Type 0 where
   pub long : 11 * n ≤ length text
   pub small : (k : ℕ) → k < n → sheet_word_at text k ≤ most_word
 
-pub filling : (room : ℕ) (text : List ℕ) (n : ℕ) → sheet_of room text ≡ Words n → Filling room text n
+pub filling : (room : ℕ) (text : List ℕ) (n : ℕ) → sheet_of room text ≡ Ok n → Filling room text n
 filling room text n e =
     let s : Accepted room text n = rw e at (says room text) in
     record {

@@ -6,7 +6,7 @@ use native.Mathlib.Omega.{arith}
 use lib.ListN.{length, drop, set, length-set}
 use Rattle.common.specs.Lists.{put}
 use Rattle.common.proofs.Put.{put_laws}
-use Rattle.sheet.specs.declared.writing.Cell.TheVariants.{Number, Dash}
+use Rattle.std.specs.Prelude.{Some, None}
 use Rattle.sheet.specs.Columns.{glyph_of, digit_of, leading, columns}
 use Rattle.sheet.specs.Rows.{cell_of}
 use Rattle.sheet.proofs.Widths.{length_both, length_leading}
@@ -52,11 +52,11 @@ pub columns_ending : (v : ℕ) → leading 5 (v / 10) ++ (digit_of v ∷ []) ≡
 unfolding columns
 columns_ending v = refl
 
-pub dash_ending : leading 5 0 ++ (45 ∷ []) ≡ cell_of Dash
+pub dash_ending : leading 5 0 ++ (45 ∷ []) ≡ cell_of None
 unfolding leading glyph_of cell_of
 dash_ending = refl
 
-pub number_cell : (v : ℕ) → columns 6 v ≡ cell_of (Number v)
+pub number_cell : (v : ℕ) → columns 6 v ≡ cell_of (Some v)
 unfolding cell_of
 number_cell v = refl
 

@@ -8,7 +8,7 @@ use native.Mathlib.Numerals.{add-one}
 use native.Mathlib.Omega.{arith}
 use lib.Dec.{eqb}
 use lib.ListN.{length, take, drop, get_or, length-drop}
-use lib.Seq.{slice, slice-cons, slice_empty, take-take, take-suc, get_or-drop, length-take-le}
+use lib.Seq.{slice, slice-cons, slice_empty, take-take, take-suc, get_or-drop, get_or-take, length-take-le}
 use borrow.Author.Tests.{eq-eqb, ne_eqb}
 use Rattle.sheet.specs.Columns.{digit_of, glyph_of, leading, columns}
 use Rattle.sheet.specs.Line.{line_of, value_from, line_value, same_bytes}
@@ -16,11 +16,15 @@ use Rattle.sheet.proofs.Widths.{length_leading, length_columns}
 
 -- ---- the number that a line shows
 
+pub column_is : (text : List ℕ) (at i : ℕ) → i < 10 → get_or (take (at + 10 - at) (drop at text)) i 0 ≡ get_or (drop at text) i 0
+column_is text at i h =
+    let e : at + 10 - at ≡ 10 = omega arith in rw e (get_or-take 10 (drop at text) i 0 h)
+
 pub value_turn : (text : List ℕ) (at i v : ℕ) → i < 10 → at + 11 ≤ length text
-    → value_from (v * 10 + get_or text (at + i) 0 % 16) (slice (i + 1) 10 (drop at text)) ≡ value_from v (slice i 10 (drop at text))
+    → value_from (v * 10 + get_or (take (at + 10 - at) (drop at text)) i 0 % 16) (slice (i + 1) 10 (drop at text)) ≡ value_from v (slice i 10 (drop at text))
 value_turn text at i v h l =
     let room : 10 ≤ length (drop at text) = simp length-drop (omega arith) in
-    rw (slice-cons i 10 (drop at text) 0 h room, get_or-drop, add-one)
+    rw (column_is text at i h, slice-cons i 10 (drop at text) 0 h room, add-one)
 
 pub value_start : (line : List ℕ) → value_from 0 (slice 0 10 line) ≡ line_value (take 11 line)
 unfolding line_value

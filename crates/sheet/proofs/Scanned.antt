@@ -1,19 +1,19 @@
 -- A turn of the scan, and of the filling. Assumes nothing.
-use mathlib.Core.Path.{◌≡◌, refl, ◌∙◌}
+use mathlib.Core.Path.{◌≡◌, refl, ap, ◌∙◌}
 use mathlib.Core.Bool.{true, false}
-use mathlib.Core.List.{List, [], ◌∷◌, ◌++◌}
+use mathlib.Core.List.{List, [], ◌∷◌, ◌++◌, append-nil}
 use Prim.Native.Nat.{ℕ, zero, suc, ◌+◌, ◌-◌, ◌≤◌, ◌<◌}
 use native.Mathlib.Numerals.{add-one}
 use native.Mathlib.Omega.{arith}
 use lib.ListN.{length, take, drop, get_or, set, length-append, length-drop}
-use lib.Seq.{drop-drop, set_at, drop-cons, append_snoc}
+use lib.Seq.{drop-drop, set_at, drop-cons, append_snoc, drop-length, length-take-le}
 use borrow.Author.Tests.{eq-eqb, ne_eqb}
-use Rattle.sheet.specs.declared.reading.Sheet.{Sheet}
-use Rattle.sheet.specs.declared.reading.Sheet.TheVariants.{Words, Malformed, TooLong}
+use Rattle.std.specs.Prelude.{Ok, Err}
+use Rattle.common.specs.declared.refusal.Refusal.TheVariants.{MalformedLine, TooManyLines}
 use Rattle.sheet.specs.Line.{is_line}
-use Rattle.sheet.specs.Format.{read_from, sheet_of, sheet_word_at, sheet_words, stored, room_of, table_after}
+use Rattle.sheet.specs.Format.{Sheet, read_from, sheet_of, sheet_word_at, sheet_words, stored, room_of, table_after}
 
-pub read_none : (room k : ℕ) (text : List ℕ) → length text ≡ 0 → read_from room k text ≡ Words k
+pub read_none : (room k : ℕ) (text : List ℕ) → length text ≡ 0 → read_from room k text ≡ Ok k
 read_none zero k text e = rw (eq-eqb (length text) 0 e)
 read_none (suc room) k text e = rw (eq-eqb (length text) 0 e)
 
@@ -21,10 +21,10 @@ module _ (text : List ℕ) (some : 0 < length text) where
   is_some : length text ≡ 0 → ⊥
   is_some e = omega arith
 
-  pub read_full : (k : ℕ) → read_from 0 k text ≡ TooLong
+  pub read_full : (k : ℕ) → read_from 0 k text ≡ Err TooManyLines
   read_full k = rw (ne_eqb (length text) 0 is_some)
 
-  pub read_bad : (room k : ℕ) → 0 < room → is_line (take 11 text) ≡ false → read_from room k text ≡ Malformed (k + 1)
+  pub read_bad : (room k : ℕ) → 0 < room → is_line (take 11 text) ≡ false → read_from room k text ≡ Err (MalformedLine (k + 1))
   read_bad zero k r e = absurd (omega arith)
   read_bad (suc room) k r e = rw (ne_eqb (length text) 0 is_some, e)
 
@@ -37,7 +37,7 @@ module _ (text : List ℕ) (some : 0 < length text) where
 pub some_left : (text : List ℕ) (at : ℕ) → at < length text → 0 < length (drop at text)
 some_left text at h = simp length-drop (omega arith)
 
-pub scan_none : (room k : ℕ) (text : List ℕ) (at : ℕ) → length text ≤ at → read_from room k (drop at text) ≡ Words k
+pub scan_none : (room k : ℕ) (text : List ℕ) (at : ℕ) → length text ≤ at → read_from room k (drop at text) ≡ Ok k
 scan_none room k text at h = read_none room k (drop at text) (simp length-drop (omega arith))
 
 pub scan_more : (text : List ℕ) (at : ℕ) → at < length text → (room k : ℕ) → k < room
@@ -69,6 +69,17 @@ words_more text k table h =
           (length_words text k),
       append_snoc,
     )
+
+-- the n words that are stored are all of a part of the table
+pub words_done : (text : List ℕ) (n k : ℕ) (table l : List ℕ) → n ≤ length table → k ≤ length (take n table) → length (take n table) ≤ k
+    → l ≡ sheet_words text k ++ drop k (take n table) → l ++ drop n table ≡ sheet_words text n ++ drop n table
+words_done text n k table l h a b e =
+    let long : length (take n table) ≡ n = length-take-le n table h in
+    let all : k ≡ length (take n table) = omega arith in
+    let none : drop k (take n table) ≡ [] = rw all (drop-length (take n table)) in
+    let same : l ≡ sheet_words text k = e ∙ ap (λ (x : List ℕ). sheet_words text k ++ x) none ∙ append-nil (sheet_words text k) in
+    let m : k ≡ n = all ∙ long in
+    ap (λ (x : List ℕ). x ++ drop n table) (same ∙ ap (sheet_words text) m)
 
 -- ---- the table
 

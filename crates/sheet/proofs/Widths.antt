@@ -4,8 +4,7 @@ use mathlib.Core.List.{List, [], ◌∷◌, ◌++◌}
 use Prim.Native.Nat.{ℕ, zero, suc, ◌+◌, ◌/◌}
 use native.Mathlib.Omega.{arith}
 use lib.ListN.{length, length-append}
-use Rattle.sheet.specs.declared.writing.Cell.{Cell}
-use Rattle.sheet.specs.declared.writing.Cell.TheVariants.{Number, Dash}
+use Rattle.std.specs.Prelude.{Option, Some, None}
 use Rattle.sheet.specs.Columns.{digit_of, glyph_of, leading, columns}
 use Rattle.sheet.specs.Line.{line_of}
 use Rattle.sheet.specs.Rows.{cell_of, row_of, pair_of}
@@ -30,17 +29,17 @@ pub length_line : (v : ℕ) → length (line_of v) ≡ 11
 unfolding line_of
 length_line v = length_snoc (columns 10 v) 10 10 (length_columns 10 v)
 
-pub length_cell : (c : Cell) → length (cell_of c) ≡ 6
+pub length_cell : (c : Option ℕ) → length (cell_of c) ≡ 6
 unfolding cell_of
-length_cell (Number v) = length_columns 6 v
-length_cell Dash = refl
+length_cell (Some v) = length_columns 6 v
+length_cell None = refl
 
 pub length_pair : (a b : ℕ) → length (pair_of a b) ≡ 13
 unfolding pair_of
 length_pair a b =
     length_snoc (columns 6 a ++ columns 6 b) 10 12 (length_both (columns 6 a) (columns 6 b) 6 6 12 (length_columns 6 a) (length_columns 6 b) refl)
 
-pub length_row : (p opcode : ℕ) (first second : Cell) (segment : ℕ) → length (row_of p opcode first second segment) ≡ 31
+pub length_row : (p opcode : ℕ) (first second : Option ℕ) (segment : ℕ) → length (row_of p opcode first second segment) ≡ 31
 unfolding row_of
 length_row p o a b s =
     simp (length-append, length_columns 6, length_cell)

@@ -2,12 +2,11 @@
 -- The proof of `Claims` is `proofs/Claims.antt`.
 -- Assumes nothing.
 use Rattle.std.specs.Prelude.{◌≡◌, List, [], ◌∷◌, ◌++◌, ℕ, zero, suc, ◌+◌, ◌*◌, ◌-◌, ◌/◌, ◌%◌, ◌^◌, ◌≤◌}
-use Rattle.std.specs.Prelude.{◌<◌, length, take, replicate}
-use Rattle.sheet.specs.declared.reading.Sheet.{Sheet}
-use Rattle.sheet.specs.declared.reading.Sheet.TheVariants.{Words, Malformed, TooLong}
+use Rattle.std.specs.Prelude.{◌<◌, length, take, replicate, Ok, Err}
+use Rattle.common.specs.declared.refusal.Refusal.TheVariants.{MalformedLine, TooManyLines}
 use Rattle.sheet.specs.Columns.{columns}
 use Rattle.sheet.specs.Line.{line_of}
-use Rattle.sheet.specs.Format.{sheet_of, sheet_words}
+use Rattle.sheet.specs.Format.{Sheet, sheet_of, sheet_words}
 
 -- the last digits of v, so many, as bytes: those of `0` to `9` are 48 to 57
 abbrev pub decimal : ℕ → ℕ → List ℕ
@@ -66,9 +65,10 @@ pub record Overfull (room : ℕ) (text : List ℕ) : Type 0 where
 
 -- what an answer says of a text
 abbrev pub SheetSays : ℕ → List ℕ → Sheet → Type 0
-SheetSays room text (Words n) = Accepted room text n
-SheetSays room text (Malformed line) = Broken room text line
-SheetSays room text TooLong = Overfull room text
+SheetSays room text (Ok n) = Accepted room text n
+SheetSays room text (Err (MalformedLine line)) = Broken room text line
+SheetSays room text (Err TooManyLines) = Overfull room text
+SheetSays room text (Err _) = ⊥
 
 pub record Claims : Type 0 where
   -- columns show each number that they are wide enough for
@@ -81,10 +81,10 @@ pub record Claims : Type 0 where
   pub only : (room : ℕ) (text : List ℕ) (s : Sheet) → SheetSays room text s → sheet_of room text ≡ s
   -- what is accepted is that text: the bytes are exactly the lines of the words that are stored
   pub accepted : (room : ℕ) (text : List ℕ) (n : ℕ)
-      → sheet_of room text ≡ Words n → text ≡ text_of (sheet_words text n)
+      → sheet_of room text ≡ Ok n → text ≡ text_of (sheet_words text n)
   -- every sheet for whose words there is room is accepted, with those words
   pub every : (room : ℕ) (words : List ℕ) → AllWords words → length words ≤ room
-      → sheet_of room (text_of words) ≡ Words (length words)
+      → sheet_of room (text_of words) ≡ Ok (length words)
   pub back : (words : List ℕ) → AllWords words → sheet_words (text_of words) (length words) ≡ words
   -- a text need not be read past the first byte for which there is no room
   pub enough : (room more : ℕ) (text : List ℕ)

@@ -2,18 +2,16 @@
 -- if none), stretch", "then a line of L and its first word. On refusal the only line is the number and
 -- the place, 6 columns each".
 -- Assumes nothing.
-use Rattle.std.specs.Prelude.{List, [], ◌∷◌, ◌++◌, ℕ}
-use Rattle.sheet.specs.declared.writing.Cell.{Cell}
-use Rattle.sheet.specs.declared.writing.Cell.TheVariants.{Number, Dash}
+use Rattle.std.specs.Prelude.{List, [], ◌∷◌, ◌++◌, ℕ, Option, Some, None}
 use Rattle.sheet.specs.Columns.{space, newline, hyphen, columns}
 
 -- a successor's column: its number, or `-` if there is none
-unfoldable pub cell_of : Cell → List ℕ
-cell_of (Number v) = columns 6 v
-cell_of Dash = space ∷ space ∷ space ∷ space ∷ space ∷ hyphen ∷ []
+unfoldable pub cell_of : Option ℕ → List ℕ
+cell_of (Some v) = columns 6 v
+cell_of None = space ∷ space ∷ space ∷ space ∷ space ∷ hyphen ∷ []
 
 -- the line of word p
-unfoldable pub row_of : ℕ → ℕ → Cell → Cell → ℕ → List ℕ
+unfoldable pub row_of : ℕ → ℕ → Option ℕ → Option ℕ → ℕ → List ℕ
 row_of p opcode first second segment =
     columns 6 p ++ columns 6 opcode ++ cell_of first ++ cell_of second ++ columns 6 segment ++ (newline ∷ [])
 

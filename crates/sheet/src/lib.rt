@@ -7,5 +7,5 @@ mod lines;
 mod reading;
 mod writing;
 
-pub use reading::{Sheet, read, sheet_number, sheet_place};
-pub use writing::{Cell, column, last_line, refusal_line, row};
+pub use reading::read;
+pub use writing::{column, last_line, refusal_line, row};

@@ -15,10 +15,8 @@ pub(crate) fn value(text: &[u8], at: usize) -> u64
     ensures { result ≡ line_value (take 11 (drop at text.now)) }
 {
     let mut v: u64 = 0;
-    let mut i = 0;
-    while i < 10 {
-        v = v * 10 + (text[at + i] % 16) as u64;
-        i += 1;
+    for column in &text[at..at + 10] {
+        v = v * 10 + (*column % 16) as u64;
     }
     v
 }
@@ -35,9 +33,7 @@ fn shows(text: &[u8], at: usize, v: u64) -> bool
         return false;
     }
     let mut rest = v / 10;
-    let mut i = 9;
-    while 0 < i {
-        i -= 1;
+    for i in (0..9).rev() {
         if text[at + i] != glyph(rest) {
             return false;
         }

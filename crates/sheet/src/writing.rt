@@ -6,24 +6,15 @@ ghost use Rattle.sheet.specs.Rows.{cell_of, row_of, pair_of, last_line_of, refus
 
 use crate::digits::{digit, glyph};
 
-// What a column shows.
-#[derive(Drop)]
-pub enum Cell {
-    Number(usize),
-    // `-`
-    Dash,
-}
-
 // Puts the digits of tens right-justified, and the byte last after them, into width columns.
 fn put_ending(out: &mut [u8], at: usize, width: usize, tens: u64, last: u8)
     requires { (0 < width) × (at + width ≤ length out.old) }
     ensures { out.new ≡ put out.old at (leading (width - 1) tens ++ (last ∷ [])) }
 {
-    let mut i = width - 1;
-    out[at + i] = last;
+    let end = width - 1;
+    out[at + end] = last;
     let mut rest = tens;
-    while 0 < i {
-        i -= 1;
+    for i in (0..end).rev() {
         out[at + i] = glyph(rest);
         rest /= 10;
     }
@@ -36,24 +27,19 @@ fn put_number(out: &mut [u8], at: usize, v: u64)
     put_ending(out, at, 6, v / 10, digit(v));
 }
 
-fn put_cell(out: &mut [u8], at: usize, c: Cell)
+// A number, or `-` where there is none.
+fn put_cell(out: &mut [u8], at: usize, c: Option<usize>)
     requires { at + 6 ≤ length out.old }
     ensures { out.new ≡ put out.old at (cell_of c) }
 {
     match c {
-        Cell::Number(v) => {
-            put_number(out, at, v as u64);
-            return;
-        }
-        Cell::Dash => {
-            put_ending(out, at, 6, 0, b'-');
-            return;
-        }
+        Some(v) => put_number(out, at, v as u64),
+        None => put_ending(out, at, 6, 0, b'-'),
     }
 }
 
 // A column by itself.
-pub fn column(c: Cell) -> [u8; 6]
+pub fn column(c: Option<usize>) -> [u8; 6]
     ensures { result ≡ cell_of c }
 {
     let mut out = [b' '; 6];
@@ -62,7 +48,13 @@ pub fn column(c: Cell) -> [u8; 6]
 }
 
 // The line of word p.
-pub fn row(p: usize, opcode: u8, first: Cell, second: Cell, segment: u32) -> [u8; 31]
+pub fn row(
+    p: usize,
+    opcode: u8,
+    first: Option<usize>,
+    second: Option<usize>,
+    segment: u32,
+) -> [u8; 31]
     ensures { result ≡ row_of p opcode first second segment }
 {
     let mut out = [b'\n'; 31];

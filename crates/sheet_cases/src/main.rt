@@ -7,7 +7,7 @@ mod buffers;
 use buffers::repeated;
 use print_cases::{decimal, end, text};
 use std::io::Stdout;
-use vectors::{bytes_of, number_of};
+use vectors::{list_of, number_of, part};
 
 // The first n bytes of a buffer as a sheet.
 fn show(out: Stdout, buffer: &[u8; 65536], n: usize) {
@@ -16,54 +16,44 @@ fn show(out: Stdout, buffer: &[u8; 65536], n: usize) {
     text(out, &page[..r]);
 }
 
-// Of a large sheet the answer's count of bytes, and its last 75: two words' lines and the last line.
-fn show_end(out: Stdout, buffer: &[u8; 65536], n: usize) {
-    let mut page = listing::page();
-    let r = listing::answer(buffer, n, &mut page);
-    decimal(out, r as u64);
-    end(out);
-    if 75 <= r {
-        let start = r - 75;
-        text(out, &page[start..r]);
-    }
-}
-
 // A sheet of few bytes: its text
 fn sheet(out: Stdout, line: &[u8]) {
     let mut buffer = io::large_buffer();
-    let lent = bytes_of(&mut buffer, line, 2);
-    let n = lent.len();
+    let n = list_of(&mut buffer, line, 2).len();
     show(out, &buffer, n);
 }
 
-fn ask(out: Stdout, line: &[u8]) {
-    let question = vectors::which(line, b"sheet|large|end");
-    if question > 2 {
-        return;
-    }
-    text(out, vectors::part(line, 1));
+// bytes | places | what stands there | n
+fn large(out: Stdout, line: &[u8]) {
+    show(out, &repeated(line), number_of(line, 5) as usize);
+}
+
+// Of a large sheet the answer's count of bytes, and its last 75: two words' lines and the last line.
+fn large_end(out: Stdout, line: &[u8]) {
+    let mut page = listing::page();
+    let r = listing::answer(&repeated(line), number_of(line, 5) as usize, &mut page);
+    decimal(out, r as u64);
     end(out);
-    match question {
-        0 => {
-            sheet(out, line);
-        }
-        1 => {
-            show(out, &repeated(line), number_of(line, 5) as usize);
-        }
-        _ => {
-            show_end(out, &repeated(line), number_of(line, 5) as usize);
-        }
+    if 75 <= r {
+        text(out, &page[r - 75..r]);
     }
 }
 
-fn ask_all(out: Stdout, text: &[u8]) {
-    for i in 0..text.len() {
-        ask(out, vectors::line_at(text, i));
-    }
+fn ask(out: Stdout, line: &[u8]) {
+    let question: fn(Stdout, &[u8]) = match part(line, 0) {
+        b"sheet" => sheet,
+        b"large" => large,
+        b"end" => large_end,
+        _ => {
+            return;
+        }
+    };
+    text(out, part(line, 1));
+    end(out);
+    question(out, line);
 }
 
 fn main(rt: HostRuntime) {
-    let mut page = io::large_buffer();
-    let n = vectors::read(rt.stdin(), &mut page);
-    ask_all(rt.stdout(), pages::first(&page, n));
+    let out = rt.stdout();
+    vectors::ask_each(rt.stdin(), |line| ask(out, line));
 }

@@ -10,4 +10,6 @@ pub mod NextWords
 pub mod Shapes
 pub mod Ways
 pub mod Words
+pub mod Rows
 pub mod Words53
+pub mod Rows53

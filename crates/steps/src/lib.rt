@@ -2,6 +2,7 @@
 // pass that settles the steps of all words.
 #![tactic(auto)]
 
+mod alike;
 pub mod inner;
 pub mod lua53;
 pub mod lua54;

@@ -7,16 +7,16 @@ use lib.ListN.{length, take, length-append}
 use Rattle.common.specs.Limits.{most_words}
 use Rattle.common.specs.Lists.{put}
 use Rattle.common.proofs.Put.{put_laws}
-use Rattle.runs.specs.declared.longest.Run.{Run}
-use Rattle.runs.specs.declared.longest.Run.TheVariants.{Accepted, Refused}
-use Rattle.sheet.specs.declared.writing.Cell.{Cell}
-use Rattle.sheet.specs.declared.writing.Cell.TheVariants.{Number, Dash}
+use Rattle.common.specs.Refusals.{refusal_number, refusal_place}
+use Rattle.runs.specs.Run.{Run, accepted_run}
+use Rattle.std.specs.Prelude.{Option, Some, None}
 use Rattle.sheet.specs.Rows.{cell_of, pair_of}
 use Rattle.sheet.proofs.Laws.{laws as sheet-laws}
 use Rattle.lundump.specs.declared.counts.Counts.{Counts}
-use Rattle.loaders.specs.declared.reading.Refusal.{Refusal}
-use Rattle.loaders.specs.declared.reading.Refusal.TheVariants.{Header, Malformed, TooDeep, UnknownTag, Short}
-use Rattle.loaders.specs.Reading.{Result, done, refused}
+use Rattle.common.specs.declared.refusal.Refusal.{Refusal}
+use Rattle.common.specs.declared.refusal.Refusal.TheVariants.{TooManyWords, ConstantCount, UnknownTag, StringPastBytes, Names, ShortSlice, NoWords, ReachesInvalid, NoStep, ForeignMeter, MalformedLine, TooManyLines, HeaderDiffers, MalformedChunk, TooDeep, UnsetRegister, WeightsRefused, LowAboveHigh, NoScript, BudgetRange, OverBudget, OutOfRange}
+use Rattle.std.proofs.Common.{Ok, Err}
+use Rattle.loaders.specs.Reading.{Outcome}
 use Rattle.lundump.specs.Lundump.{Function}
 use Rattle.lundump.specs.Chunk.{chosen, counts_of, words_of, words_room, filled, after}
 use Rattle.chunk.specs.Laws.{CountsWithin}
@@ -27,24 +27,24 @@ use Rattle.survey.specs.Lines.{line_head, tail_of, only_of, function_text, run_i
 length_both : (xs ys : List ℕ) (m n k : ℕ) → length xs ≡ m → length ys ≡ n → m + n ≡ k → length (xs ++ ys) ≡ k
 length_both xs ys m n k a b e = length-append xs ys ∙ rw (a, b) e
 
-length_four : (a b c d : Cell) → length (cell_of a ++ cell_of b ++ cell_of c ++ cell_of d) ≡ 24
+length_four : (a b c d : Option ℕ) → length (cell_of a ++ cell_of b ++ cell_of c ++ cell_of d) ≡ 24
 length_four a b c d = simp (length-append, sheet-laws.cell)
 
 pub length_head : (k : ℕ) (c : Counts) → length (line_head k c) ≡ 24
 unfolding line_head
-length_head k c = length_four (Number k) (Number c.words) (Number c.constants) (Number c.names)
+length_head k c = length_four (Some k) (Some c.words) (Some c.constants) (Some c.names)
 
-pub length_accepted : (longest first : ℕ) → length (tail_of (Accepted longest first)) ≡ 13
+pub length_accepted : (longest first : ℕ) → length (tail_of (accepted_run longest first)) ≡ 13
 unfolding tail_of
 length_accepted longest first = sheet-laws.pair longest first
 
-pub length_refused : (number place : ℕ) → length (tail_of (Refused number place)) ≡ 25
+pub length_refused : (e : Refusal) → length (tail_of (Err e)) ≡ 25
 unfolding tail_of
-length_refused number place = simp (length-append, sheet-laws.cell, sheet-laws.pair)
+length_refused e = simp (length-append, sheet-laws.cell, sheet-laws.pair)
 
 pub length_tail : (run : Run) → length (tail_of run) ≤ 25
-length_tail (Accepted longest first) = omega (arith, length_accepted longest first)
-length_tail (Refused number place) = omega (arith, length_refused number place)
+length_tail (Ok run) = omega (arith, length_accepted run.longest run.first)
+length_tail (Err e) = omega (arith, length_refused e)
 
 pub length_only : (k number place : ℕ) → length (only_of k number place) ≤ 13
 unfolding only_of
@@ -54,36 +54,38 @@ length_only (suc k) number place = omega arith
 -- ---- the columns one after another
 module _ (l o₁ o₂ : List ℕ) where
   -- two cells, or a cell after those before it
-  pub one_more : (at n : ℕ) (xs : List ℕ) (c : Cell) → o₁ ≡ put l at xs → length xs ≡ n → at + (n + 6) ≤ length l
+  pub one_more : (at n : ℕ) (xs : List ℕ) (c : Option ℕ) → o₁ ≡ put l at xs → length xs ≡ n → at + (n + 6) ≤ length l
       → o₂ ≡ put o₁ (at + n) (cell_of c) → o₂ ≡ put l at (xs ++ cell_of c)
   one_more at n xs c e k h f = put_laws.and_then l o₁ o₂ at n xs (cell_of c) e k (rw (sheet-laws.cell c) h) f
 
-pub head_put : (l o₁ o₂ o₃ o₄ : List ℕ) (k : ℕ) (c : Counts) → 24 ≤ length l → o₁ ≡ put l 0 (cell_of (Number k))
-    → o₂ ≡ put o₁ 6 (cell_of (Number c.words)) → o₃ ≡ put o₂ 12 (cell_of (Number c.constants))
-    → o₄ ≡ put o₃ 18 (cell_of (Number c.names)) → o₄ ≡ put l 0 (line_head k c)
+pub head_put : (l o₁ o₂ o₃ o₄ : List ℕ) (k : ℕ) (c : Counts) → 24 ≤ length l → o₁ ≡ put l 0 (cell_of (Some k))
+    → o₂ ≡ put o₁ 6 (cell_of (Some c.words)) → o₃ ≡ put o₂ 12 (cell_of (Some c.constants))
+    → o₄ ≡ put o₃ 18 (cell_of (Some c.names)) → o₄ ≡ put l 0 (line_head k c)
 unfolding line_head
 head_put l o₁ o₂ o₃ o₄ k c h e₁ e₂ e₃ e₄ =
-    let one = cell_of (Number k) in
-    let l₁ : length one ≡ 6 = sheet-laws.cell (Number k) in
-    let f₂ = one_more l o₁ o₂ 0 6 one (Number c.words) e₁ l₁ (omega arith) e₂ in
-    let l₂ = length_both one (cell_of (Number c.words)) 6 6 12 l₁ (sheet-laws.cell (Number c.words)) refl in
-    let f₃ = one_more l o₂ o₃ 0 12 (one ++ cell_of (Number c.words)) (Number c.constants) f₂ l₂ (omega arith) e₃ in
-    let l₃ = length_both (one ++ cell_of (Number c.words)) (cell_of (Number c.constants)) 12 6 18 l₂ (sheet-laws.cell (Number c.constants)) refl in
-    one_more l o₃ o₄ 0 18 (one ++ cell_of (Number c.words) ++ cell_of (Number c.constants)) (Number c.names) f₃ l₃ (omega arith) e₄
+    let one = cell_of (Some k) in
+    let l₁ : length one ≡ 6 = sheet-laws.cell (Some k) in
+    let f₂ = one_more l o₁ o₂ 0 6 one (Some c.words) e₁ l₁ (omega arith) e₂ in
+    let l₂ = length_both one (cell_of (Some c.words)) 6 6 12 l₁ (sheet-laws.cell (Some c.words)) refl in
+    let f₃ = one_more l o₂ o₃ 0 12 (one ++ cell_of (Some c.words)) (Some c.constants) f₂ l₂ (omega arith) e₃ in
+    let l₃ = length_both (one ++ cell_of (Some c.words)) (cell_of (Some c.constants)) 12 6 18 l₂ (sheet-laws.cell (Some c.constants)) refl in
+    one_more l o₃ o₄ 0 18 (one ++ cell_of (Some c.words) ++ cell_of (Some c.constants)) (Some c.names) f₃ l₃ (omega arith) e₄
 
-pub tail_accepted : (l o : List ℕ) (longest first : ℕ) → o ≡ put l 24 (pair_of longest first) → o ≡ put l 24 (tail_of (Accepted longest first))
+pub tail_accepted : (l o : List ℕ) (longest first : ℕ) → o ≡ put l 24 (pair_of longest first) → o ≡ put l 24 (tail_of (accepted_run longest first))
 unfolding tail_of
 tail_accepted l o longest first e = e
 
-pub tail_refused : (l o₁ o₂ o₃ : List ℕ) (number place : ℕ) → 49 ≤ length l → o₁ ≡ put l 24 (cell_of Dash) → o₂ ≡ put o₁ 30 (cell_of Dash)
-    → o₃ ≡ put o₂ 36 (pair_of number place) → o₃ ≡ put l 24 (tail_of (Refused number place))
+pub tail_refused : (l o₁ o₂ o₃ : List ℕ) (e : Refusal) → 49 ≤ length l → o₁ ≡ put l 24 (cell_of None) → o₂ ≡ put o₁ 30 (cell_of None)
+    → o₃ ≡ put o₂ 36 (pair_of (refusal_number e) (refusal_place e)) → o₃ ≡ put l 24 (tail_of (Err e))
 unfolding tail_of
-tail_refused l o₁ o₂ o₃ number place h e₁ e₂ e₃ =
+tail_refused l o₁ o₂ o₃ e h e₁ e₂ e₃ =
+    let number = refusal_number e in
+    let place = refusal_place e in
     let n : length (pair_of number place) ≡ 13 = sheet-laws.pair number place in
-    let d : length (cell_of Dash) ≡ 6 = sheet-laws.cell Dash in
-    let f₂ = one_more l o₁ o₂ 24 6 (cell_of Dash) Dash e₁ d (omega arith) e₂ in
-    let l₂ = length_both (cell_of Dash) (cell_of Dash) 6 6 12 d d refl in
-    put_laws.and_then l o₂ o₃ 24 12 (cell_of Dash ++ cell_of Dash) (pair_of number place) f₂ l₂ (rw n (omega arith)) e₃
+    let d : length (cell_of None) ≡ 6 = sheet-laws.cell None in
+    let f₂ = one_more l o₁ o₂ 24 6 (cell_of None) None e₁ d (omega arith) e₂ in
+    let l₂ = length_both (cell_of None) (cell_of None) 6 6 12 d d refl in
+    put_laws.and_then l o₂ o₃ 24 12 (cell_of None ++ cell_of None) (pair_of number place) f₂ l₂ (rw n (omega arith)) e₃
 
 -- ---- the only line of a refusal
 pub only_first : (k number place : ℕ) → k ≡ 0 → only_of k number place ≡ pair_of number place
@@ -96,18 +98,22 @@ only_later zero number place h = absurd (h refl)
 only_later (suc k) number place h = refl
 
 -- ---- what was read
-module _ (k : ℕ) (bytes : List ℕ) (table words : List ℕ) (c : Counts)
-    (h : c ≡ counts_of (filled k bytes (words_room most_words))) (w : words ≡ after words_of (filled k bytes (words_room most_words)) table) where
+module _ (k : ℕ) (bytes : List ℕ) (table words : List ℕ) (c : Counts) (e : most_words ≡ length table)
+    (h : c ≡ counts_of (filled k bytes (words_room (length table))))
+    (v : words ≡ after words_of (filled k bytes (words_room (length table))) table) where
   counts_are : c ≡ counts_of (chosen k bytes)
-  counts_are = h ∙ ap counts_of (laws.room k bytes)
+  counts_are = h ∙ ap (λ (n : ℕ). counts_of (filled k bytes (words_room n))) (sym e) ∙ ap counts_of (laws.room k bytes)
+
+  w : words ≡ after words_of (filled k bytes (words_room most_words)) table
+  w = v ∙ ap (λ (n : ℕ). after words_of (filled k bytes (words_room n)) table) (sym e)
 
   pub within : CountsWithin c
   within = rw counts_are (laws.within k bytes)
 
-  refused_text : (X : Result Function) → c ≡ counts_of X → (c.number ≡ 0 → ⊥) → only_of k c.number c.place ≡ function_text k X
+  refused_text : (X : Outcome Function) → c ≡ counts_of X → (c.number ≡ 0 → ⊥) → only_of k c.number c.place ≡ function_text k X
   unfolding counts_of function_text
-  refused_text (done f at) e n = absurd (n (ap (λ (x : Counts). x.number) e))
-  refused_text (refused x) e n = rw e
+  refused_text (Ok (f, at)) e n = absurd (n (ap (λ (x : Counts). x.number) e))
+  refused_text (Err x) e n = rw e
 
   pub line_refused : (c.number ≡ 0 → ⊥) → only_of k c.number c.place ≡ function_line k bytes
   unfolding function_line
@@ -117,20 +123,37 @@ module _ (k : ℕ) (bytes : List ℕ) (table words : List ℕ) (c : Counts)
   pub record Got : Type 0 where
     pub function : Function
     pub at : ℕ
-    pub is : chosen k bytes ≡ done function at
-    pub counts : c ≡ counts_of (done function at)
+    pub is : chosen k bytes ≡ Ok (function, at)
+    pub counts : c ≡ counts_of (Ok (function, at))
 
-  not_zero : (e : Refusal) → (counts_of (refused e)).number ≡ 0 → ⊥
+  not_zero : (e : Refusal) → (counts_of (Err e)).number ≡ 0 → ⊥
   unfolding counts_of
-  not_zero Header z = omega arith
-  not_zero Malformed z = omega arith
+  not_zero TooManyWords z = omega arith
+  not_zero ConstantCount z = omega arith
+  not_zero (UnknownTag p) z = omega arith
+  not_zero (StringPastBytes p) z = omega arith
+  not_zero (Names p) z = omega arith
+  not_zero ShortSlice z = omega arith
+  not_zero NoWords z = omega arith
+  not_zero (ReachesInvalid p) z = omega arith
+  not_zero NoStep z = omega arith
+  not_zero ForeignMeter z = omega arith
+  not_zero (MalformedLine p) z = omega arith
+  not_zero TooManyLines z = omega arith
+  not_zero HeaderDiffers z = omega arith
+  not_zero MalformedChunk z = omega arith
   not_zero TooDeep z = omega arith
-  not_zero (UnknownTag i) z = omega arith
-  not_zero Short z = omega arith
+  not_zero (UnsetRegister p) z = omega arith
+  not_zero (WeightsRefused p) z = omega arith
+  not_zero (LowAboveHigh p) z = omega arith
+  not_zero NoScript z = omega arith
+  not_zero BudgetRange z = omega arith
+  not_zero OverBudget z = omega arith
+  not_zero OutOfRange z = omega arith
 
-  got_by : (X : Result Function) → chosen k bytes ≡ X → c.number ≡ 0 → Got
-  got_by (done f at) e z = record { function = f; at = at; is = e; counts = counts_are ∙ ap counts_of e }
-  got_by (refused x) e z = absurd (not_zero x (sym (ap (λ (y : Counts). y.number) (counts_are ∙ ap counts_of e)) ∙ z))
+  got_by : (X : Outcome Function) → chosen k bytes ≡ X → c.number ≡ 0 → Got
+  got_by (Ok (f, at)) e z = record { function = f; at = at; is = e; counts = counts_are ∙ ap counts_of e }
+  got_by (Err x) e z = absurd (not_zero x (sym (ap (λ (y : Counts). y.number) (counts_are ∙ ap counts_of e)) ∙ z))
 
   got : c.number ≡ 0 → Got
   got z = got_by (chosen k bytes) refl z
@@ -154,7 +177,7 @@ module _ (k : ℕ) (bytes : List ℕ) (table words : List ℕ) (c : Counts)
       let t : take c.words words ≡ g.function.words = words_are g in
       let m : line_head k c ++ tail_of run ≡ function_text k (chosen k bytes) =
       ap (λ (x : Counts). line_head k x ++ tail_of run) g.counts
-      ∙ ap (λ (x : Run). line_head k (counts_of (done g.function g.at)) ++ tail_of x) (er ∙ ap run_in t)
+      ∙ ap (λ (x : Run). line_head k (counts_of (Ok (g.function, g.at))) ++ tail_of x) (er ∙ ap run_in t)
       ∙ ap (function_text k) (sym g.is) in
       let s : length (line_head k c ++ tail_of run) ≡ 24 + length (tail_of run) =
       length_both (line_head k c) (tail_of run) 24 (length (tail_of run)) (24 + length (tail_of run))

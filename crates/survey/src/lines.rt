@@ -5,15 +5,15 @@ ghost use Rattle.sheet.specs.Rows.{cell_of};
 ghost use Rattle.survey.specs.Lines.{line_head, tail_of, only_of, function_line};
 ghost use Rattle.survey.specs.Claims.{line_length};
 
-use crate::paper;
-use crate::paper::LINE;
+use crate::paper::{LINE, room};
 use crate::run::run_of;
+use common::Refusal;
 use common::inner::put_text;
+use common::limits::MOST_WORDS;
 use lundump::Counts;
-use runs::Run;
-use sheet::Cell;
+use runs::Longest;
 
-fn put_cell(page: &mut [u8], at: usize, c: Cell)
+fn put_cell(page: &mut [u8], at: usize, c: Option<usize>)
     requires { at + 6 ≤ length page.old }
     ensures { page.new ≡ put page.old at (cell_of c) }
 {
@@ -21,37 +21,44 @@ fn put_cell(page: &mut [u8], at: usize, c: Cell)
 }
 
 // The function's number, words, constants and names, from the page's start on.
+#[tactic(auto, using(crate::proofs::Columns::head_put))]
 fn put_head(page: &mut [u8], k: usize, c: Counts)
     requires { 24 ≤ length page.old }
     ensures { page.new ≡ put page.old 0 (line_head k c) }
 {
-    put_cell(page, 0, Cell::Number(k));
-    put_cell(page, 6, Cell::Number(c.words as usize));
-    put_cell(page, 12, Cell::Number(c.constants as usize));
-    put_cell(page, 18, Cell::Number(c.names as usize));
+    put_cell(page, 0, Some(k));
+    put_cell(page, 6, Some(c.words as usize));
+    put_cell(page, 12, Some(c.constants as usize));
+    put_cell(page, 18, Some(c.names as usize));
 }
 
 // The run behind them; answers where the line ends.
-fn put_tail(page: &mut [u8], run: Run) -> usize
+fn put_tail(page: &mut [u8], run: Result<Longest, Refusal>) -> usize
     requires { line_length ≤ length page.old }
     ensures value { result ≡ 24 + length (tail_of run) }
     ensures page_after { page.new ≡ put page.old 24 (tail_of run) }
 {
     match run {
-        Run::Accepted { longest, first } => {
+        Ok(Longest { longest, first }) => {
             put_text(page, 24, &sheet::last_line(longest, first));
-            return 37;
+            37
         }
-        Run::Refused { number, place } => {
-            put_cell(page, 24, Cell::Dash);
-            put_cell(page, 30, Cell::Dash);
-            put_text(page, 36, &sheet::refusal_line(number, place));
-            return LINE;
+        Err(refusal) => {
+            put_cell(page, 24, None);
+            put_cell(page, 30, None);
+            put_text(
+                page,
+                36,
+                &sheet::refusal_line(refusal.number(), refusal.place()),
+            );
+            LINE
         }
     }
 }
 
 // The only line of a chunk that is refused; answers its length.
+// Kept: (a) 0 for no line, which `line` promises (clause value), and the counts by their number, as
+// `words_of` of crate chunk and lawendeb_chunk_words_at give them.
 fn put_only(page: &mut [u8], k: usize, c: Counts) -> usize
     requires { (line_length ≤ length page.old) × (c.number ≤ 16) }
     ensures value { result ≡ length (only_of k c.number c.place) }
@@ -74,7 +81,7 @@ fn put_line(bytes: &[u8], k: usize, page: &mut [u8]) -> usize
     ensures value { result ≡ length (function_line k bytes.now) }
     ensures page_after { page.new ≡ put page.old 0 (function_line k bytes.now) }
 {
-    let mut words = paper::words();
+    let mut words: [u32; MOST_WORDS] = room(0);
     let counts = chunk::words_of(bytes, k, &mut words);
     if counts.number != 0 {
         return put_only(page, k, counts);

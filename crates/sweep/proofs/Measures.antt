@@ -7,14 +7,18 @@ use Prim.Native.Nat.{ℕ, ◌+◌, ◌-◌, ◌*◌, ◌/◌, ◌%◌, ◌≤◌
 use native.Mathlib.Nat.{le_trans, mul-le-mul_left}
 use native.Mathlib.Omega.{arith}
 use borrow.Author.Tests.{eq-eqb, ne_eqb, leb-false, lt-leb, ltb-false}
+use mir.Syntax.{w8}
+use mir.Val.{Fits}
+use lib.Bits.{bit_and}
 use lib.Dec.{ltb, leb}
 use lib.ListN.{length, get_or, set, length-set, get_or-eq_default}
 use lib.Seq.{get_or-set_same, get_or-set_other}
-use Rattle.common.specs.Limits.{most_words}
-use Rattle.common.specs.Lowest.{lowest_from}
+use Rattle.common.specs.Limits.{most_words, heaviest_weight}
+use Rattle.std.specs.Prelude.{Option, Some, None}
+use Rattle.common.specs.Lowest.{lowest_from, found}
 use Rattle.common.proofs.Order.{split, same_or_not, past, one_of}
 use Rattle.common.proofs.Stores.{at_set}
-use Rattle.common.proofs.Lowest.{lowest_laws}
+use Rattle.common.proofs.Lowest.{lowest_laws, nothing_found, found_first}
 use Rattle.graph.specs.Graph.{Graph, In}
 use Rattle.graph.specs.Marks.{mark_of}
 use Rattle.graph.specs.Longest.{best, length_of}
@@ -24,7 +28,7 @@ use Rattle.sweep.specs.declared.edges.Successors.{Successors}
 use Rattle.sweep.specs.declared.edges.Successors.TheVariants.{One, Two}
 use Rattle.sweep.specs.Steps.{ordered, list_of, is_invalid, serves_of}
 use Rattle.sweep.specs.Entries.{«TARGETS», «ENTRIES», KIND_NONE, KIND_NEXT, KIND_TARGET, entry_at, entries, entry_steps, graph_in, invalid_by}
-use Rattle.sweep.specs.PassInvariants.{Filled, Measuring, Measures, FillAsks, Fills, steps_in, length_in, invalid_from, at}
+use Rattle.sweep.specs.PassInvariants.{Filled, Measuring, Measures, FillAsks, Fills, steps_in, length_in, invalid_in, weight_by, at}
 use Rattle.sweep.proofs.Entries.{ordered_among, entries_length, entry_is, entry_target, entry_both}
 
 -- the next word is no service
@@ -57,11 +61,11 @@ best_ordered l p q r = go (ltb q r) refl (ltb r q) refl
     go false e false f = let x = ltb-false q r e in let y = ltb-false r q f in let z : q ≡ r = omega arith in let w = ap (beyond_of l p) z in omega arith
 
 -- two steps are no invalid word's
-pub both_valid : (q r p i : ℕ) → i ≡ cond (is_invalid (ordered q r)) p i
+pub both_valid : (q r : ℕ) → false ≡ is_invalid (ordered q r)
 unfolding ordered
-both_valid q r p i = go (ltb q r) (ltb r q)
+both_valid q r = go (ltb q r) (ltb r q)
   where
-    go : (b d : Bool) → i ≡ cond (is_invalid (cond b (Two q r) (cond d (Two r q) (One q)))) p i
+    go : (b d : Bool) → false ≡ is_invalid (cond b (Two q r) (cond d (Two r q) (One q)))
     go true d = refl
     go false true = refl
     go false false = refl
@@ -70,21 +74,21 @@ module _ (m l : List ℕ) (p : ℕ) where
   pub measured_none : (w : ℕ → ℕ) → get_or m p 0 ≡ 0 → 0 ≡ length_in w m l p
   measured_none w e = simp (eq-eqb (get_or m p 0) 0 e)
 
-  pub lowest_none_here : (i : ℕ) → get_or m p 0 ≡ 0 → i ≡ invalid_from m l p i
-  lowest_none_here i e = simp (eq-eqb (get_or m p 0) 0 e)
+  pub valid_unmarked : get_or m p 0 ≡ 0 → false ≡ invalid_in m l p
+  valid_unmarked e = simp (eq-eqb (get_or m p 0) 0 e)
 
-  pub measures_none : (w : ℕ → ℕ) (i : ℕ) → get_or m p 0 ≡ 0 → Measures w m l p i 0 i
-  measures_none w i e = record { length_is = measured_none w e; invalid_is = lowest_none_here i e }
+  pub measures_none : (w : ℕ → ℕ) → get_or m p 0 ≡ 0 → Measures w m l p 0 false
+  measures_none w e = record { length_is = measured_none w e; invalid_is = valid_unmarked e }
 
   module _ (n : get_or m p 0 ≡ 0 → ⊥) {s : Successors} (e : steps_in l p ≡ s) where
     pub measured_by : (w : ℕ → ℕ) {v : ℕ} → v ≡ w p + best (graph_in l) p (at l) (list_of s) → v ≡ length_in w m l p
     measured_by w q = simp (ne_eqb (get_or m p 0) 0 n, e) q
 
-    pub lowest-by : {v : ℕ} (i : ℕ) → v ≡ cond (is_invalid s) p i → v ≡ invalid_from m l p i
-    lowest-by i q = simp (ne_eqb (get_or m p 0) 0 n, e) q
+    pub invalid_by_steps : {b : Bool} → b ≡ is_invalid s → b ≡ invalid_in m l p
+    invalid_by_steps q = simp (ne_eqb (get_or m p 0) 0 n, e) q
 
-    pub measures_by : (w : ℕ → ℕ) (i : ℕ) {v i' : ℕ} → v ≡ w p + best (graph_in l) p (at l) (list_of s) → i' ≡ cond (is_invalid s) p i → Measures w m l p i v i'
-    measures_by w i q d = record { length_is = measured_by w q; invalid_is = lowest-by i d }
+    pub measures_by : (w : ℕ → ℕ) {v : ℕ} {b : Bool} → v ≡ w p + best (graph_in l) p (at l) (list_of s) → b ≡ is_invalid s → Measures w m l p v b
+    measures_by w q d = record { length_is = measured_by w q; invalid_is = invalid_by_steps d }
 
   module _ (limit a : ℕ) (k : Measuring limit m l p a) where
     pub above_low : a ≤ limit
@@ -115,8 +119,8 @@ module _ (m l : List ℕ) (p : ℕ) where
         (same_or_not (e / «TARGETS») KIND_TARGET)
 
 -- only the word's own weight counts
-pub measures_at : (w : ℕ → ℕ) (m l : List ℕ) (p i : ℕ) {v i' x : ℕ} → x ≡ w p → Measures (λ _. x) m l p i v i' → Measures w m l p i v i'
-measures_at w m l p i e d =
+pub measures_at : (w : ℕ → ℕ) (m l : List ℕ) (p : ℕ) {v x : ℕ} {b : Bool} → x ≡ w p → Measures (λ _. x) m l p v b → Measures w m l p v b
+measures_at w m l p e d =
     record { length_is = d.length_is ∙ ap (λ (y : ℕ). length_in (λ _. y) m l p) e; invalid_is = d.invalid_is }
 
 -- what a graph of entries takes from an edge does not hang on the entries
@@ -152,18 +156,18 @@ module _ (es : List ℕ) (w : ℕ → ℕ) (m l : List ℕ) (p : ℕ) (h : p < l
       (λ n. sym (measured_by m l p n refl w refl) ∙ sym (measured n))
       (same_or_not (get_or m p 0) 0)
 
-  lowest_unmarked : (v : ℕ) → mark_of g p ≡ 0 → v ≡ cond (invalid_by (length es) (entry_steps es) p) p v
-  lowest_unmarked v e = simp (ne_eqb (mark_of g p) 1 (λ o. omega arith))
-
-  lowest_marked : (v : ℕ) → mark_of g p ≡ 1 → cond (is_invalid (entry_steps es p)) p v ≡ cond (invalid_by (length es) (entry_steps es) p) p v
-  lowest_marked v e = simp (eq-eqb (mark_of g p) 1 e)
-
-  lowest_found : (v : ℕ) → invalid_from m l p v ≡ cond (invalid_by (length es) (entry_steps es) p) p v
-  lowest_found v =
+  invalid_found : invalid_in m l p ≡ invalid_by (length es) (entry_steps es) p
+  invalid_found =
       ⊎_elim
-      (λ e. sym (lowest_none_here m l p v e) ∙ lowest_unmarked v (unmarked e))
-      (λ n. sym (lowest-by m l p n entry_here v refl) ∙ lowest_marked v (marked n))
+      (λ e. sym (valid_unmarked m l p e) ∙ at_unmarked (unmarked e))
+      (λ n. sym (invalid_by_steps m l p n entry_here refl) ∙ at_marked (marked n))
       (same_or_not (get_or m p 0) 0)
+    where
+      at_unmarked : mark_of g p ≡ 0 → false ≡ invalid_by (length es) (entry_steps es) p
+      at_unmarked e = simp (ne_eqb (mark_of g p) 1 (λ o. omega arith))
+
+      at_marked : mark_of g p ≡ 1 → is_invalid (entry_steps es p) ≡ invalid_by (length es) (entry_steps es) p
+      at_marked e = simp (eq-eqb (mark_of g p) 1 e)
 
   -- one word more
   filled_more : (v : ℕ) → v ≡ length_of g w p → Filled es w m (set l p v) p
@@ -183,13 +187,13 @@ module _ (es : List ℕ) (w : ℕ → ℕ) (m l : List ℕ) (p : ℕ) (h : p < l
       }
 
 -- the words from i on have their lengths, a is that of word i, and v the lowest invalid word among them; l₀ holds the entries of all
-pub record Filling (w : ℕ → ℕ) (l₀ m l : List ℕ) (i a v : ℕ) : Type 0 where
+pub record Filling (w : ℕ → ℕ) (l₀ m l : List ℕ) (i a : ℕ) (v : Option ℕ) : Type 0 where
   pub filled : Filled (entries l₀) w m l i
   pub upto : i ≤ length (entries l₀)
   pub above : a ≡ get_or l i 0
-  pub lowest : v ≡ lowest_from (invalid_by (length (entries l₀)) (entry_steps (entries l₀))) i (length (entries l₀) - i)
+  pub lowest : v ≡ found (length (entries l₀)) (lowest_from (invalid_by (length (entries l₀)) (entry_steps (entries l₀))) i (length (entries l₀) - i))
 
-pub filling_none : (w : ℕ → ℕ) (m l : List ℕ) → FillAsks m l → Filling w l m l (length l) 0 (length l)
+pub filling_none : (w : ℕ → ℕ) (m l : List ℕ) → FillAsks m l → Filling w l m l (length l) 0 None
 filling_none w m l k =
     let n = entries_length l in
     record {
@@ -204,11 +208,15 @@ filling_none w m l k =
       };
       upto = omega arith;
       above = sym (get_or-eq_default l 0 (omega arith));
-      lowest = lowest_laws.end (invalid_by (length (entries l)) (entry_steps (entries l))) (length (entries l)) (length l) (sym n);
+      lowest = nothing_found (omega (arith, lowest_laws.end (invalid_by (length (entries l)) (entry_steps (entries l))) (length (entries l)) (length l) (sym n)));
     }
 
+-- a weight is a byte
+pub light_by : (mask : ℕ) (words weights : List ℕ) → ((i : ℕ) → Fits w8 (get_or weights i 0)) → (q : ℕ) → weight_by mask words weights q ≤ heaviest_weight
+light_by mask words weights bytes q = omega (arith, bytes (bit_and (get_or words q 0) mask))
+
 -- a turn of the pass, where no word weighs more than the heaviest
-module _ (w : ℕ → ℕ) (heaviest : ℕ) (bound : (q : ℕ) → w q ≤ heaviest) (l₀ m l : List ℕ) (p a v : ℕ) (f : Filling w l₀ m l (p + 1) a v) where
+module _ (w : ℕ → ℕ) (heaviest : ℕ) (bound : (q : ℕ) → w q ≤ heaviest) (l₀ m l : List ℕ) (p a : ℕ) (v : Option ℕ) (f : Filling w l₀ m l (p + 1) a v) where
   abbrev es : List ℕ
   es = entries l₀
 
@@ -234,23 +242,26 @@ module _ (w : ℕ → ℕ) (heaviest : ℕ) (bound : (q : ℕ) → w q ≤ heavi
         next = f.above;
       }
 
-  pub filling_more : {x y : ℕ} → Measures w m l p v x y → Filling w l₀ m (set l p x) p x y
-  filling_more {x} {y} d =
+  pub filling_more : {x : ℕ} {b : Bool} → Measures w m l p x b → Filling w l₀ m (set l p x) p x (cond b (Some p) v)
+  filling_more {x} {b} d =
       record {
         filled = filled_more es w m l p inside f.filled x (d.length_is ∙ length_found es w m l p inside f.filled);
         upto = omega (arith, inside);
         above = sym (get_or-set_same l p x 0 (omega (arith, inside, f.filled.l_same)));
         lowest =
-            d.invalid_is ∙ lowest_found es w m l p inside f.filled v
-            ∙ ap (λ (z : ℕ). cond (invalid_by (length es) (entry_steps es) p) p z) f.lowest
-            ∙ sym (lowest_laws.turn (invalid_by (length es) (entry_steps es)) (length es) p inside);
+            ap (λ (z : Bool). cond z (Some p) v) (d.invalid_is ∙ invalid_found es w m l p inside f.filled)
+            ∙ ap (cond (invalid_by (length es) (entry_steps es) p) (Some p)) f.lowest
+            ∙ found_first (invalid_by (length es) (entry_steps es) p) _ inside
+            ∙ ap (found (length es)) (sym (lowest_laws.turn (invalid_by (length es) (entry_steps es)) (length es) p inside));
       }
 
-pub filling_done : {w : ℕ → ℕ} {l₀ m l : List ℕ} {i a v : ℕ} → Filling w l₀ m l i a v → i ≤ 0 → Fills w l₀ l v
+pub filling_done : {w : ℕ → ℕ} {l₀ m l : List ℕ} {i a : ℕ} {v : Option ℕ} → Filling w l₀ m l i a v → i ≤ 0 → Fills w l₀ l v
 filling_done {w} {l₀} {i = i} f h =
     let e : i ≡ 0 = omega arith in
     let t = invalid_by (length (entries l₀)) (entry_steps (entries l₀)) in
     record {
       lengths = λ p l. f.filled.from p (omega arith) l;
-      lowest-invalid = f.lowest ∙ ap (λ (x : ℕ). lowest_from t x (length (entries l₀) - x)) e ∙ lowest_laws.whole t (length (entries l₀));
+      lowest-invalid =
+          f.lowest
+          ∙ ap (found (length (entries l₀))) (ap (λ (x : ℕ). lowest_from t x (length (entries l₀) - x)) e ∙ lowest_laws.whole t (length (entries l₀)));
     }

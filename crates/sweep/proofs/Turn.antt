@@ -1,12 +1,12 @@
 -- The search in the terms of the code: a turn, and the loop. Assumes nothing.
 use mathlib.Core.Path.{◌≡◌, refl, sym, ap, subst, ◌∙◌}
 use mathlib.Core.Logic.{◌⊎◌, inl, inr, ⊎_elim}
-use mathlib.Core.Bool.{Bool, true, false, cond}
-use mathlib.Core.List.{List, [], ◌∷◌, ◌++◌}
+use Rattle.std.specs.Prelude.{Option, None, Some}
+use mathlib.Core.List.{List, [], ◌∷◌}
 use Prim.Native.Nat.{ℕ, zero, ◌+◌, ◌-◌, ◌≤◌, ◌<◌}
 use native.Mathlib.Nat.{le_refl}
 use native.Mathlib.Omega.{arith}
-use lib.ListN.{length, get_or, set, drop, replicate, length-append, length-replicate, length-drop, get_or-replicate, get_or-append}
+use lib.ListN.{length, get_or, set, replicate, length-replicate, get_or-replicate}
 use lib.Seq.{get_or-set_same}
 use Rattle.common.specs.Limits.{most_words}
 use Rattle.common.proofs.Order.{one_of, bit}
@@ -15,7 +15,7 @@ use Rattle.graph.specs.Graph.{Graph, In, Lawful, Reachable}
 use Rattle.graph.specs.Marks.{mark_of}
 use Rattle.graph.specs.Laws.{marked_count}
 use Rattle.graph.proofs.Laws.{laws}
-use Rattle.sweep.specs.SearchInvariants.{Closed, Room, Marking, in_hand, Reaches, fresh, seen, Turned, Queued, entered, there, PushAsks, Visiting, Visited}
+use Rattle.sweep.specs.SearchInvariants.{Closed, Room, Marking, in_hand, hands, Reaches, fresh, seen, Turned, Queued, entered, there, PushAsks, Visiting, Visited}
 use Rattle.sweep.proofs.Moves.{in_one, Pushed, count_set, tail_lt, tail_le, room_push, pushed_old}
 use Rattle.sweep.proofs.Moves.{pushed_new, marking_none, marking_take, marking_hand, marking_hold}
 use Rattle.sweep.proofs.Moves.{marking_done}
@@ -79,7 +79,7 @@ module _ (g : Graph) (law : Lawful g) (m qu : List ℕ) (p t : ℕ) (r : Room g 
     first_reached h k = successor_reached [] h k a (subst (λ (x : List ℕ). In a x) e (inl refl))
 
   -- no successor
-  pub turned_none : [] ≡ g.successors p → Turned g m qu p t m qu false 0 t
+  pub turned_none : [] ≡ g.successors p → Turned g m qu p t m qu None t
   turned_none e =
       record {
         under = λ h k. done m qu h t k (closed_by m [] e (λ q i. absurd i));
@@ -89,7 +89,7 @@ module _ (g : Graph) (law : Lawful g) (m qu : List ℕ) (p t : ℕ) (r : Room g 
 
   -- one successor
   module _ {a : ℕ} (e : a ∷ [] ≡ g.successors p) where
-    turned_old : (get_or m a 0 ≡ 0 → ⊥) → Turned g m qu p t m qu false 0 t
+    turned_old : (get_or m a 0 ≡ 0 → ⊥) → Turned g m qu p t m qu None t
     turned_old n =
         record {
           under = λ h k. done m qu h t k (closed_by m (a ∷ []) e (λ q i. ap (λ (y : ℕ). get_or m y 0) (in_one i) ∙ one_of (r.bits a (first_in e)) n));
@@ -97,7 +97,7 @@ module _ (g : Graph) (law : Lawful g) (m qu : List ℕ) (p t : ℕ) (r : Room g 
           grows = omega arith;
         }
 
-    turned_new : get_or m a 0 ≡ 0 → Turned g m qu p t (set m a 1) qu true a t
+    turned_new : get_or m a 0 ≡ 0 → Turned g m qu p t (set m a 1) qu (Some a) t
     turned_new new =
         record {
           under = λ h k. swap (set m a 1) qu h t a (marking_hold g (p ∷ []) m qu h t k a (first_in e) new (first_reached e h k))
@@ -109,7 +109,7 @@ module _ (g : Graph) (law : Lawful g) (m qu : List ℕ) (p t : ℕ) (r : Room g 
         in_m : a < length m
         in_m = omega (arith, r.m_long, first_in e)
 
-    pub turned_one : {m' : List ℕ} {more : Bool} {word t' : ℕ} → Reaches m a t m' more word t' → Turned g m qu p t m' qu more word t'
+    pub turned_one : {m' : List ℕ} {hand : Option ℕ} → Reaches m a m' hand → Turned g m qu p t m' qu hand t
     turned_one (fresh h) = turned_new h
     turned_one (seen h) = turned_old h
 
@@ -137,7 +137,7 @@ module _ (g : Graph) (law : Lawful g) (m qu : List ℕ) (p t : ℕ) (r : Room g 
       both : (m' : List ℕ) → get_or m' a 0 ≡ 1 → get_or m' b 0 ≡ 1 → Closed g m' p
       both m' x y q i = ⊎_elim (λ d. ap (λ (z : ℕ). get_or m' z 0) d ∙ x) (λ d. ap (λ (z : ℕ). get_or m' z 0) d ∙ y) (e.only q i)
 
-      turned_two_old : (get_or m₁ a 0 ≡ 0 → ⊥) → Turned g m qu p t m₁ qu₁ false 0 t₁
+      turned_two_old : (get_or m₁ a 0 ≡ 0 → ⊥) → Turned g m qu p t m₁ qu₁ None t₁
       turned_two_old n =
           record {
             under = λ h k. let v = pushed h k in done m₁ qu₁ h t₁ v.under (both m₁ (one_of (kept.room.bits a a_in) n) (v.marked b (inl refl)));
@@ -145,7 +145,7 @@ module _ (g : Graph) (law : Lawful g) (m qu : List ℕ) (p t : ℕ) (r : Room g 
             grows = omega (arith, kept.grows);
           }
 
-      turned_two_new : get_or m₁ a 0 ≡ 0 → Turned g m qu p t (set m₁ a 1) qu₁ true a t₁
+      turned_two_new : get_or m₁ a 0 ≡ 0 → Turned g m qu p t (set m₁ a 1) qu₁ (Some a) t₁
       turned_two_new new =
           record {
             under = λ h k. let v = pushed h k in
@@ -155,13 +155,13 @@ module _ (g : Graph) (law : Lawful g) (m qu : List ℕ) (p t : ℕ) (r : Room g 
             grows = omega (arith, kept.grows, count_set g m₁ qu₁ t₁ kept.room a a_in new);
           }
 
-      pub turned_two : {m' : List ℕ} {more : Bool} {word t' : ℕ} → Reaches m₁ a t₁ m' more word t' → Turned g m qu p t m' qu₁ more word t'
+      pub turned_two : {m' : List ℕ} {hand : Option ℕ} → Reaches m₁ a m' hand → Turned g m qu p t m' qu₁ hand t₁
       turned_two (fresh h) = turned_two_new h
       turned_two (seen h) = turned_two_old h
 
 -- words followed from the one at the queue's head h: the lists as they were there, and as they are
-pub record Following (g : Graph) (m₀ : List ℕ) (h : ℕ) (m qu : List ℕ) (more : Bool) (word t : ℕ) : Type 0 where
-  pub under : Marking g (in_hand more word) m qu (h + 1) t
+pub record Following (g : Graph) (m₀ : List ℕ) (h : ℕ) (m qu : List ℕ) (hand : Option ℕ) (t : ℕ) : Type 0 where
+  pub under : Marking g (in_hand hand) m qu (h + 1) t
   pub keeps : (x : ℕ) → get_or m₀ x 0 ≡ 1 → get_or m x 0 ≡ 1
   pub m_same : length m ≡ length m₀
 
@@ -169,47 +169,29 @@ module _ (g : Graph) (m qu : List ℕ) (h t : ℕ) (v : Visiting g m qu h t) whe
   pub head_in : h < length qu
   head_in = omega (arith, v.some, tail_le g m qu t v.under.room, v.under.room.qu_long)
 
-  pub following_none : Following g m h m qu true (get_or qu h 0) t
+  pub following_none : Following g m h m qu (Some (get_or qu h 0)) t
   following_none = record { under = marking_take g [] m qu h t v.under v.some; keeps = λ x e. e; m_same = refl }
 
 module _ (g : Graph) (m₀ : List ℕ) (h : ℕ) where
-  -- a word that is in hand
-  pub in-hand : {m qu : List ℕ} {more : Bool} {word t : ℕ} → Following g m₀ h m qu more word t → more ≡ true → Marking g (word ∷ []) m qu (h + 1) t
-  in-hand {m} {qu} {more} {word} {t} f e = subst (λ (b : Bool). Marking g (in_hand b word) m qu (h + 1) t) e f.under
-
-  pub following_on : {m qu m' qu' : List ℕ} {more more' : Bool} {word word' t t' : ℕ}
-      → Following g m₀ h m qu more word t → more ≡ true → Turned g m qu word t m' qu' more' word' t'
-      → length m' ≡ length m → Following g m₀ h m' qu' more' word' t'
-  following_on f e u lm =
+  pub following_on : {m qu m' qu' : List ℕ} {word t t' : ℕ} {hand' : Option ℕ}
+      → Following g m₀ h m qu (Some word) t → Turned g m qu word t m' qu' hand' t'
+      → length m' ≡ length m → Following g m₀ h m' qu' hand' t'
+  following_on f u lm =
       record {
-        under = u.under (h + 1) (in-hand f e);
+        under = u.under (h + 1) f.under;
         keeps = λ x o. u.keeps x (f.keeps x o);
         m_same = lm ∙ f.m_same;
       }
 
-  pub followed : {qu₀ m qu : List ℕ} {more : Bool} {word t : ℕ} → Following g m₀ h m qu more word t → more ≡ false → Visited g m₀ qu₀ h m qu t
-  followed {qu₀} {m} {qu} {more} {word} {t} f e =
-      record {
-        under = subst (λ (b : Bool). Marking g (in_hand b word) m qu (h + 1) t) e f.under;
-        keeps = f.keeps;
-      }
+  pub followed : {qu₀ m qu : List ℕ} {t : ℕ} → Following g m₀ h m qu None t → Visited g m₀ qu₀ h m qu t
+  followed f = record { under = f.under; keeps = f.keeps }
 
   -- each visit marks a word, or is the last
-  pub fewer : {m qu m' qu' : List ℕ} {more more' : Bool} {word word' t t' : ℕ} → more ≡ true
-      → Turned g m qu word t m' qu' more' word' t' → Following g m₀ h m' qu' more' word' t'
-      → (g.size - marked_count g.size m') + cond more' 1 0 < (g.size - marked_count g.size m)
-      + cond more 1 0
-  fewer {m} {qu} {m'} {qu'} {more} {more'} {t' = t'} e u f =
-      let one : ◌≡◌ {A = ℕ} (cond more 1 0) 1 = ap (λ (b : Bool). cond b 1 0) e in
-      let le = laws.counting.few g.size m' f.under.room.bits in
-      go more' u.grows le one
-    where
-      go : (b : Bool) → marked_count g.size m + cond b 1 0 ≤ marked_count g.size m'
-          → marked_count g.size m' ≤ g.size → ◌≡◌ {A = ℕ} (cond more 1 0) 1
-          → (g.size - marked_count g.size m') + cond b 1 0 < (g.size - marked_count g.size m)
-          + cond more 1 0
-      go true gr le one = omega arith
-      go false gr le one = omega arith
+  pub fewer : {m qu m' qu' : List ℕ} {word t t' : ℕ} {hand' : Option ℕ}
+      → Turned g m qu word t m' qu' hand' t' → Following g m₀ h m' qu' hand' t'
+      → (g.size - marked_count g.size m') + hands hand' < (g.size - marked_count g.size m) + 1
+  fewer {m' = m'} {hand' = None} u f = omega (arith, u.grows, laws.counting.few g.size m' f.under.room.bits)
+  fewer {m' = m'} {hand' = Some q} u f = omega (arith, u.grows, laws.counting.few g.size m' f.under.room.bits)
 
 -- the loop's invariant, with the lists as they were where the loop began
 pub record Searching (g : Graph) (m₀ m qu : List ℕ) (h t : ℕ) : Type 0 where
@@ -218,17 +200,11 @@ pub record Searching (g : Graph) (m₀ m qu : List ℕ) (h t : ℕ) : Type 0 whe
   pub m_same : length m ≡ length m₀
 
 module _ (g : Graph) where
-  cleared_length : (m : List ℕ) → g.size ≤ length m → length (replicate g.size 0 ++ drop g.size m) ≡ length m
-  cleared_length m l = simp (length-append, length-replicate, length-drop) (omega arith)
-
   -- cleared marks are a search that has not begun
-  pub cleared : (m₀ : List ℕ) {m qu : List ℕ} → g.size ≤ length m₀ → g.size ≤ length qu
-      → m ≡ replicate g.size 0 ++ drop g.size m₀ → Marking g [] m qu 0 0
-  cleared m₀ {m} {qu} lm lq e =
-      marking_none g m qu (omega (arith, ap length e, cleared_length m₀ lm)) lq
-      (λ p h. ap (λ (x : List ℕ). get_or x p 0) e
-      ∙ get_or-append (replicate g.size 0) (drop g.size m₀) 0 p (omega (arith, length-replicate g.size zero))
-      ∙ get_or-replicate g.size p 0 0 h)
+  pub cleared : {n : ℕ} {m qu : List ℕ} → g.size ≤ n → g.size ≤ length qu → m ≡ replicate n 0 → Marking g [] m qu 0 0
+  cleared {n} {m} {qu} h k e =
+      marking_none g m qu (omega (arith, ap length e, length-replicate n zero)) k
+      (λ p i. ap (λ (x : List ℕ). get_or x p 0) e ∙ get_or-replicate n p 0 0 (omega arith))
 
   pub searching_on : {m₀ m qu m' qu' : List ℕ} {h t t' : ℕ} → Searching g m₀ m qu h t
       → Visited g m qu h m' qu' t' → length m' ≡ length m → Searching g m₀ m' qu' (h + 1) t'

@@ -1,9 +1,11 @@
 -- What the functions of the pass over the lengths, from searched ones to measured ones, ask and leave, over
 -- any weights w. No exported contract cites it. Of a word nothing is read but the place of its weight.
 -- Assumes nothing.
-use Rattle.std.specs.Prelude.{◌≡◌, cond, List, ℕ, ◌+◌, ◌*◌, ◌%◌, ◌≤◌, ◌<◌, eqb, length, get_or, set}
+use Rattle.std.specs.Prelude.{◌≡◌, Bool, false, cond, Option, List, ℕ, ◌+◌, ◌*◌, ◌%◌, ◌≤◌, ◌<◌, eqb, length}
+use Rattle.std.specs.Prelude.{get_or, set}
 use Rattle.std.specs.Int.Bits.{bit_and}
 use Rattle.common.specs.Limits.{most_words, heaviest_weight}
+use Rattle.common.specs.Lowest.{found}
 use Rattle.graph.specs.Graph.{Graph, In, Lawful}
 use Rattle.graph.specs.Longest.{best, length_of}
 use Rattle.sweep.specs.declared.edges.Successors.{Successors}
@@ -40,12 +42,12 @@ pub record Filled (es : List ℕ) (w : ℕ → ℕ) (m l : List ℕ) (k : ℕ) :
 abbrev pub steps_in : List ℕ → ℕ → Successors
 steps_in l p = entry_at (get_or l p 0 % «ENTRIES») p
 
--- the length of word p from those above it, and the lowest invalid word from it on
+-- the length of word p from those above it, and whether it is reachable and invalid
 abbrev pub length_in : (ℕ → ℕ) → List ℕ → List ℕ → ℕ → ℕ
 length_in w m l p = cond (eqb (get_or m p 0) 0) 0 (w p + best (graph_in l) p (at l) (list_of (steps_in l p)))
 
-abbrev pub invalid_from : List ℕ → List ℕ → ℕ → ℕ → ℕ
-invalid_from m l p i = cond (eqb (get_or m p 0) 0) i (cond (is_invalid (steps_in l p)) p i)
+abbrev pub invalid_in : List ℕ → List ℕ → ℕ → Bool
+invalid_in m l p = cond (eqb (get_or m p 0) 0) false (is_invalid (steps_in l p))
 
 -- what measuring word p asks: the words above it have their lengths, none above the limit, and a is that of
 -- the next
@@ -56,10 +58,10 @@ pub record Measuring (limit : ℕ) (m l : List ℕ) (p a : ℕ) : Type 0 where
   pub low : (q : ℕ) → p < q → get_or l q 0 ≤ limit
   pub next : a ≡ get_or l (p + 1) 0
 
--- and what it finds: the word's length, and the lowest invalid word from it on
-pub record Measures (w : ℕ → ℕ) (m l : List ℕ) (p i v i' : ℕ) : Type 0 where
+-- and what it finds: the word's length, and whether it is reachable and invalid
+pub record Measures (w : ℕ → ℕ) (m l : List ℕ) (p v : ℕ) (bad : Bool) : Type 0 where
   pub length_is : v ≡ length_in w m l p
-  pub invalid_is : i' ≡ invalid_from m l p i
+  pub invalid_is : bad ≡ invalid_in m l p
 
 -- two lists differ at p alone: whatever is put there, they are the same
 abbrev pub SameBut : ℕ → List ℕ → List ℕ → Type 0
@@ -70,7 +72,8 @@ pub record FillAsks (m l : List ℕ) : Type 0 where
   pub held : Held m l
   pub marked : Marked (graph_in (entries l)) m
 
--- and leaves, measured: the lengths where the entries stood. Its answer is the lowest reachable invalid word
-pub record Fills (w : ℕ → ℕ) (l l' : List ℕ) (r : ℕ) : Type 0 where
+-- and leaves, measured: the lengths where the entries stood. It finds the lowest reachable invalid word
+pub record Fills (w : ℕ → ℕ) (l l' : List ℕ) (r : Option ℕ) : Type 0 where
   pub lengths : Lengths (graph_in (entries l)) w l'
-  pub lowest-invalid : r ≡ lowest_by (length (entries l)) (entry_steps (entries l))
+  pub lowest-invalid :
+      r ≡ found (length (entries l)) (lowest_by (length (entries l)) (entry_steps (entries l)))

@@ -2,7 +2,7 @@
 -- settled before it and searched after. No exported contract cites it. No word is read here, and nothing of
 -- crate `fields` is named.
 -- Assumes nothing.
-use Rattle.std.specs.Prelude.{◌≡◌, ◌⊎◌, Bool, true, false, cond, List, [], ◌∷◌, ℕ, ◌+◌, ◌≤◌, ◌<◌, length}
+use Rattle.std.specs.Prelude.{◌≡◌, ◌⊎◌, Option, Some, None, List, [], ◌∷◌, ℕ, ◌+◌, ◌≤◌, ◌<◌, length}
 use Rattle.std.specs.Prelude.{get_or, set}
 use Rattle.common.specs.Limits.{most_words}
 use Rattle.graph.specs.Graph.{Graph, In, Lawful, Reachable}
@@ -52,16 +52,21 @@ pub record Marking (g : Graph) (hand m qu : List ℕ) (h t : ℕ) : Type 0 where
   pub held : (p : ℕ) → In p hand → (p < g.size) × (get_or m p 0 ≡ 1)
   pub todo : (p : ℕ) → p < g.size → get_or m p 0 ≡ 1 → QueueWaits qu h t p ⊎ (Closed g m p ⊎ In p hand)
 
--- the word in hand, if there is more to do
-abbrev pub in_hand : Bool → ℕ → List ℕ
-in_hand more p = cond more (p ∷ []) []
+-- the word in hand, if there is one, and how many there are
+abbrev pub in_hand : Option ℕ → List ℕ
+in_hand None = []
+in_hand (Some p) = p ∷ []
 
--- after a visit of word p: the word in hand is another, if there is more, and is marked only now
-pub record Turned (g : Graph) (m qu : List ℕ) (p t : ℕ) (m' qu' : List ℕ) (more : Bool)
-    (word t' : ℕ) : Type 0 where
-  pub under : (h : ℕ) → Marking g (p ∷ []) m qu h t → Marking g (in_hand more word) m' qu' h t'
+abbrev pub hands : Option ℕ → ℕ
+hands None = 0
+hands (Some p) = 1
+
+-- after a visit of word p: the word in hand, if there is one, is another, and is marked only now
+pub record Turned (g : Graph) (m qu : List ℕ) (p t : ℕ) (m' qu' : List ℕ) (hand : Option ℕ)
+    (t' : ℕ) : Type 0 where
+  pub under : (h : ℕ) → Marking g (p ∷ []) m qu h t → Marking g (in_hand hand) m' qu' h t'
   pub keeps : (x : ℕ) → get_or m x 0 ≡ 1 → get_or m' x 0 ≡ 1
-  pub grows : marked_count g.size m + cond more 1 0 ≤ marked_count g.size m'
+  pub grows : marked_count g.size m + hands hand ≤ marked_count g.size m'
 
 -- a search with a word to take from the queue
 pub record Visiting (g : Graph) (m qu : List ℕ) (h t : ℕ) : Type 0 where
@@ -75,9 +80,9 @@ pub record Visited (g : Graph) (m qu : List ℕ) (h : ℕ) (m' qu' : List ℕ) (
   pub keeps : (x : ℕ) → get_or m x 0 ≡ 1 → get_or m' x 0 ≡ 1
 
 -- Word q is marked and taken in hand, or was marked.
-pub data Reaches (m : List ℕ) (q t : ℕ) : List ℕ → Bool → ℕ → ℕ → Type 0 where
-  fresh : get_or m q 0 ≡ 0 → Reaches m q t (set m q 1) true q t
-  seen : (get_or m q 0 ≡ 0 → ⊥) → Reaches m q t m false 0 t
+pub data Reaches (m : List ℕ) (q : ℕ) : List ℕ → Option ℕ → Type 0 where
+  fresh : get_or m q 0 ≡ 0 → Reaches m q (set m q 1) (Some q)
+  seen : (get_or m q 0 ≡ 0 → ⊥) → Reaches m q m None
 
 -- Word q is marked and put at the end t of the queue qu, or was marked.
 pub data Queued (m qu : List ℕ) (t q : ℕ) : List ℕ → List ℕ → ℕ → Type 0 where
@@ -99,8 +104,8 @@ pub record VisitAsks (m l : List ℕ) (p t : ℕ) : Type 0 where
   pub in_l : p < length (entries l)
   pub room : Room (graph_in (entries l)) m (queue_of l) t
 
-pub record Visits (m l : List ℕ) (p t : ℕ) (m' l' : List ℕ) (more : Bool) (word t' : ℕ) : Type 0 where
-  pub turned : Turned (graph_in (entries l)) m (queue_of l) p t m' (queue_of l') more word t'
+pub record Visits (m l : List ℕ) (p t : ℕ) (m' l' : List ℕ) (hand : Option ℕ) (t' : ℕ) : Type 0 where
+  pub turned : Turned (graph_in (entries l)) m (queue_of l) p t m' (queue_of l') hand t'
   pub kept : entries l' ≡ entries l
 
 pub record FollowAsks (m l : List ℕ) (h t : ℕ) : Type 0 where

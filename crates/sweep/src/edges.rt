@@ -3,9 +3,9 @@
 // crate `steps`, whose name differs only in case.
 ghost use Rattle.std.specs.Prelude.{◌≡◌, ◌<◌, pos};
 ghost use Rattle.graph.specs.Graph.{member};
-ghost use Rattle.sweep.specs.Steps.{one, two, list_of, serves_of};
+ghost use Rattle.sweep.specs.Steps.{one, two, is_invalid, list_of, serves_of};
 
-#[derive(Clone, Copy)]
+#[derive(Clone, Copy, PartialEq)]
 pub enum Successors {
     // A bad word, or no word at all.
     Invalid,
@@ -16,7 +16,16 @@ pub enum Successors {
     Two(usize, usize),
 }
 
+impl Successors {
+    pub fn is_invalid(self) -> bool
+        ensures { result ≡ is_invalid self }
+    {
+        self == Successors::Invalid
+    }
+}
+
 // Whether a step from p to q serves.
+#[tactic(auto, unfolding(crate::specs::Steps::serves_of))]
 pub fn serves(p: usize, q: usize) -> bool
     ensures { result ≡ serves_of p q }
 {
@@ -24,6 +33,7 @@ pub fn serves(p: usize, q: usize) -> bool
 }
 
 // One next word, of n words.
+#[tactic(auto, unfolding(crate::specs::Steps::one, crate::specs::Steps::unless))]
 pub fn one_of(n: usize, q: usize) -> Successors
     ensures { result ≡ one n (pos q) }
 {
@@ -35,6 +45,7 @@ pub fn one_of(n: usize, q: usize) -> Successors
 }
 
 // Two next words, the lower first.
+#[tactic(auto, unfolding(crate::specs::Steps::two, crate::specs::Steps::unless, crate::specs::Steps::ordered))]
 pub fn two_of(n: usize, q: usize, r: usize) -> Successors
     requires { q < r }
     ensures { result ≡ two n (pos q) (pos r) }
@@ -47,6 +58,7 @@ pub fn two_of(n: usize, q: usize, r: usize) -> Successors
 }
 
 // Two next words in any order.
+#[tactic(auto, using(crate::proofs::Steps::two_equal, crate::proofs::Steps::two_swap))]
 pub fn both_of(n: usize, q: usize, r: usize) -> Successors
     ensures { result ≡ two n (pos q) (pos r) }
 {
@@ -64,9 +76,8 @@ pub fn has_successor(s: Successors, q: usize) -> bool
     ensures { result ≡ member q (list_of s) }
 {
     match s {
-        Successors::Invalid => false,
-        Successors::Stop => false,
+        Successors::Invalid | Successors::Stop => false,
         Successors::One(a) => a == q,
-        Successors::Two(a, b) => { if a == q { true } else { b == q } }
+        Successors::Two(a, b) => a == q || b == q,
     }
 }

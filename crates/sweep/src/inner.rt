@@ -2,7 +2,9 @@
 // what a check of the sizes, the pass that settles or the search leaves, so that no entry of C or of a
 // program is among them.
 pub use crate::edges::{both_of, has_successor, one_of, two_of};
-pub use crate::lengths::{beyond, clear_lengths, fill_lengths, find_first, find_longest, weigh};
+pub use crate::lengths::{
+    Measured, beyond, clear_lengths, fill_lengths, find_first, find_longest, weigh,
+};
 pub use crate::packing::{
     ENTRIES, KIND_BOTH, KIND_NEXT, KIND_NONE, KIND_TARGET, RETURNS, TARGETS, entry_of,
 };

@@ -2,7 +2,19 @@
 // needs is there. Searched lengths become measured ones (packing.rt has the bits): a word's entry says where
 // control goes, and its length takes the entry's place. Of the word itself nothing is read but some of its
 // bits, by a mask, which are the place of its weight in a table.
-ghost use Rattle.std.specs.Prelude.{◌≡◌, cond, ◌++◌, ◌≤◌, ◌<◌, eqb, length, get_or, drop, replicate};
+ghost use Rattle.std.specs.Prelude.{
+  ◌≡◌,
+  cond,
+  ◌++◌,
+  ◌≤◌,
+  ◌<◌,
+  eqb,
+  length,
+  get_or,
+  drop,
+  replicate,
+  position,
+};
 ghost use Rattle.std.specs.Int.Bits.{bit_and};
 ghost use Rattle.common.specs.Lowest.{lowest};
 ghost use Rattle.common.specs.Limits.{heaviest_weight};
@@ -21,7 +33,6 @@ ghost use Rattle.sweep.specs.PassInvariants.{
 
 use crate::edges::serves;
 use crate::packing::{ENTRIES, KIND_NEXT, KIND_NONE, KIND_TARGET, RETURNS, TARGETS};
-use common::widths::larger;
 
 // What a word weighs: a byte of the table, at the place that a mask leaves of the word.
 pub fn weigh(mask: u32, weights: &[u8], word: u32) -> u32
@@ -35,10 +46,7 @@ pub fn weigh(mask: u32, weights: &[u8], word: u32) -> u32
 fn later(p: usize, q: usize) -> usize
     ensures { result ≡ cond (serves_of p q) p q }
 {
-    if serves(p, q) {
-        return p;
-    }
-    q
+    if serves(p, q) { p } else { q }
 }
 
 // What an edge from p to q adds to a segment, where p's own place holds 0: an edge that serves adds what
@@ -51,50 +59,40 @@ pub fn beyond(lengths: &[u32], p: usize, q: usize) -> u32
     lengths[later(p, q)]
 }
 
-// The length of a word, and the lowest reachable invalid word from it on.
+// The length of a word, and whether it is reachable and invalid.
 #[derive(Drop)]
-struct Measured {
-    length: u32,
-    invalid: usize,
+pub struct Measured {
+    pub length: u32,
+    pub invalid: bool,
 }
 
-// Word p, of this weight, measured, where the words above it are, `above` is the length of the next, and
-// `invalid` the lowest invalid one among them. The next word's length is handed on, so that a turn need not
-// wait for what the one before it stored. What is left at p is for the caller to overwrite.
-fn measure(
-    marks: &[u8],
-    lengths: &mut [u32],
-    p: usize,
-    weight: u32,
-    above: u32,
-    invalid: usize,
-) -> Measured
+// Word p, of this weight, measured, where the words above it are, and `above` is the length of the next. That
+// length is handed on, so that a turn need not wait for what the one before it stored. What is left at p is
+// for the caller to overwrite.
+fn measure(marks: &[u8], lengths: &mut [u32], p: usize, weight: u32, above: u32) -> Measured
     requires { Measuring most_weight marks.now lengths.old p above × (weight ≤ heaviest_weight) }
-    ensures measures { Measures (λ _. weight) marks.now lengths.old p invalid
+    ensures measures { Measures (λ _. weight) marks.now lengths.old p
         result.length result.invalid }
     ensures same_but { SameBut p lengths.old lengths.new }
 {
     if marks[p] == 0 {
-        return Measured { length: 0, invalid };
+        return Measured {
+            length: 0,
+            invalid: false,
+        };
     }
     let entry = lengths[p] % ENTRIES;
     let kind = entry / TARGETS;
     if kind == KIND_NEXT {
         return Measured {
             length: above + weight,
-            invalid,
+            invalid: false,
         };
     }
     if kind == KIND_NONE {
-        if entry % TARGETS == RETURNS {
-            return Measured {
-                length: weight,
-                invalid,
-            };
-        }
         return Measured {
             length: weight,
-            invalid: p,
+            invalid: entry % TARGETS != RETURNS,
         };
     }
     lengths[p] = 0;
@@ -102,39 +100,39 @@ fn measure(
     if kind == KIND_TARGET {
         return Measured {
             length: x + weight,
-            invalid,
+            invalid: false,
         };
     }
     Measured {
-        length: larger(above, x) + weight,
-        invalid,
+        length: above.max(x) + weight,
+        invalid: false,
     }
 }
 
 // The length of each word, where its entry stood: searched lengths become measured ones. The lowest reachable
-// invalid word, or the number of words.
+// invalid word, if there is one.
 pub fn fill_lengths(
     mask: u32,
     words: &[u32],
     weights: &[u8],
     marks: &[u8],
     lengths: &mut [u32],
-) -> usize
+) -> Option<usize>
     requires { FillAsks marks.now lengths.old × (length words.now ≡ length lengths.old)
         × (mask < length weights.now) }
     ensures { Fills (weight_by mask words.now weights.now) lengths.old
         lengths.new result }
 {
-    let mut invalid = lengths.len();
+    let mut invalid = None;
     let mut above: u32 = 0;
-    let mut i = lengths.len();
-    while 0 < i {
-        i -= 1;
+    for i in (0..lengths.len()).rev() {
         let weight = weigh(mask, weights, words[i]);
-        let m = measure(marks, lengths, i, weight, above, invalid);
+        let m = measure(marks, lengths, i, weight, above);
         lengths[i] = m.length;
         above = m.length;
-        invalid = m.invalid;
+        if m.invalid {
+            invalid = Some(i);
+        }
     }
     invalid
 }
@@ -144,41 +142,36 @@ pub fn clear_lengths(lengths: &mut [u32], n: usize)
     requires { n ≤ length lengths.old }
     ensures { lengths.new ≡ replicate n 0 ++ drop n lengths.old }
 {
-    let mut p = 0;
-    while p < n {
-        lengths[p] = 0;
-        p += 1;
-    }
+    lengths[..n].fill(0);
 }
 
 // The largest of the first n lengths. Where it stands is found by itself, so that the compiler takes several
 // at a time here.
+#[tactic(auto, unfolding(graph::specs::Longest::most))]
 pub fn find_longest(lengths: &[u32], n: usize) -> u32
     requires { n ≤ length lengths.now }
     ensures { result ≡ most (at lengths.now) n }
 {
     let mut longest: u32 = 0;
-    let mut i = 0;
-    while i < n {
-        if longest < lengths[i] {
-            longest = lengths[i];
-        }
-        i += 1;
+    for length in &lengths[..n] {
+        longest = longest.max(*length);
     }
     longest
 }
 
+// Where a length stands first, if it is among them.
+fn position_of(lengths: &[u32], sought: u32) -> Option<usize>
+    ensures { result ≡ position (λ x. eqb x sought) lengths.now }
+{
+    lengths.iter().position(|length| *length == sought)
+}
+
 // Where a length stands first among n, or n.
+// Kept: n where there is none, as `lowest` says it, by which the run's theorem says its first word.
+#[tactic(auto, using(common::proofs::Lowest::lowest_found))]
 pub fn find_first(lengths: &[u32], n: usize, sought: u32) -> usize
     requires { n ≤ length lengths.now }
     ensures { result ≡ lowest (λ p. eqb (at lengths.now p) sought) n }
 {
-    let mut i = 0;
-    while i < n {
-        if lengths[i] == sought {
-            return i;
-        }
-        i += 1;
-    }
-    i
+    position_of(&lengths[..n], sought).unwrap_or(n)
 }

@@ -28,6 +28,7 @@ pub const ENTRIES: u32 = 131072;
 
 // The kinds. That a word goes on to the next has a kind of its own, so that a search need not wait for the
 // target to be read.
+// Kept: numbers, no enum, since a kind is two bits of an element.
 pub const KIND_NONE: u32 = 0;
 
 pub const KIND_NEXT: u32 = 1;
@@ -40,28 +41,17 @@ pub const KIND_BOTH: u32 = 3;
 pub const RETURNS: u32 = 1;
 
 // The entry of word p, whose steps are s.
+#[tactic(auto, using(crate::proofs::Entries::says_invalid, crate::proofs::Entries::says_stop, crate::proofs::Entries::says_next, crate::proofs::Entries::says_target, crate::proofs::Entries::says_up, crate::proofs::Entries::says_down))]
 pub fn entry_of(s: Successors, p: usize) -> u32
     requires { (p < most_words) × Packs p s }
     ensures { Says result p s }
 {
     match s {
-        Successors::Invalid => {
-            return 0;
-        }
-        Successors::Stop => {
-            return RETURNS;
-        }
-        Successors::One(a) => {
-            if a == p + 1 {
-                return KIND_NEXT * TARGETS;
-            }
-            return KIND_TARGET * TARGETS + a as u32;
-        }
-        Successors::Two(a, b) => {
-            if a == p + 1 {
-                return KIND_BOTH * TARGETS + b as u32;
-            }
-            return KIND_BOTH * TARGETS + a as u32;
-        }
+        Successors::Invalid => 0,
+        Successors::Stop => RETURNS,
+        Successors::One(a) if a == p + 1 => KIND_NEXT * TARGETS,
+        Successors::One(a) => KIND_TARGET * TARGETS + a as u32,
+        Successors::Two(a, b) if a == p + 1 => KIND_BOTH * TARGETS + b as u32,
+        Successors::Two(a, _) => KIND_BOTH * TARGETS + a as u32,
     }
 }

@@ -1,7 +1,7 @@
 // Which words are reachable: a search with a queue. A word enters it once at most, so that n elements are
 // enough. No word is read: the lengths are settled, the search leaves them searched (packing.rt has the
 // bits), and nothing else tells where control goes.
-ghost use Rattle.std.specs.Prelude.{◌≡◌, ◌++◌, ◌≤◌, ◌<◌, length, drop, replicate};
+ghost use Rattle.std.specs.Prelude.{◌<◌, length};
 ghost use Rattle.sweep.specs.SearchInvariants.{
   Held,
   Marks,
@@ -17,6 +17,7 @@ ghost use Rattle.sweep.specs.SearchInvariants.{
 use crate::packing::{ENTRIES, KIND_NEXT, KIND_NONE, KIND_TARGET, TARGETS};
 
 // Word q is marked and put at the queue's end, if it is not marked yet. The new tail.
+#[tactic(auto, using(crate::proofs::Entries::pushes_new, crate::specs::SearchInvariants::there))]
 fn push(marks: &mut [u8], lengths: &mut [u32], tail: usize, q: usize) -> usize
     requires { PushAsks marks.old lengths.old tail q }
     ensures { Pushes marks.old lengths.old tail q marks.new
@@ -30,20 +31,24 @@ fn push(marks: &mut [u8], lengths: &mut [u32], tail: usize, q: usize) -> usize
     tail
 }
 
-// Where the search goes on: whether there is more to do, the word in hand if there is, and the queue's tail.
+// Where the search goes on: the word in hand, if there is one, and the queue's tail.
 #[derive(Drop)]
-struct Turn(bool, usize, usize);
+struct Turn {
+    hand: Option<usize>,
+    tail: usize,
+}
 
 // Word q is marked and taken in hand, if it is not marked yet.
-fn reach(marks: &mut [u8], q: usize, tail: usize) -> Turn
+#[tactic(auto, using(crate::specs::SearchInvariants::fresh, crate::specs::SearchInvariants::seen))]
+fn reach(marks: &mut [u8], q: usize) -> Option<usize>
     requires { q < length marks.old }
-    ensures { Reaches marks.old q tail marks.new result.0 result.1 result.2 }
+    ensures { Reaches marks.old q marks.new result }
 {
-    if marks[q] == 0 {
-        marks[q] = 1;
-        return Turn(true, q, tail);
+    if marks[q] != 0 {
+        return None;
     }
-    Turn(false, 0, tail)
+    marks[q] = 1;
+    Some(q)
 }
 
 // Marks the successors of word p. One goes in hand, if it is new. Of two it is the target, and the next word
@@ -52,22 +57,25 @@ fn reach(marks: &mut [u8], q: usize, tail: usize) -> Turn
 fn visit(marks: &mut [u8], lengths: &mut [u32], p: usize, tail: usize) -> Turn
     requires { VisitAsks marks.old lengths.old p tail }
     ensures { Visits marks.old lengths.old p tail marks.new
-        lengths.new result.0 result.1 result.2 }
+        lengths.new result.hand result.tail }
 {
     let entry = lengths[p] % ENTRIES;
     let kind = entry / TARGETS;
     if kind == KIND_NEXT {
-        return reach(marks, p + 1, tail);
+        let hand = reach(marks, p + 1);
+        return Turn { hand, tail };
     }
     if kind == KIND_NONE {
-        return Turn(false, 0, tail);
+        return Turn { hand: None, tail };
     }
     let target = (entry % TARGETS) as usize;
     if kind == KIND_TARGET {
-        return reach(marks, target, tail);
+        let hand = reach(marks, target);
+        return Turn { hand, tail };
     }
-    let t = push(marks, lengths, tail, p + 1);
-    reach(marks, target, t)
+    let tail = push(marks, lengths, tail, p + 1);
+    let hand = reach(marks, target);
+    Turn { hand, tail }
 }
 
 // Takes the word at the queue's head in hand and follows it, from new word to new word. The new tail. A word
@@ -77,23 +85,14 @@ fn follow(marks: &mut [u8], lengths: &mut [u32], head: usize, tail: usize) -> us
     ensures { Follows marks.old lengths.old head marks.new
         lengths.new result }
 {
-    let mut t = Turn(true, (lengths[head] / ENTRIES) as usize, tail);
-    while t.0 {
-        t = visit(marks, lengths, t.1, t.2);
+    let mut t = Turn {
+        hand: Some((lengths[head] / ENTRIES) as usize),
+        tail,
+    };
+    while let Some(p) = t.hand {
+        t = visit(marks, lengths, p, t.tail);
     }
-    t.2
-}
-
-// The first n marks become 0.
-fn clear_marks(marks: &mut [u8], n: usize)
-    requires { n ≤ length marks.old }
-    ensures { marks.new ≡ replicate n 0 ++ drop n marks.old }
-{
-    let mut i = 0;
-    while i < n {
-        marks[i] = 0;
-        i += 1;
-    }
+    t.tail
 }
 
 // The marks of all words, whose settled lengths become searched ones. The entries stay.
@@ -101,9 +100,10 @@ pub fn mark_reachable(marks: &mut [u8], lengths: &mut [u32])
     requires { Held marks.old lengths.old }
     ensures { Marks lengths.old marks.new lengths.new }
 {
-    clear_marks(marks, marks.len());
+    marks.fill(0);
     let mut tail = push(marks, lengths, 0, 0);
     let mut head = 0;
+    // Kept: what is followed puts words at the queue's end, so that no range says where the loop ends.
     while head < tail {
         tail = follow(marks, lengths, head, tail);
         head += 1;

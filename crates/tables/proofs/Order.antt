@@ -9,9 +9,12 @@ use lib.Dec.{ltb, eqb}
 use lib.ListN.{length, get_or}
 use borrow.Author.Tests.{ltb-true, ltb-false, lt-ltb, le-ltb, eqb-true, eqb-false, eq-eqb, ne_eqb}
 use Rattle.common.proofs.Tests.{not_so}
-use Rattle.common.specs.declared.answer.Answer.{Answer}
+use Rattle.std.specs.Prelude.{Result, Ok, Err, ⊤}
+use Rattle.common.specs.declared.refusal.Refusal.{Refusal}
+use Rattle.common.specs.declared.refusal.Refusal.TheVariants.{TooManyWords, ConstantCount, UnknownTag, StringPastBytes, Names, ShortSlice}
+use Rattle.common.specs.Refusals.{answer_number, answer_place}
 use Rattle.common.specs.Limits.{most_words, most_constants, most_names}
-use Rattle.common.specs.Chain.{choose, answer}
+use Rattle.common.specs.Chain.{choose}
 use Rattle.common.specs.Lowest.{First, lowest}
 use Rattle.common.proofs.Lowest.{lowest_laws}
 use Rattle.common.proofs.Order.{split, yes, no}
@@ -171,16 +174,17 @@ neither : (false ≡ true) ⊎ (false ≡ true) → ⊥
 neither = ⊎_elim false≢true false≢true
 
 module _ (x y z : ℕ) where
-  abbrev chain : Bool → Bool → Bool → Bool → Bool → Bool → Bool → Bool → Answer
+  abbrev chain : Bool → Bool → Bool → Bool → Bool → Bool → Bool → Bool → Result ⊤ Refusal
   chain a b c d e f g h =
-      cond a (answer 1 0) (cond b (answer 2 0) (cond c (answer 2 0) (cond d (answer 3 x) (cond e (answer 4 y)
-      (cond f (answer 5 0) (cond g (answer 5 z) (cond h (answer 6 0) (answer 0 0))))))))
+      cond a (Err TooManyWords) (cond b (Err ConstantCount) (cond c (Err ConstantCount)
+      (cond d (Err (UnknownTag x)) (cond e (Err (StringPastBytes y))
+      (cond f (Err (Names 0)) (cond g (Err (Names z)) (cond h (Err ShortSlice) (Ok tt))))))))
 
   abbrev number : Bool → Bool → Bool → Bool → Bool → Bool → Bool → Bool → ℕ
-  number a b c d e f g h = (chain a b c d e f g h).number
+  number a b c d e f g h = answer_number (chain a b c d e f g h)
 
   abbrev place : Bool → Bool → Bool → Bool → Bool → Bool → Bool → Bool → ℕ
-  place a b c d e f g h = (chain a b c d e f g h).place
+  place a b c d e f g h = answer_place (chain a b c d e f g h)
 
   record By (a b c d e f g h : Bool) : Type 0 where
     one : (number a b c d e f g h ≡ 1) ↔ (a ≡ true)

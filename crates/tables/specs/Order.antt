@@ -4,6 +4,7 @@
 -- for any lengths and lists.
 -- Assumes nothing.
 use Rattle.std.specs.Prelude.{◌≡◌, ◌↔◌, ◌⊎◌, List, ℕ, ◌+◌, ◌-◌, ◌/◌, ◌%◌, ◌^◌, ◌≤◌, ◌<◌, length, get_or}
+use Rattle.common.specs.Refusals.{answer_number, answer_place}
 use Rattle.tables.specs.Refusals.{answer_of}
 
 -- "tags 0 nil, 1 false, 17 true, 3 integer, 19 float, 4 short string, 20 long string"
@@ -16,10 +17,10 @@ EndsPast bytes place = bytes < place % 2 ^ 32 + place / 2 ^ 32
 
 module _ (n : ℕ) (tags payloads names : List ℕ) (bytes room : ℕ) where
   abbrev pub number : ℕ
-  number = (answer_of n tags payloads names bytes room).number
+  number = answer_number (answer_of n tags payloads names bytes room)
 
   abbrev pub place : ℕ
-  place = (answer_of n tags payloads names bytes room).place
+  place = answer_place (answer_of n tags payloads names bytes room)
 
   -- "unknown tag"
   abbrev pub UnknownAt : ℕ → Type 0

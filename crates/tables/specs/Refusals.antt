@@ -1,19 +1,18 @@
 -- Document 01, "Refused inputs", RULES 8: what lifting refuses, numbers 1 to 6 in their order.
 -- The Rust refuses nothing: all of this is added.
 -- Assumes nothing.
-use Rattle.std.specs.Prelude.{ℕ, Bool, true, false, not, List, ltb, eqb, length, get_or}
-use Rattle.common.specs.declared.answer.Answer.{Answer}
-use Rattle.common.specs.Limits.{most_words, most_constants, most_names}
-use Rattle.common.specs.Numbers.{
-  «ACCEPTED»,
-  TOO_MANY_WORDS,
-  CONSTANT_COUNT,
-  UNKNOWN_TAG,
-  STRING_PAST_BYTES,
-  «NAMES»,
-  SHORT_SLICE,
+use Rattle.std.specs.Prelude.{ℕ, Bool, true, false, not, List, ltb, eqb, length, get_or, Result, Ok, Err, ⊤}
+use Rattle.common.specs.declared.refusal.Refusal.{Refusal}
+use Rattle.common.specs.declared.refusal.Refusal.TheVariants.{
+  TooManyWords,
+  ConstantCount,
+  UnknownTag,
+  StringPastBytes,
+  Names,
+  ShortSlice,
 }
-use Rattle.common.specs.Chain.{choose, refuse_if, answer, accepted}
+use Rattle.common.specs.Limits.{most_words, most_constants, most_names}
+use Rattle.common.specs.Chain.{choose, refuse_if}
 use Rattle.common.specs.Lowest.{lowest}
 use Rattle.values.specs.Values.{
   TAG_NIL,
@@ -25,7 +24,6 @@ use Rattle.values.specs.Values.{
   TAG_LONG_STRING,
 }
 use Rattle.values.specs.Spans.{past, first_name_past}
-use Rattle.tables.specs.declared.refusals.Plan.{Plan}
 
 -- 3, "unknown tag"
 unfoldable pub unknown_tag : ℕ → Bool
@@ -44,6 +42,13 @@ unfoldable pub is_string : ℕ → Bool
 is_string tag = choose (eqb tag TAG_SHORT_STRING) true (eqb tag TAG_LONG_STRING)
 
 -- 4, "string ends past the string bytes"
+unfoldable pub string_past : ℕ → ℕ → ℕ → Bool
+string_past bytes tag payload = choose (is_string tag) (past bytes payload) false
+
+-- the same of a constant: its tag and its payload
+abbrev pub constant_past : ℕ → ℕ × ℕ → Bool
+constant_past bytes constant = string_past bytes constant.0 constant.1
+
 unfoldable pub string_past_at : List ℕ → List ℕ → ℕ → ℕ → Bool
 string_past_at tags payloads bytes index =
     choose (is_string (get_or tags index 0)) (past bytes (get_or payloads index 0)) false
@@ -60,23 +65,23 @@ first_string_past tags payloads bytes = lowest (string_past_at tags payloads byt
 -- 65,536"; 3, "unknown tag; place: lowest index"; 4, "string ends past the string bytes; place:
 -- lowest index"; 5, "over 255 names, or a name past the string bytes; place: lowest index if the count is
 -- allowed, else 0"; 6, "a lent result slice shorter than the words".
-unfoldable pub answer_of : ℕ → List ℕ → List ℕ → List ℕ → ℕ → ℕ → Answer
+unfoldable pub answer_of : ℕ → List ℕ → List ℕ → List ℕ → ℕ → ℕ → Result ⊤ Refusal
 answer_of n tags payloads names bytes room =
-    refuse_if (ltb most_words n) (answer TOO_MANY_WORDS 0)
-    (refuse_if (not (eqb (length tags) (length payloads))) (answer CONSTANT_COUNT 0)
-    (refuse_if (ltb most_constants (length tags)) (answer CONSTANT_COUNT 0)
-    (refuse_if (ltb (first_unknown_tag tags) (length tags)) (answer UNKNOWN_TAG (first_unknown_tag tags))
+    refuse_if (ltb most_words n) (Err TooManyWords)
+    (refuse_if (not (eqb (length tags) (length payloads))) (Err ConstantCount)
+    (refuse_if (ltb most_constants (length tags)) (Err ConstantCount)
+    (refuse_if (ltb (first_unknown_tag tags) (length tags)) (Err (UnknownTag (first_unknown_tag tags)))
     (refuse_if (ltb (first_string_past tags payloads bytes) (length tags))
-    (answer STRING_PAST_BYTES (first_string_past tags payloads bytes))
-    (refuse_if (ltb most_names (length names)) (answer «NAMES» 0)
+    (Err (StringPastBytes (first_string_past tags payloads bytes)))
+    (refuse_if (ltb most_names (length names)) (Err (Names 0))
     (refuse_if (ltb (first_name_past names bytes) (length names))
-    (answer «NAMES» (first_name_past names bytes))
-    (refuse_if (ltb room n) (answer SHORT_SLICE 0) accepted)))))))
+    (Err (Names (first_name_past names bytes)))
+    (refuse_if (ltb room n) (Err ShortSlice) (Ok tt))))))))
 
--- the answer, and how many records are written: all or none
-unfoldable pub plan_of : ℕ → List ℕ → List ℕ → List ℕ → ℕ → ℕ → Plan
-plan_of n tags payloads names bytes room =
-    record {
-      answer = answer_of n tags payloads names bytes room;
-      count = choose (eqb (answer_of n tags payloads names bytes room).number «ACCEPTED») n 0;
-    }
+-- how many records are written, of n words: all or none
+abbrev pub written : ℕ → Result ⊤ Refusal → ℕ
+written n (Ok x) = n
+written n (Err e) = 0
+
+abbrev pub written_of : ℕ → List ℕ → List ℕ → List ℕ → ℕ → ℕ → ℕ
+written_of n tags payloads names bytes room = written n (answer_of n tags payloads names bytes room)

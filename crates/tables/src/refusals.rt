@@ -1,161 +1,85 @@
 // What lifting refuses: numbers 1 to 6 of document 01's table (RULES 8), in its order.
-ghost use Rattle.std.specs.Prelude.{◌≡◌, false, length};
-ghost use Rattle.common.specs.Chain.{choose, answer};
-ghost use Rattle.values.specs.Spans.{past};
-ghost use Rattle.tables.specs.Refusals.{unknown_tag, is_string, first_unknown_tag, first_string_past};
-ghost use Rattle.tables.specs.Refusals.{answer_of, plan_of};
+ghost use Rattle.std.specs.Prelude.{◌≡◌, length, position, zip};
+ghost use Rattle.tables.specs.Refusals.{unknown_tag, is_string, string_past, constant_past, answer_of};
 
-use common::Answer;
+use common::Refusal;
 use common::limits::*;
-use common::numbers::*;
 use values::lookup::*;
+use values::model::Prototype;
 use values::spans::{first_name_past, is_past};
-
-#[derive(Drop)]
-pub struct Plan {
-    pub answer: Answer,
-    pub count: usize,
-}
-
-fn refuse(number: u8, place: usize) -> Answer
-    ensures { result ≡ answer number place }
-{
-    Answer { number, place }
-}
 
 #[tactic(auto, unfolding(crate::specs::Refusals::unknown_tag, common::specs::Chain::choose))]
 fn is_unknown(tag: u8) -> bool
     ensures { result ≡ unknown_tag tag }
 {
-    match tag {
-        TAG_NIL => false,
-        TAG_FALSE => false,
-        TAG_TRUE => false,
-        TAG_INTEGER => false,
-        TAG_FLOAT => false,
-        TAG_SHORT_STRING => false,
-        TAG_LONG_STRING => false,
-        _ => true,
-    }
+    !matches!(
+        tag,
+        TAG_NIL
+            | TAG_FALSE
+            | TAG_TRUE
+            | TAG_INTEGER
+            | TAG_FLOAT
+            | TAG_SHORT_STRING
+            | TAG_LONG_STRING
+    )
 }
 
 #[tactic(auto, unfolding(crate::specs::Refusals::is_string, common::specs::Chain::choose))]
 fn is_string(tag: u8) -> bool
     ensures { result ≡ is_string tag }
 {
-    if tag == TAG_SHORT_STRING {
-        true
-    } else {
-        tag == TAG_LONG_STRING
-    }
+    matches!(tag, TAG_SHORT_STRING | TAG_LONG_STRING)
 }
 
-#[tactic(auto, unfolding(common::specs::Chain::choose))]
-fn is_string_past(tag: u8, payload: u64, bytes: usize) -> bool
-    ensures { result ≡ choose (is_string tag) (past bytes payload) false }
+#[tactic(auto, unfolding(crate::specs::Refusals::string_past, common::specs::Chain::choose))]
+fn is_string_past(bytes: usize, tag: u8, payload: u64) -> bool
+    ensures { result ≡ string_past bytes tag payload }
 {
-    if is_string(tag) {
-        is_past(bytes, payload)
-    } else {
-        false
-    }
+    is_string(tag) && is_past(bytes, payload)
 }
 
-// Where a test holds first; the number of elements if it does so nowhere.
-
-fn first_unknown_tag(tags: &[u8]) -> usize
-    ensures { result ≡ first_unknown_tag tags.now }
+fn first_unknown_tag(tags: &[u8]) -> Option<usize>
+    ensures { result ≡ position unknown_tag tags.now }
 {
-    let mut i: usize = 0;
-    while i < tags.len() {
-        if is_unknown(tags[i]) {
-            return i;
-        }
-        i += 1;
-    }
-    i
+    tags.iter().position(|&tag| is_unknown(tag))
 }
 
-fn first_string_past(tags: &[u8], payloads: &[u64], bytes: usize) -> usize
-    requires { length tags.now ≡ length payloads.now }
-    ensures { result ≡ first_string_past tags.now payloads.now bytes }
+fn first_string_past(tags: &[u8], payloads: &[u64], bytes: usize) -> Option<usize>
+    ensures { result ≡ position (constant_past bytes) (zip tags.now payloads.now) }
 {
-    let mut i: usize = 0;
-    while i < tags.len() {
-        if is_string_past(tags[i], payloads[i], bytes) {
-            return i;
-        }
-        i += 1;
-    }
-    i
+    tags.iter()
+        .zip(payloads)
+        .position(|(&tag, &payload)| is_string_past(bytes, tag, payload))
 }
 
-// The answer for so many words, string bytes and places for records.
+// What refuses a function's tables, of so many places for records.
 #[tactic(auto, unfolding(crate::specs::Refusals::answer_of))]
-fn check(
-    n: usize,
-    tags: &[u8],
-    payloads: &[u64],
-    names: &[u64],
-    bytes: usize,
-    room: usize,
-) -> Answer
-    ensures { result ≡ answer_of n tags.now payloads.now names.now bytes room }
+pub fn check(proto: &Prototype<'_>, room: usize) -> Result<(), Refusal>
+    ensures { result ≡ answer_of (length proto.now.words.now) proto.now.tags.now proto.now.payloads.now
+        proto.now.names.now (length proto.now.bytes.now) room }
 {
+    let n = proto.words.len();
+    let bytes = proto.bytes.len();
     if MOST_WORDS < n {
-        return refuse(TOO_MANY_WORDS, 0);
+        return Err(Refusal::TooManyWords);
     }
-    if tags.len() != payloads.len() {
-        return refuse(CONSTANT_COUNT, 0);
+    if proto.tags.len() != proto.payloads.len() || MOST_CONSTANTS < proto.tags.len() {
+        return Err(Refusal::ConstantCount);
     }
-    if MOST_CONSTANTS < tags.len() {
-        return refuse(CONSTANT_COUNT, 0);
+    if let Some(place) = first_unknown_tag(proto.tags) {
+        return Err(Refusal::UnknownTag(place));
     }
-    let unknown = first_unknown_tag(tags);
-    if unknown < tags.len() {
-        return refuse(UNKNOWN_TAG, unknown);
+    if let Some(place) = first_string_past(proto.tags, proto.payloads, bytes) {
+        return Err(Refusal::StringPastBytes(place));
     }
-    let string = first_string_past(tags, payloads, bytes);
-    if string < tags.len() {
-        return refuse(STRING_PAST_BYTES, string);
+    if MOST_NAMES < proto.names.len() {
+        return Err(Refusal::Names(0));
     }
-    if MOST_NAMES < names.len() {
-        return refuse(NAMES, 0);
-    }
-    let name = first_name_past(names, bytes);
-    if name < names.len() {
-        return refuse(NAMES, name);
+    if let Some(place) = first_name_past(proto.names, bytes) {
+        return Err(Refusal::Names(place));
     }
     if room < n {
-        return refuse(SHORT_SLICE, 0);
+        return Err(Refusal::ShortSlice);
     }
-    Answer {
-        number: ACCEPTED,
-        place: 0,
-    }
-}
-
-// What lifting is to do: the answer, and how many records it writes into so much room.
-#[tactic(auto, unfolding(crate::specs::Refusals::plan_of, common::specs::Chain::choose))]
-pub fn planned<'a>(
-    words: &'a [u32],
-    tags: &'a [u8],
-    payloads: &'a [u64],
-    names: &'a [u64],
-    bytes: &'a [u8],
-    room: usize,
-) -> Plan
-    ensures { result ≡ plan_of (length words.now) tags.now payloads.now
-        names.now (length bytes.now) room }
-{
-    let answer = check(words.len(), tags, payloads, names, bytes.len(), room);
-    let number = answer.number;
-    if number == ACCEPTED {
-        Plan {
-            answer,
-            count: words.len(),
-        }
-    } else {
-        Plan { answer, count: 0 }
-    }
+    Ok(())
 }

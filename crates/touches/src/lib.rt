@@ -3,6 +3,7 @@
 #![tactic(auto)]
 
 pub mod arguments;
+mod dialect;
 pub mod locating;
 mod lua53;
 mod lua54;

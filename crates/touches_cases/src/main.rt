@@ -5,48 +5,25 @@
 mod print;
 
 use std::io::Stdout;
-use touches::{touches, touches_53};
-use vectors::{number_of, words_of};
-
-fn touched(out: Stdout, words: &mut [u32], p: usize) {
-    print::touches(out, touches(words, p));
-}
-
-fn touched_53(out: Stdout, words: &mut [u32], p: usize) {
-    print::touches(out, touches_53(words, p));
-}
+use touches::{Touches, touches, touches_53};
+use vectors::{list_of, number_of, part};
 
 // words | p, by the version that the name says
 fn ask(out: Stdout, line: &[u8]) {
-    let question = vectors::which(line, b"touches|touches_53");
-    if question > 1 {
-        return;
-    }
+    let touched: fn(&[u32], usize) -> Touches = match part(line, 0) {
+        b"touches" => touches,
+        b"touches_53" => touches_53,
+        _ => {
+            return;
+        }
+    };
     let mut words = [0u32; 8];
-    print::text(out, vectors::part(line, 1));
-    if question == 0 {
-        touched(
-            out,
-            words_of(&mut words, line, 2),
-            number_of(line, 3) as usize,
-        );
-    } else {
-        touched_53(
-            out,
-            words_of(&mut words, line, 2),
-            number_of(line, 3) as usize,
-        );
-    }
-}
-
-fn ask_all(out: Stdout, text: &[u8]) {
-    for i in 0..text.len() {
-        ask(out, vectors::line_at(text, i));
-    }
+    let words = list_of(&mut words, line, 2);
+    print::text(out, part(line, 1));
+    print::touches(out, touched(words, number_of(line, 3) as usize));
 }
 
 fn main(rt: HostRuntime) {
-    let mut page = io::large_buffer();
-    let n = vectors::read(rt.stdin(), &mut page);
-    ask_all(rt.stdout(), pages::first(&page, n));
+    let out = rt.stdout();
+    vectors::ask_each(rt.stdin(), |line| ask(out, line));
 }

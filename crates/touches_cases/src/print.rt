@@ -1,48 +1,34 @@
 // What the cases print: only lists that hold something.
-use locations::answer::{Indices, Range, Ranges, Top, Touches};
+use locations::answer::{Indices, Ranges, Top, Touches};
 pub use print_cases::text;
-use print_cases::{end, number, number_u32};
+use print_cases::{end, number};
 use std::io::Stdout;
 
-fn range(out: Stdout, r: Range) {
-    number(out, r.first as u64);
-    text(out, b" to");
-    number(out, r.last as u64);
-}
-
 fn ranges(out: Stdout, label: &[u8], r: Ranges) {
-    let items = r.items;
     if r.count > 0 {
         text(out, label);
-        range(out, items[0]);
     }
-    if r.count > 1 {
-        range(out, items[1]);
-    }
-    if r.count > 2 {
-        range(out, items[2]);
+    for range in r.as_slice() {
+        number(out, range.first);
+        text(out, b" to");
+        number(out, range.last);
     }
 }
 
 fn top(out: Stdout, label: &[u8], t: Top) {
     if t.count > 0 {
         text(out, label);
-        number(out, t.first as u64);
+        number(out, t.first);
         text(out, b" up to the top");
     }
 }
 
 fn indices(out: Stdout, label: &[u8], r: Indices) {
-    let items = r.items;
     if r.count > 0 {
         text(out, label);
-        number_u32(out, items[0]);
     }
-    if r.count > 1 {
-        number_u32(out, items[1]);
-    }
-    if r.count > 2 {
-        number_u32(out, items[2]);
+    for &index in r.as_slice() {
+        number(out, index);
     }
 }
 

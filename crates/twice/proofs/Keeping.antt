@@ -1,9 +1,9 @@
 -- Words kept beside their lengths, and the passes by two tables over them, over any weights. No word is read here. Assumes nothing.
 use mathlib.Core.Path.{◌≡◌, refl, sym, ap, subst, ◌∙◌}
 use mathlib.Core.Logic.{inl, ⊎_elim}
-use mathlib.Core.Bool.{Bool, true, false, cond}
+use mathlib.Core.Bool.{Bool, true, false, cond, not}
 use mathlib.Core.List.{List, []}
-use Prim.Native.Nat.{ℕ, ◌+◌, ◌-◌, ◌*◌, ◌/◌, ◌%◌, ◌≤◌, ◌<◌, max}
+use Prim.Native.Nat.{ℕ, ◌+◌, ◌-◌, ◌*◌, ◌/◌, ◌%◌, ◌≤◌, ◌<◌, max, min}
 use native.Mathlib.Nat.{le_trans, mul-le-mul_left}
 use native.Mathlib.Omega.{arith}
 use borrow.Author.Tests.{eq-eqb, ne_eqb, leb-false, lt-leb, ltb-false, lt-ltb, le-ltb}
@@ -11,10 +11,11 @@ use lib.Dec.{ltb, leb, eqb}
 use lib.ListN.{length, get_or, set, length-set, get_or-eq_default}
 use lib.Seq.{get_or-set_same, get_or-set_other, set-get_or, set-set}
 use Rattle.common.specs.Limits.{most_words, heaviest_weight}
-use Rattle.common.specs.Lowest.{lowest_from}
+use Rattle.std.specs.Prelude.{Option, Some, None}
+use Rattle.common.specs.Lowest.{lowest_from, found}
 use Rattle.common.proofs.Order.{split, same_or_not, past, one_of}
 use Rattle.common.proofs.Stores.{at_set}
-use Rattle.common.proofs.Lowest.{lowest_laws}
+use Rattle.common.proofs.Lowest.{lowest_laws, nothing_found, found_first}
 use Rattle.graph.specs.Graph.{Graph, In, Lawful}
 use Rattle.graph.specs.Marks.{mark_of}
 use Rattle.graph.specs.Longest.{best, length_of, most}
@@ -31,7 +32,7 @@ use Rattle.twice.specs.TwiceInvariants.{KEPT_LENGTHS, «SHARE», KEPT_NEXT, KEPT
 use Rattle.twice.specs.TwiceInvariants.{KeepsWord, Keeps, KeptWords, KeepsAll, RaiseAsks, Raises, Restored}
 use Rattle.twice.specs.TwiceInvariants.{Twice}
 use Rattle.sweep.proofs.Entries.{ordered_among, entries_length, entry_is, entry_next, entry_target, entry_stop, entry_invalid, entry_both}
-use Rattle.sweep.proofs.Measures.{next_unserved, best_in, both_valid, lowest_none_here, lowest-by}
+use Rattle.sweep.proofs.Measures.{next_unserved, best_in, both_valid, valid_unmarked, invalid_by_steps}
 
 -- a step that goes forward is no service
 forward_unserved : (p q : ℕ) → p < q → serves_of p q ≡ false
@@ -133,7 +134,7 @@ steps-in l p e k h =
     (same_or_not (e / «TARGETS») KIND_TARGET)
 
 -- the arms of the first pass, at word p
-module _ (m l : List ℕ) (p a f x i : ℕ) (k : KeepAsks m l p a f) (light : x ≤ heaviest_weight) where
+module _ (m l : List ℕ) (p a f x : ℕ) (k : KeepAsks m l p a f) (light : x ≤ heaviest_weight) where
   abbrev entry : ℕ
   entry = get_or l p 0 % «ENTRIES»
 
@@ -143,7 +144,7 @@ module _ (m l : List ℕ) (p a f x i : ℕ) (k : KeepAsks m l p a f) (light : x 
   pub after_under : f ≤ most_weight
   after_under = omega (arith, k.skip, k.low (p + 2) (omega arith))
 
-  pub keeps_none : get_or m p 0 ≡ 0 → Keeps x m l p i 0 i m (set l p 0)
+  pub keeps_none : get_or m p 0 ≡ 0 → Keeps x m l p 0 false m (set l p 0)
   keeps_none z =
       record {
         element = 0;
@@ -151,7 +152,7 @@ module _ (m l : List ℕ) (p a f x i : ℕ) (k : KeepAsks m l p a f) (light : x 
         word =
             record {
               length_is = by_none (low_at l) x (get_or m p 0) p (steps_in l p) z;
-              invalid_is = lowest_none_here m l p i z;
+              invalid_is = valid_unmarked m l p z;
               none = λ _. refl;
               some = λ n. absurd (n z);
               steps = λ n. absurd (n z);
@@ -162,8 +163,8 @@ module _ (m l : List ℕ) (p a f x i : ℕ) (k : KeepAsks m l p a f) (light : x 
       }
 
   module _ (n : get_or m p 0 ≡ 0 → ⊥) where
-    keeps_by : {s : Successors} → steps_in l p ≡ s → (v e b : ℕ) {i' : ℕ} {m' : List ℕ} → v ≡ x + best_by (low_at l) p s → i' ≡ cond (is_invalid s) p i
-        → v ≡ e % KEPT_LENGTHS → (b ≡ 0 → ⊥) → list_of (kept_steps b e p) ≡ list_of s → m' ≡ set m p b → Keeps x m l p i v i' m' (set l p e)
+    keeps_by : {s : Successors} → steps_in l p ≡ s → (v e b : ℕ) {bad : Bool} {m' : List ℕ} → v ≡ x + best_by (low_at l) p s → bad ≡ is_invalid s
+        → v ≡ e % KEPT_LENGTHS → (b ≡ 0 → ⊥) → list_of (kept_steps b e p) ≡ list_of s → m' ≡ set m p b → Keeps x m l p v bad m' (set l p e)
     keeps_by {s} d v e b q j h o r y =
         record {
           element = e;
@@ -171,7 +172,7 @@ module _ (m l : List ℕ) (p a f x i : ℕ) (k : KeepAsks m l p a f) (light : x 
           word =
               record {
                 length_is = by_some (low_at l) x (get_or m p 0) p n (steps_in l p) (ap list_of d) (sym h ∙ q);
-                invalid_is = lowest-by m l p n d i j;
+                invalid_is = invalid_by_steps m l p n d j;
                 none = λ z. absurd (n z);
                 some = λ _. o;
                 steps = λ _. r ∙ ap list_of (sym d);
@@ -181,24 +182,32 @@ module _ (m l : List ℕ) (p a f x i : ℕ) (k : KeepAsks m l p a f) (light : x 
           l_is = refl;
         }
 
-    pub keeps_next : entry / «TARGETS» ≡ KIND_NEXT → Keeps x m l p i (a + x) i m (set l p (a + x))
+    pub keeps_next : entry / «TARGETS» ≡ KIND_NEXT → Keeps x m l p (a + x) false m (set l p (a + x))
     keeps_next d =
         keeps_by (entry_next entry p d) (a + x) (a + x) 1 (omega (arith, best_next (low_at l) p, k.next)) refl
         (omega (arith, above_under)) (λ z. omega arith) refl
         (sym (set-get_or m p 0) ∙ ap (set m p) (one_of k.bit n))
 
-    pub keeps_skip : entry ≡ 98304 + (p + 2) → {v : ℕ} → v ≡ max a f → Keeps x m l p i (v + x) i (set m p 3) (set l p (v + x))
+    pub keeps_skip : entry ≡ 98304 + (p + 2) → {v : ℕ} → v ≡ max a f → Keeps x m l p (v + x) false (set m p 3) (set l p (v + x))
     keeps_skip d {v} q =
         let t : entry % «TARGETS» ≡ p + 2 = omega (arith, d) in
         let s = entry_both entry p (λ z. omega (arith, d, z)) (λ z. omega (arith, d, z)) (λ z. omega (arith, d, z)) ∙ ap (ordered (p + 1)) t in
-        keeps_by s (v + x) (v + x) 3 (omega (arith, best_skip (low_at l) p, k.next, k.skip)) (both_valid _ _ p i)
+        keeps_by s (v + x) (v + x) 3 (omega (arith, best_skip (low_at l) p, k.next, k.skip)) (both_valid _ _)
         (omega (arith, above_under, after_under)) (λ z. omega arith) refl refl
 
-    pub keeps_stop : entry / «TARGETS» ≡ KIND_NONE → entry % «TARGETS» ≡ «RETURNS» → Keeps x m l p i x i (set m p 2) (set l p x)
+    keeps_stop : entry / «TARGETS» ≡ KIND_NONE → entry % «TARGETS» ≡ «RETURNS» → Keeps x m l p x false (set m p 2) (set l p x)
     keeps_stop d r = keeps_by (entry_stop entry p d r) x x 2 (omega arith) refl (omega arith) (λ z. omega arith) refl refl
 
-    pub keeps_invalid : entry / «TARGETS» ≡ KIND_NONE → (entry % «TARGETS» ≡ «RETURNS» → ⊥) → Keeps x m l p i x p (set m p 2) (set l p x)
+    keeps_invalid : entry / «TARGETS» ≡ KIND_NONE → (entry % «TARGETS» ≡ «RETURNS» → ⊥) → Keeps x m l p x true (set m p 2) (set l p x)
     keeps_invalid d r = keeps_by (entry_invalid entry p d r) x x 2 (omega arith) refl (omega arith) (λ z. omega arith) refl refl
+
+    -- with no step: invalid, if it does not return
+    pub keeps_ended : entry / «TARGETS» ≡ KIND_NONE → Keeps x m l p x (not (eqb (entry % «TARGETS») «RETURNS»)) (set m p 2) (set l p x)
+    keeps_ended d =
+        ⊎_elim
+        (λ r. subst (λ (b : Bool). Keeps x m l p x b (set m p 2) (set l p x)) (sym (ap not (eq-eqb (entry % «TARGETS») «RETURNS» r))) (keeps_stop d r))
+        (λ r. subst (λ (b : Bool). Keeps x m l p x b (set m p 2) (set l p x)) (sym (ap not (ne_eqb (entry % «TARGETS») «RETURNS» r))) (keeps_invalid d r))
+        (same_or_not (entry % «TARGETS») «RETURNS»)
 
     -- with a target, of which y is added
     module _ (h : KIND_TARGET ≤ entry / «TARGETS») (y : ℕ) (e : y ≡ beyond_by (low_at l) p (entry % «TARGETS»)) where
@@ -214,7 +223,7 @@ module _ (m l : List ℕ) (p a f x i : ℕ) (k : KeepAsks m l p a f) (light : x 
           ap list_of (told_target (entry / «SHARE») (element v) p (omega arith))
           ∙ ap (λ (u : ℕ). list_of (entry_at u p)) z ∙ ap list_of d
 
-      pub keeps_target : entry / «TARGETS» ≡ KIND_TARGET → Keeps x m l p i (y + x) i (set m p (entry / «SHARE»)) (set l p (y + x + entry % «SHARE» * KEPT_LENGTHS))
+      pub keeps_target : entry / «TARGETS» ≡ KIND_TARGET → Keeps x m l p (y + x) false (set m p (entry / «SHARE»)) (set l p (y + x + entry % «SHARE» * KEPT_LENGTHS))
       keeps_target d =
           keeps_by (entry_target entry p d) (y + x) (element (y + x)) (entry / «SHARE»)
           (omega (arith, best_one (low_at l) p (entry % «TARGETS») y e)) refl
@@ -225,10 +234,10 @@ module _ (m l : List ℕ) (p a f x i : ℕ) (k : KeepAsks m l p a f) (light : x 
       two o = entry_both entry p (λ z. omega arith) (λ z. omega arith) o
 
       pub keeps_both : (entry / «TARGETS» ≡ KIND_TARGET → ⊥) → {v : ℕ} → v ≡ max a y
-          → Keeps x m l p i (v + x) i (set m p (entry / «SHARE»)) (set l p (v + x + entry % «SHARE» * KEPT_LENGTHS))
+          → Keeps x m l p (v + x) false (set m p (entry / «SHARE»)) (set l p (v + x + entry % «SHARE» * KEPT_LENGTHS))
       keeps_both o {v} q =
           keeps_by (two o) (v + x) (element (v + x)) (entry / «SHARE»)
-          (omega (arith, best_two (low_at l) p (entry % «TARGETS») y e, k.next)) (both_valid _ _ p i)
+          (omega (arith, best_two (low_at l) p (entry % «TARGETS») y e, k.next)) (both_valid _ _)
           (omega (arith, added_under, above_under)) (λ z. omega arith)
           (as_was (v + x) (omega (arith, added_under, above_under)) (two o)) refl
 
@@ -237,12 +246,12 @@ module _ (m l : List ℕ) (p a f x i : ℕ) (k : KeepAsks m l p a f) (light : x 
   target-in h = steps-in l p entry k.steps h
 
 -- the lengths where the word's own place was cleared first
-pub keeps_cleared : {x : ℕ} (m l : List ℕ) (p i v i' e : ℕ) {m' : List ℕ} → Keeps x m l p i v i' m' (set l p e) → Keeps x m l p i v i' m' (set (set l p 0) p e)
-keeps_cleared {x} m l p i v i' e {m'} d = subst (λ (z : List ℕ). Keeps x m l p i v i' m' z) (sym (set-set l p 0 e)) d
+pub keeps_cleared : {x : ℕ} (m l : List ℕ) (p v : ℕ) {bad : Bool} (e : ℕ) {m' : List ℕ} → Keeps x m l p v bad m' (set l p e) → Keeps x m l p v bad m' (set (set l p 0) p e)
+keeps_cleared {x} m l p v {bad} e {m'} d = subst (λ (z : List ℕ). Keeps x m l p v bad m' z) (sym (set-set l p 0 e)) d
 
 -- only the word's own weight counts
-pub keeps_at : {x y : ℕ} (m l : List ℕ) (p i v i' : ℕ) {m' l' : List ℕ} → x ≡ y → Keeps x m l p i v i' m' l' → Keeps y m l p i v i' m' l'
-keeps_at m l p i v i' {m'} {l'} z d = subst (λ (u : ℕ). Keeps u m l p i v i' m' l') z d
+pub keeps_at : {x y : ℕ} (m l : List ℕ) (p v : ℕ) {bad : Bool} {m' l' : List ℕ} → x ≡ y → Keeps x m l p v bad m' l' → Keeps y m l p v bad m' l'
+keeps_at m l p v {bad} {m'} {l'} z d = subst (λ (u : ℕ). Keeps u m l p v bad m' l') z d
 
 -- the arms of the second pass, at word p
 module _ (m l : List ℕ) (p a f x : ℕ) (k : RaiseAsks m l p a f) where
@@ -321,7 +330,7 @@ module _ (es : List ℕ) (law : Lawful (graph_in es)) (few : length es ≤ most_
   length_under q = le_trans (ceiling.lengths (graph_in es) law w heaviest_weight light q) (mul-le-mul_left heaviest_weight few)
 
 -- the first pass: the words from i on are kept, a and f are the lengths of word i and of the next, and v the lowest invalid word among them
-pub record Keeping (w : ℕ → ℕ) (es m l : List ℕ) (i a f v : ℕ) : Type 0 where
+pub record Keeping (w : ℕ → ℕ) (es m l : List ℕ) (i a f : ℕ) (v : Option ℕ) : Type 0 where
   pub law : Lawful (graph_in es)
   pub few : length es ≤ most_words
   pub m_same : length m ≡ length es
@@ -333,9 +342,9 @@ pub record Keeping (w : ℕ → ℕ) (es m l : List ℕ) (i a f v : ℕ) : Type 
   pub kept : (q : ℕ) → i ≤ q → q < length es → KeptAs (graph_in es) q (get_or m q 0) (get_or l q 0)
   pub above : a ≡ low_at l i
   pub after : f ≡ low_at l (i + 1)
-  pub lowest : v ≡ lowest_from (invalid_by (length es) (entry_steps es)) i (length es - i)
+  pub lowest : v ≡ found (length es) (lowest_from (invalid_by (length es) (entry_steps es)) i (length es - i))
 
-pub keeping_none : (w : ℕ → ℕ) (m l : List ℕ) → FillAsks m l → Keeping w (entries l) m l (length l) 0 0 (length l)
+pub keeping_none : (w : ℕ → ℕ) (m l : List ℕ) → FillAsks m l → Keeping w (entries l) m l (length l) 0 0 None
 keeping_none w m l k =
     let n = entries_length l in
     record {
@@ -350,10 +359,10 @@ keeping_none w m l k =
       kept = λ q d i. absurd (omega arith);
       above = ap (λ (x : ℕ). x % KEPT_LENGTHS) (sym (get_or-eq_default l 0 (omega arith)));
       after = ap (λ (x : ℕ). x % KEPT_LENGTHS) (sym (get_or-eq_default l 0 (omega arith)));
-      lowest = lowest_laws.end (invalid_by (length (entries l)) (entry_steps (entries l))) (length (entries l)) (length l) (sym n);
+      lowest = nothing_found (omega (arith, lowest_laws.end (invalid_by (length (entries l)) (entry_steps (entries l))) (length (entries l)) (length l) (sym n)));
     }
 
-module _ (w : ℕ → ℕ) (light : (q : ℕ) → w q ≤ heaviest_weight) (es m l : List ℕ) (p a f v : ℕ) (k : Keeping w es m l (p + 1) a f v) where
+module _ (w : ℕ → ℕ) (light : (q : ℕ) → w q ≤ heaviest_weight) (es m l : List ℕ) (p a f : ℕ) (v : Option ℕ) (k : Keeping w es m l (p + 1) a f v) where
   inside : p < length es
   inside = omega (arith, k.upto)
 
@@ -373,7 +382,7 @@ module _ (w : ℕ → ℕ) (light : (q : ℕ) → w q ≤ heaviest_weight) (es m
         skip = k.after ∙ ap (low_at l) (omega arith);
       }
 
-  module _ {e b y : ℕ} (d : KeepsWord (w p) m l p v e b y) where
+  module _ {e b : ℕ} {bad : Bool} (d : KeepsWord (w p) m l p e b bad) where
     mark_here : get_or m p 0 ≡ mark_of (graph_in es) p
     mark_here = k.marks p (omega arith)
 
@@ -404,21 +413,21 @@ module _ (w : ℕ → ℕ) (light : (q : ℕ) → w q ≤ heaviest_weight) (es m
         (λ n. record { none = λ z. absurd (d.some n z); some = λ _. marked n; steps = λ _. d.steps n ∙ ap list_of steps_here })
         (same_or_not (get_or m p 0) 0)
 
-    lowest_unmarked : mark_of (graph_in es) p ≡ 0 → v ≡ cond (invalid_by (length es) (entry_steps es) p) p v
-    lowest_unmarked z = simp (ne_eqb (mark_of (graph_in es) p) 1 (λ o. omega arith))
-
-    lowest_marked : mark_of (graph_in es) p ≡ 1 → cond (is_invalid (entry_steps es p)) p v ≡ cond (invalid_by (length es) (entry_steps es) p) p v
-    lowest_marked z = simp (eq-eqb (mark_of (graph_in es) p) 1 z)
-
-    lowest_here : y ≡ cond (invalid_by (length es) (entry_steps es) p) p v
-    lowest_here =
+    invalid_here : bad ≡ invalid_by (length es) (entry_steps es) p
+    invalid_here =
         d.invalid_is
         ∙ ⊎_elim
-        (λ z. sym (lowest_none_here m l p v z) ∙ lowest_unmarked (unmarked z))
-        (λ n. sym (lowest-by m l p n steps_here v refl) ∙ lowest_marked (marked n))
+        (λ z. sym (valid_unmarked m l p z) ∙ at_unmarked (unmarked z))
+        (λ n. sym (invalid_by_steps m l p n steps_here refl) ∙ at_marked (marked n))
         (same_or_not (get_or m p 0) 0)
+      where
+        at_unmarked : mark_of (graph_in es) p ≡ 0 → false ≡ invalid_by (length es) (entry_steps es) p
+        at_unmarked z = simp (ne_eqb (mark_of (graph_in es) p) 1 (λ o. omega arith))
 
-    kept_more : Keeping w es (set m p b) (set l p e) p (e % KEPT_LENGTHS) a y
+        at_marked : mark_of (graph_in es) p ≡ 1 → is_invalid (entry_steps es p) ≡ invalid_by (length es) (entry_steps es) p
+        at_marked z = simp (eq-eqb (mark_of (graph_in es) p) 1 z)
+
+    kept_more : Keeping w es (set m p b) (set l p e) p (e % KEPT_LENGTHS) a (cond bad (Some p) v)
     kept_more =
         record {
           law = k.law;
@@ -439,8 +448,10 @@ module _ (w : ℕ → ℕ) (light : (q : ℕ) → w q ≤ heaviest_weight) (es m
           above = ap (λ (z : ℕ). z % KEPT_LENGTHS) (sym (get_or-set_same l p e 0 (omega (arith, inside, k.l_same))));
           after = k.above ∙ ap (λ (z : ℕ). z % KEPT_LENGTHS) (sym (get_or-set_other l p (p + 1) e 0 (λ z. omega arith)));
           lowest =
-              lowest_here ∙ ap (λ (z : ℕ). cond (invalid_by (length es) (entry_steps es) p) p z) k.lowest
-              ∙ sym (lowest_laws.turn (invalid_by (length es) (entry_steps es)) (length es) p inside);
+              ap (λ (z : Bool). cond z (Some p) v) invalid_here
+              ∙ ap (cond (invalid_by (length es) (entry_steps es) p) (Some p)) k.lowest
+              ∙ found_first (invalid_by (length es) (entry_steps es) p) _ inside
+              ∙ ap (found (length es)) (sym (lowest_laws.turn (invalid_by (length es) (entry_steps es)) (length es) p inside));
         }
       where
         kept_by : (q : ℕ) {b₁ b₂ e₁ e₂ : ℕ} → b₁ ≡ b₂ → e₁ ≡ e₂ → KeptAs (graph_in es) q b₂ e₂ → KeptAs (graph_in es) q b₁ e₁
@@ -456,21 +467,23 @@ module _ (w : ℕ → ℕ) (light : (q : ℕ) → w q ≤ heaviest_weight) (es m
             → KeptAs (graph_in es) q (get_or (set m p b) q 0) (get_or (set l p e) q 0)
         kept_other q n u = kept_by q (get_or-set_other m p q b 0 n) (get_or-set_other l p q e 0 n) u
 
-  pub keeping_more : {x y : ℕ} {m' l' : List ℕ} → Keeps (w p) m l p v x y m' l' → Keeping w es m' l' p x a y
-  keeping_more {x} {y} {m'} {l'} d =
-      subst (λ (z : ℕ). Keeping w es m' l' p z a y) (sym d.handed)
-      (subst (λ (z : List ℕ). Keeping w es z l' p (d.element % KEPT_LENGTHS) a y) (sym d.m_is)
-      (subst (λ (z : List ℕ). Keeping w es (set m p d.byte) z p (d.element % KEPT_LENGTHS) a y) (sym d.l_is)
+  pub keeping_more : {x : ℕ} {bad : Bool} {m' l' : List ℕ} → Keeps (w p) m l p x bad m' l' → Keeping w es m' l' p x a (cond bad (Some p) v)
+  keeping_more {x} {bad} {m'} {l'} d =
+      subst (λ (z : ℕ). Keeping w es m' l' p z a (cond bad (Some p) v)) (sym d.handed)
+      (subst (λ (z : List ℕ). Keeping w es z l' p (d.element % KEPT_LENGTHS) a (cond bad (Some p) v)) (sym d.m_is)
+      (subst (λ (z : List ℕ). Keeping w es (set m p d.byte) z p (d.element % KEPT_LENGTHS) a (cond bad (Some p) v)) (sym d.l_is)
       (kept_more d.word)))
 
-pub keeping_done : {w : ℕ → ℕ} (l₀ : List ℕ) {m l : List ℕ} {i a f v : ℕ} → Keeping w (entries l₀) m l i a f v → i ≤ 0 → KeepsAll w l₀ m l v
+pub keeping_done : {w : ℕ → ℕ} (l₀ : List ℕ) {m l : List ℕ} {i a f : ℕ} {v : Option ℕ} → Keeping w (entries l₀) m l i a f v → i ≤ 0 → KeepsAll w l₀ m l v
 keeping_done {w} l₀ {m} {l} {i} {a} {f} {v} k h =
     let e : i ≡ 0 = omega arith in
     let t = invalid_by (length (entries l₀)) (entry_steps (entries l₀)) in
     record {
       lows = λ p d. k.from p (omega arith) d;
       kept = record { law = k.law; few = k.few; m_same = k.m_same; l_same = k.l_same; kept = λ q d. k.kept q (omega arith) d };
-      lowest-invalid = k.lowest ∙ ap (λ (x : ℕ). lowest_from t x (length (entries l₀) - x)) e ∙ lowest_laws.whole t (length (entries l₀));
+      lowest-invalid =
+          k.lowest
+          ∙ ap (found (length (entries l₀))) (ap (λ (x : ℕ). lowest_from t x (length (entries l₀) - x)) e ∙ lowest_laws.whole t (length (entries l₀)));
     }
 
 -- the second pass: the words from i on have their lengths, a and f are those of word i and of the next, and those below are kept
@@ -593,11 +606,15 @@ module _ (m₀ : List ℕ) where
       below_past : {p : ℕ} → p < i + 1 → (p ≡ i → ⊥) → p < i
       below_past d n = omega arith
 
+  -- a byte that is a mark again
+  pub mark_of_byte : (b : ℕ) → min b 1 ≡ cond (eqb b 0) 0 1
+  mark_of_byte b = ⊎_elim (λ e. simp (eq-eqb b 0 e) (omega arith)) (λ n. simp (ne_eqb b 0 n) (omega arith)) (same_or_not b 0)
+
   pub restoring_done : {m : List ℕ} {i : ℕ} → Restoring m₀ m i → length m₀ ≤ i → Restored m₀ m
   restoring_done r h p d = r.done p (omega arith)
 
 -- both passes
-pub twice : {low high : ℕ → ℕ} (l m₁ l₁ m' l' : List ℕ) (n : ℕ) {i v a : ℕ} → length (entries l) ≡ n
+pub twice : {low high : ℕ → ℕ} (l m₁ l₁ m' l' : List ℕ) (n : ℕ) {i : Option ℕ} {v a : ℕ} → length (entries l) ≡ n
     → KeepsAll low l m₁ l₁ i → Raises high m₁ l₁ l' → Restored m₁ m'
     → v ≡ most (low_at l₁) n → a ≡ lowest_from (λ p. eqb (low_at l₁ p) v) 0 n → Twice low high l i v a m' l'
 twice {low} {high} l m₁ l₁ m' l' n {i} {v} {a} s k r b e d =

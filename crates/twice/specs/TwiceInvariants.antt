@@ -4,9 +4,11 @@
 -- no entry settled again. No exported contract cites it. Of a word nothing is read but the place of its
 -- weight.
 -- Assumes nothing.
-use Rattle.std.specs.Prelude.{◌≡◌, cond, List, [], ℕ, ◌+◌, ◌*◌, ◌/◌, ◌%◌, ◌≤◌, ◌<◌, eqb, ltb, length}
+use Rattle.std.specs.Prelude.{◌≡◌, Bool, cond, Option, List, [], ℕ, ◌+◌, ◌*◌, ◌/◌, ◌%◌, ◌≤◌, ◌<◌, eqb, ltb}
+use Rattle.std.specs.Prelude.{length}
 use Rattle.std.specs.Prelude.{get_or, set}
 use Rattle.common.specs.Limits.{most_words}
+use Rattle.common.specs.Lowest.{found}
 use Rattle.graph.specs.Graph.{Graph, In, Lawful}
 use Rattle.graph.specs.Marks.{mark_of}
 use Rattle.graph.specs.Longest.{best, length_of, longest, first}
@@ -16,7 +18,7 @@ use Rattle.sweep.specs.Steps.{ordered, list_of}
 use Rattle.sweep.specs.Entries.{«TARGETS», «ENTRIES», KIND_NEXT}
 use Rattle.sweep.specs.Entries.{entry_at, entries, entry_steps, graph_in, lowest_by}
 use Rattle.sweep.specs.SearchInvariants.{Marked}
-use Rattle.sweep.specs.PassInvariants.{most_weight, Lengths, steps_in, invalid_from}
+use Rattle.sweep.specs.PassInvariants.{most_weight, Lengths, steps_in, invalid_in}
 
 -- a kept element is a length, and this times the low bits of a target
 abbrev pub KEPT_LENGTHS : ℕ
@@ -86,19 +88,19 @@ pub record KeepsApart (m l : List ℕ) (p a : ℕ) : Type 0 where
   pub reached : get_or m p 0 ≡ 0 → ⊥
   pub apart : get_or l p 0 % «ENTRIES» / «TARGETS» ≡ KIND_NEXT → ⊥
 
--- and what it finds: the word's element e and byte b, and the lowest invalid word from it on
-pub record KeepsWord (x : ℕ) (m l : List ℕ) (p i e b i' : ℕ) : Type 0 where
+-- and what it finds: the word's element e and byte b, and whether it is reachable and invalid
+pub record KeepsWord (x : ℕ) (m l : List ℕ) (p e b : ℕ) (bad : Bool) : Type 0 where
   pub length_is : e % KEPT_LENGTHS ≡ length_by (low_at l) x (get_or m p 0) (steps_in l p) p
-  pub invalid_is : i' ≡ invalid_from m l p i
+  pub invalid_is : bad ≡ invalid_in m l p
   pub none : get_or m p 0 ≡ 0 → b ≡ 0
   pub some : (get_or m p 0 ≡ 0 → ⊥) → b ≡ 0 → ⊥
   pub steps : (get_or m p 0 ≡ 0 → ⊥) → list_of (kept_steps b e p) ≡ list_of (steps_in l p)
 
 -- and leaves: these stand at p, and v is the length in the element
-pub record Keeps (x : ℕ) (m l : List ℕ) (p i v i' : ℕ) (m' l' : List ℕ) : Type 0 where
+pub record Keeps (x : ℕ) (m l : List ℕ) (p v : ℕ) (bad : Bool) (m' l' : List ℕ) : Type 0 where
   pub element : ℕ
   pub byte : ℕ
-  pub word : KeepsWord x m l p i element byte i'
+  pub word : KeepsWord x m l p element byte bad
   pub handed : v ≡ element % KEPT_LENGTHS
   pub m_is : m' ≡ set m p byte
   pub l_is : l' ≡ set l p element
@@ -112,10 +114,11 @@ pub record KeptWords (es m l : List ℕ) : Type 0 where
   pub kept : (q : ℕ) → q < length es → KeptAs (graph_in es) q (get_or m q 0) (get_or l q 0)
 
 -- what the first pass leaves: the lengths by w, kept words, and the lowest reachable invalid one
-pub record KeepsAll (w : ℕ → ℕ) (l m' l' : List ℕ) (r : ℕ) : Type 0 where
+pub record KeepsAll (w : ℕ → ℕ) (l m' l' : List ℕ) (r : Option ℕ) : Type 0 where
   pub lows : (p : ℕ) → p < length (entries l) → low_at l' p ≡ length_of (graph_in (entries l)) w p
   pub kept : KeptWords (entries l) m' l'
-  pub lowest-invalid : r ≡ lowest_by (length (entries l)) (entry_steps (entries l))
+  pub lowest-invalid :
+      r ≡ found (length (entries l)) (lowest_by (length (entries l)) (entry_steps (entries l)))
 
 -- what raising word p asks: its steps are words, those above it have their lengths, and a and f are those of
 -- the next two
@@ -142,9 +145,11 @@ Restored m m' = (p : ℕ) → p < length m → get_or m' p 0 ≡ cond (eqb (get_
 
 -- what both passes leave of searched lengths l: the marks, the lengths by the higher weights, and of the
 -- lower ones the longest and its first word
-pub record Twice (low high : ℕ → ℕ) (l : List ℕ) (invalid most lowest : ℕ) (m' l' : List ℕ) : Type 0 where
+pub record Twice (low high : ℕ → ℕ) (l : List ℕ) (invalid : Option ℕ) (most lowest : ℕ)
+    (m' l' : List ℕ) : Type 0 where
   pub marked : Marked (graph_in (entries l)) m'
   pub lengths : Lengths (graph_in (entries l)) high l'
-  pub lowest-invalid : invalid ≡ lowest_by (length (entries l)) (entry_steps (entries l))
+  pub lowest-invalid :
+      invalid ≡ found (length (entries l)) (lowest_by (length (entries l)) (entry_steps (entries l)))
   pub longest_is : most ≡ longest (graph_in (entries l)) low
   pub first_is : lowest ≡ first (graph_in (entries l)) low

@@ -13,12 +13,13 @@
 // that those marks stay as they are, and code that only goes on packs nothing. A test and arithmetic, which
 // go on to the next word and to the one after it, have a number too. So both lengths that such a word needs
 // are at hand: read from where they were stored two turns before, they would make each turn wait.
-ghost use Rattle.std.specs.Prelude.{◌≡◌, cond, ◌≤◌, ◌<◌, eqb, length, get_or};
+ghost use Rattle.std.specs.Prelude.{◌≡◌, ◌≤◌, ◌<◌, ◌%◌, eqb, length, get_or, position};
 ghost use Rattle.common.specs.Lowest.{lowest};
 ghost use Rattle.common.specs.Limits.{heaviest_weight};
 ghost use Rattle.graph.specs.Longest.{most};
 ghost use Rattle.sweep.specs.PassInvariants.{weight_by, FillAsks, SameBut, at};
 ghost use Rattle.twice.specs.TwiceInvariants.{
+  KEPT_LENGTHS,
   low_at,
   kept_in,
   length_by,
@@ -33,9 +34,9 @@ ghost use Rattle.twice.specs.TwiceInvariants.{
   Twice,
 };
 
-use common::widths::larger;
 use sweep::inner::{
-    ENTRIES, KIND_BOTH, KIND_NEXT, KIND_NONE, KIND_TARGET, RETURNS, TARGETS, beyond, weigh,
+    ENTRIES, KIND_BOTH, KIND_NEXT, KIND_NONE, KIND_TARGET, Measured, RETURNS, TARGETS, beyond,
+    weigh,
 };
 
 // A kept element is a length and this times the low bits of a target, 2^23; the target is those bits and the
@@ -47,6 +48,7 @@ const SHARE: u32 = 512;
 // So many kinds an entry has.
 const KINDS: u32 = 4;
 
+// Kept: numbers, no enum, since they are bytes of the marks.
 // The bytes of reachable words: with the next word alone, which is the mark itself; with no step; and, from
 // the others up, with the next word and the one after it, with a target, and with the next word and a target.
 const KEPT_NEXT: u8 = 1;
@@ -59,24 +61,10 @@ const KEPT_TARGET: u8 = 128;
 
 const KEPT_BOTH: u8 = 192;
 
-// The length of a word that is kept, and the lowest reachable invalid word from it on.
-#[derive(Drop)]
-struct Kept {
-    length: u32,
-    invalid: usize,
-}
-
 // As below, of a reachable word whose steps are not the next word alone.
-fn keep_apart(
-    marks: &mut [u8],
-    lengths: &mut [u32],
-    p: usize,
-    weight: u32,
-    above: u32,
-    invalid: usize,
-) -> Kept
+fn keep_apart(marks: &mut [u8], lengths: &mut [u32], p: usize, weight: u32, above: u32) -> Measured
     requires { KeepsApart marks.old lengths.old p above × (weight ≤ heaviest_weight) }
-    ensures { Keeps weight marks.old lengths.old p invalid result.length
+    ensures { Keeps weight marks.old lengths.old p result.length
         result.invalid marks.new lengths.new }
 {
     let entry = lengths[p] % ENTRIES;
@@ -84,15 +72,9 @@ fn keep_apart(
     if kind == KIND_NONE {
         marks[p] = KEPT_NONE;
         lengths[p] = weight;
-        if entry % TARGETS == RETURNS {
-            return Kept {
-                length: weight,
-                invalid,
-            };
-        }
-        return Kept {
+        return Measured {
             length: weight,
-            invalid: p,
+            invalid: entry % TARGETS != RETURNS,
         };
     }
     marks[p] = (entry / SHARE) as u8;
@@ -101,18 +83,21 @@ fn keep_apart(
     let low = entry % SHARE * KEPT_LENGTHS;
     if kind == KIND_TARGET {
         lengths[p] = x + weight + low;
-        return Kept {
+        return Measured {
             length: x + weight,
-            invalid,
+            invalid: false,
         };
     }
-    let v = larger(above, x) + weight;
+    let v = above.max(x) + weight;
     lengths[p] = v + low;
-    Kept { length: v, invalid }
+    Measured {
+        length: v,
+        invalid: false,
+    }
 }
 
-// Word p, of this weight, measured and kept, where the words above it are, `above` and `after` are the
-// lengths of the next two, and `invalid` the lowest invalid one among them.
+// Word p, of this weight, measured and kept, where the words above it are, and `above` and `after` are the
+// lengths of the next two.
 fn keep(
     marks: &mut [u8],
     lengths: &mut [u32],
@@ -120,55 +105,63 @@ fn keep(
     weight: u32,
     above: u32,
     after: u32,
-    invalid: usize,
-) -> Kept
+) -> Measured
     requires { KeepAsks marks.old lengths.old p above after × (weight ≤ heaviest_weight) }
-    ensures { Keeps weight marks.old lengths.old p invalid result.length
+    ensures { Keeps weight marks.old lengths.old p result.length
         result.invalid marks.new lengths.new }
 {
     if marks[p] == 0 {
         lengths[p] = 0;
-        return Kept { length: 0, invalid };
+        return Measured {
+            length: 0,
+            invalid: false,
+        };
     }
     if lengths[p] / TARGETS % KINDS == KIND_NEXT {
         let v = above + weight;
         lengths[p] = v;
-        return Kept { length: v, invalid };
+        return Measured {
+            length: v,
+            invalid: false,
+        };
     }
     if lengths[p] % ENTRIES == KIND_BOTH * TARGETS + (p + 2) as u32 {
-        let v = larger(above, after) + weight;
+        let v = above.max(after) + weight;
         marks[p] = KEPT_SKIP;
         lengths[p] = v;
-        return Kept { length: v, invalid };
+        return Measured {
+            length: v,
+            invalid: false,
+        };
     }
-    keep_apart(marks, lengths, p, weight, above, invalid)
+    keep_apart(marks, lengths, p, weight, above)
 }
 
-// The first pass: searched lengths and marks become kept ones. The lowest reachable invalid word, or the
-// number of words.
+// The first pass: searched lengths and marks become kept ones. The lowest reachable invalid word, if there is
+// one.
 fn keep_lengths(
     mask: u32,
     words: &[u32],
     weights: &[u8],
     marks: &mut [u8],
     lengths: &mut [u32],
-) -> usize
+) -> Option<usize>
     requires { FillAsks marks.old lengths.old × (length words.now ≡ length lengths.old)
         × (mask < length weights.now) }
     ensures { KeepsAll (weight_by mask words.now weights.now)
         lengths.old marks.new lengths.new result }
 {
-    let mut invalid = lengths.len();
+    let mut invalid = None;
     let mut above: u32 = 0;
     let mut after: u32 = 0;
-    let mut i = lengths.len();
-    while 0 < i {
-        i -= 1;
+    for i in (0..lengths.len()).rev() {
         let weight = weigh(mask, weights, words[i]);
-        let k = keep(marks, lengths, i, weight, above, after, invalid);
+        let k = keep(marks, lengths, i, weight, above, after);
         after = above;
         above = k.length;
-        invalid = k.invalid;
+        if k.invalid {
+            invalid = Some(i);
+        }
     }
     invalid
 }
@@ -187,7 +180,7 @@ fn raise(marks: &[u8], lengths: &mut [u32], p: usize, weight: u32, above: u32, a
     }
     if byte < KEPT_TARGET {
         if KEPT_SKIP <= byte {
-            return larger(above, after) + weight;
+            return above.max(after) + weight;
         }
         if byte == 0 {
             return 0;
@@ -200,7 +193,7 @@ fn raise(marks: &[u8], lengths: &mut [u32], p: usize, weight: u32, above: u32, a
     if byte < KEPT_BOTH {
         return x + weight;
     }
-    larger(above, x) + weight
+    above.max(x) + weight
 }
 
 // The second pass: kept lengths become measured ones, by other weights.
@@ -212,9 +205,7 @@ fn raise_lengths(mask: u32, words: &[u32], weights: &[u8], marks: &[u8], lengths
 {
     let mut above: u32 = 0;
     let mut after: u32 = 0;
-    let mut i = lengths.len();
-    while 0 < i {
-        i -= 1;
+    for i in (0..lengths.len()).rev() {
         let weight = weigh(mask, weights, words[i]);
         let v = raise(marks, lengths, i, weight, above, after);
         lengths[i] = v;
@@ -223,62 +214,54 @@ fn raise_lengths(mask: u32, words: &[u32], weights: &[u8], marks: &[u8], lengths
     }
 }
 
-// A byte that is a mark again.
-fn mark_of(byte: u8) -> u8
-    ensures { result ≡ cond (eqb byte 0) 0 1 }
-{
-    if byte == 0 {
-        return 0;
-    }
-    1
-}
-
 // Kept bytes become marks, by themselves, so that the compiler takes many at a time.
 fn restore_marks(marks: &mut [u8])
     ensures { Restored marks.old marks.new }
 {
-    let n = marks.len();
-    let mut i = 0;
-    while i < n {
-        marks[i] = mark_of(marks[i]);
-        i += 1;
+    for mark in marks.iter_mut() {
+        *mark = (*mark).min(1);
     }
 }
 
 // The largest length of the first n kept elements.
+// Kept: apart from `find_longest` of `sweep`, which reads whole elements; a closure for the reading is
+// longer.
+#[tactic(auto, unfolding(graph::specs::Longest::most))]
 fn find_low(lengths: &[u32], n: usize) -> u32
     requires { n ≤ length lengths.now }
     ensures { result ≡ most (low_at lengths.now) n }
 {
     let mut longest: u32 = 0;
-    let mut i = 0;
-    while i < n {
-        longest = larger(longest, lengths[i] % KEPT_LENGTHS);
-        i += 1;
+    for kept in &lengths[..n] {
+        longest = longest.max(*kept % KEPT_LENGTHS);
     }
     longest
 }
 
+// Where a length stands first, if it is among kept ones.
+fn position_of(lengths: &[u32], sought: u32) -> Option<usize>
+    ensures { result ≡ position (λ x. eqb (x % KEPT_LENGTHS) sought) lengths.now }
+{
+    lengths
+        .iter()
+        .position(|kept| *kept % KEPT_LENGTHS == sought)
+}
+
 // Where a length stands first among n kept ones, or n.
+// Kept: n where there is none, as in `sweep`, and apart from it, as above.
+#[tactic(auto, using(common::proofs::Lowest::lowest_found))]
 fn find_kept(lengths: &[u32], n: usize, sought: u32) -> usize
     requires { n ≤ length lengths.now }
     ensures { result ≡ lowest (λ p. eqb (low_at lengths.now p) sought) n }
 {
-    let mut i = 0;
-    while i < n {
-        if lengths[i] % KEPT_LENGTHS == sought {
-            return i;
-        }
-        i += 1;
-    }
-    i
+    position_of(&lengths[..n], sought).unwrap_or(n)
 }
 
 // What is left of the lower weights: the longest run by them, its first word, and the lowest reachable
-// invalid word, or the number of words.
+// invalid word, if there is one.
 #[derive(Drop)]
 pub struct Lows {
-    pub invalid: usize,
+    pub invalid: Option<usize>,
     pub longest: u32,
     pub first: usize,
 }

@@ -3,4 +3,4 @@
 
 mod text;
 
-pub use text::{put_bad_line, put_unclear, put_usage, put_version};
+pub use text::{put_bad_line, put_long_weights, put_unclear, put_usage, put_version};

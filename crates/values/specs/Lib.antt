@@ -1,3 +1,4 @@
 -- Layer 4, its ground: the value types and the lookups.
-pub mod Values
+pub mod Few
 pub mod Spans
+pub mod Values

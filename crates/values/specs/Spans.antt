@@ -12,6 +12,9 @@ unfoldable pub past : ℕ → ℕ → Bool
 past bytes payload = ltb bytes (payload % 2 ^ 32 + payload / 2 ^ 32)
 
 -- 5, "a name past the string bytes"; one that is unnamed has no bytes
+unfoldable pub name_past : ℕ → ℕ → Bool
+name_past bytes payload = choose (eqb payload unnamed) false (past bytes payload)
+
 unfoldable pub name_past_at : List ℕ → ℕ → ℕ → Bool
 name_past_at names bytes index =
     choose (eqb (get_or names index 0) unnamed) false (past bytes (get_or names index 0))

@@ -3,7 +3,7 @@
 -- payloads in place of a Prototype.
 -- Assumes nothing.
 use Rattle.std.specs.Prelude.{ℕ, ◌+◌, ◌-◌, ◌*◌, ◌/◌, ◌%◌, ◌^◌, true, false, List, ltb, eqb, ℤ, pos, negsuc}
-use Rattle.std.specs.Prelude.{length, get_or}
+use Rattle.std.specs.Prelude.{length, get_or, Option, Some, None}
 use Rattle.std.specs.Float.{binary64}
 use Rattle.std.specs.Float.Ieee.{of_bits, nan_bits}
 unfoldable pub use Rattle.common.specs.Chain.{choose}
@@ -18,8 +18,6 @@ use Rattle.values.specs.declared.model.ConstantValue.TheVariants.{
   ShortString,
   LongString,
 }
-use Rattle.values.specs.declared.model.Name.{Name}
-use Rattle.values.specs.declared.model.Name.TheVariants.{Unnamed, Named}
 
 -- "A constant has a Lua tag: 0 nil, 1 false, 17 true, 3 integer, 19 float, 4 short string, 20 long string"
 abbrev pub TAG_NIL : ℕ
@@ -82,7 +80,7 @@ abbrev pub unnamed : ℕ
 unnamed = 2 ^ 64 - 1
 
 -- "an upvalue index past the table has no name"
-unfoldable pub name_of : List ℕ → ℕ → Name
+unfoldable pub name_of : List ℕ → ℕ → Option Span
 name_of names index =
     choose (ltb index (length names))
-    (choose (eqb (get_or names index 0) unnamed) Unnamed (Named (span_of (get_or names index 0)))) Unnamed
+    (choose (eqb (get_or names index 0) unnamed) None (Some (span_of (get_or names index 0)))) None

@@ -1,23 +1,27 @@
 // The Rust's ir.rs: a record and its parts. Of the implicit effects and confidences only those that
 // lifter.rs makes stand here.
-use crate::model::{ConstantValue, Name};
+ghost use Rattle.values.specs.declared.ir.TypedOperand.TheVariants as operand;
+ghost use Rattle.values.specs.declared.ir.EffectTarget.TheVariants as target;
 
-#[derive(Clone, Copy)]
+use crate::few::{Few, Filler};
+use crate::model::{ConstantValue, Span};
+
+#[derive(Clone, Copy, Debug, PartialEq, Eq)]
 pub enum EffectTarget {
     Register { index: u8 },
     RegisterRange { start: u8, end: u8 },
     RegisterRangeToTop { start: u8 },
-    Upvalue { index: u8, name: Name },
+    Upvalue { index: u8, name: Option<Span> },
     Constant { index: usize },
     Prototype { index: usize },
     JumpTarget { pc: usize },
 }
 
-#[derive(Clone, Copy)]
+#[derive(Clone, Copy, Debug, PartialEq)]
 pub enum TypedOperand {
     Register { index: u8 },
     Constant { index: usize, value: ConstantValue },
-    Upvalue { index: u8, name: Name },
+    Upvalue { index: u8, name: Option<Span> },
     Prototype { index: usize },
     ImmediateInt { value: i64 },
     ImmediateFloat { value: f64 },
@@ -28,15 +32,15 @@ pub enum TypedOperand {
 }
 
 // The Rust's companion_role, a text, as EXTRAARG or an event's number.
-#[derive(Clone, Copy)]
+// Kept: events as numbers, here and of the fallback, since a record gives ltm.h's own (include/RECORD.md).
+#[derive(Clone, Copy, Debug, PartialEq, Eq)]
 pub enum CompanionRole {
     ExtraArg,
     Event(u8),
 }
 
-#[derive(Clone, Copy)]
+#[derive(Clone, Copy, Debug, PartialEq, Eq)]
 pub enum ImplicitEffect {
-    NoEffect,
     CloseUpvalues {
         min_register: u8,
     },
@@ -49,57 +53,39 @@ pub enum ImplicitEffect {
     },
 }
 
-// A metamethod by its event's number in ltm.h, or 25 for `__metamethod`.
-#[derive(Clone, Copy)]
-pub enum Fallback {
-    NoFallback,
-    Event(u8),
-}
-
-// The Rust's Option<usize> for a word number.
-#[derive(Clone, Copy)]
-pub enum OptionalPc {
-    NoPc,
-    Pc(usize),
-}
-
-#[derive(Clone, Copy)]
+#[derive(Clone, Copy, Debug, PartialEq, Eq)]
 pub enum Confidence {
-    Reviewed,
     Unverified,
+    Reviewed,
 }
 
-// An array holds structs, so each enum stands in one.
-#[derive(Clone, Copy)]
-pub struct OperandSlot {
-    pub operand: TypedOperand,
+// "Operand, read and write places past the count hold register 0".
+
+impl Filler for TypedOperand {
+    ghost filler = { operand.Register 0 };
+
+    fn filler() -> TypedOperand {
+        TypedOperand::Register { index: 0 }
+    }
 }
 
-#[derive(Clone, Copy)]
-pub struct TargetSlot {
-    pub target: EffectTarget,
+impl Filler for EffectTarget {
+    ghost filler = { target.Register 0 };
+
+    fn filler() -> EffectTarget {
+        EffectTarget::Register { index: 0 }
+    }
 }
 
-// Lists of at most 4, 3 and 2: places past the count hold register 0.
+// "Operands (at most 4), reads (3), writes (2)".
 
-#[derive(Clone, Copy)]
-pub struct Operands {
-    pub slots: [OperandSlot; 4],
-    pub count: u8,
-}
+pub type Operands = Few<TypedOperand, 4>;
 
-#[derive(Clone, Copy)]
-pub struct Reads {
-    pub slots: [TargetSlot; 3],
-    pub count: u8,
-}
+pub type Reads = Few<EffectTarget, 3>;
 
-#[derive(Clone, Copy)]
-pub struct Writes {
-    pub slots: [TargetSlot; 2],
-    pub count: u8,
-}
+pub type Writes = Few<EffectTarget, 2>;
 
+// The fallback is a metamethod by its event's number in ltm.h, or 25 for `__metamethod`.
 #[derive(Clone, Copy)]
 pub struct SemanticInstruction {
     pub pc: usize,
@@ -108,9 +94,9 @@ pub struct SemanticInstruction {
     pub operands: Operands,
     pub reads: Reads,
     pub writes: Writes,
-    pub implicit_effect: ImplicitEffect,
-    pub metamethod_fallback: Fallback,
-    pub jump_target: OptionalPc,
-    pub companion_pc: OptionalPc,
+    pub implicit_effect: Option<ImplicitEffect>,
+    pub metamethod_fallback: Option<u8>,
+    pub jump_target: Option<usize>,
+    pub companion_pc: Option<usize>,
     pub confidence: Confidence,
 }

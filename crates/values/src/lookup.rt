@@ -3,12 +3,13 @@
 ghost use Rattle.std.specs.Prelude.{◌≡◌};
 ghost use Rattle.std.specs.Float.{binary64};
 ghost use Rattle.std.specs.Float.Ieee.{nan_bits};
-ghost use Rattle.values.specs.Values.{span_of, signed64, float_of, value_of, constant_of, name_of};
-ghost use Rattle.values.specs.declared.model.ConstantValue.TheVariants.{ShortString, LongString};
+ghost use Rattle.values.specs.Values.{span_of, span_number, float_of, value_of, constant_of, name_of};
 
-use crate::model::{ConstantValue, Name, Span};
+use crate::model::{ConstantValue, Span};
 
 // A constant's Lua tags.
+// Kept: numbers. C lends the tags as bytes, and what reads one asks at once which of these it is: an enum
+// would only be made by the same match and matched again.
 
 pub const TAG_NIL: u8 = 0;
 
@@ -27,37 +28,30 @@ pub const TAG_LONG_STRING: u8 = 20;
 // The payload of a name that is none.
 pub const UNNAMED: u64 = 18446744073709551615;
 
-fn span_at(payload: u64) -> Span
-    ensures { result ≡ span_of payload }
-{
-    Span {
-        start: (payload % 4294967296) as u32,
-        len: (payload / 4294967296) as u32,
+impl From<u64> for Span {
+    ghost from_gives = { λ payload span. span ≡ span_of payload };
+
+    fn from(payload: u64) -> Span {
+        Span {
+            start: (payload % 4294967296) as u32,
+            len: (payload / 4294967296) as u32,
+        }
     }
 }
 
-// The bits of a signed number. The language's cast takes only numbers that fit, so a negative one is the
-// complement of one that does.
-#[tactic(auto, using(crate::proofs::Laws::twice), unfolding(crate::specs::Values::signed64, common::specs::Chain::choose))]
-fn signed(payload: u64) -> i64
-    ensures { result ≡ signed64 payload }
-{
-    if payload < 9223372036854775808 {
-        payload as i64
-    } else {
-        let complement = (18446744073709551615 - payload) as i64;
-        !complement
+impl From<Span> for u64 {
+    ghost from_gives = { λ span payload. payload ≡ span_number span.start span.len };
+
+    fn from(span: Span) -> u64 {
+        u64::from(span.start) + 4294967296 * u64::from(span.len)
     }
 }
 
+// Kept: by its bits. The library's is_nan asks a float, and its from_bits makes none of such bits.
 fn is_nan(bits: u64) -> bool
     ensures { result ≡ nan_bits binary64 bits }
 {
-    if bits % 9223372036854775808 / 4503599627370496 == 2047 {
-        bits % 4503599627370496 != 0
-    } else {
-        false
-    }
+    bits % 9223372036854775808 / 4503599627370496 == 2047 && bits % 4503599627370496 != 0
 }
 
 #[tactic(auto, unfolding(crate::specs::Values::float_of, common::specs::Chain::choose))]
@@ -71,38 +65,17 @@ fn float(bits: u64) -> ConstantValue
     }
 }
 
-// A span is written into its constant number by number: copied in as a whole, it lies across the place of an
-// integer, and compiled code then waits for the store whenever it reads that place.
-
-fn short_string(payload: u64) -> ConstantValue
-    ensures { result ≡ ShortString (span_of payload) }
-{
-    ConstantValue::ShortString(Span {
-        start: (payload % 4294967296) as u32,
-        len: (payload / 4294967296) as u32,
-    })
-}
-
-fn long_string(payload: u64) -> ConstantValue
-    ensures { result ≡ LongString (span_of payload) }
-{
-    ConstantValue::LongString(Span {
-        start: (payload % 4294967296) as u32,
-        len: (payload / 4294967296) as u32,
-    })
-}
-
-#[tactic(auto, using(crate::proofs::Laws::kept), unfolding(crate::specs::Values::value_of, common::specs::Chain::choose))]
+#[tactic(auto, unfolding(crate::specs::Values::value_of, crate::specs::Values::signed64, common::specs::Chain::choose))]
 fn value(tag: u8, payload: u64) -> ConstantValue
     ensures { result ≡ value_of tag payload }
 {
     match tag {
         TAG_FALSE => ConstantValue::Boolean(false),
         TAG_TRUE => ConstantValue::Boolean(true),
-        TAG_INTEGER => ConstantValue::Integer(signed(payload)),
+        TAG_INTEGER => ConstantValue::Integer(payload.cast_signed()),
         TAG_FLOAT => float(payload),
-        TAG_SHORT_STRING => short_string(payload),
-        TAG_LONG_STRING => long_string(payload),
+        TAG_SHORT_STRING => ConstantValue::ShortString(Span::from(payload)),
+        TAG_LONG_STRING => ConstantValue::LongString(Span::from(payload)),
         _ => ConstantValue::Nil,
     }
 }
@@ -111,29 +84,19 @@ fn value(tag: u8, payload: u64) -> ConstantValue
 pub fn constant_at(tags: &[u8], payloads: &[u64], index: usize) -> ConstantValue
     ensures { result ≡ constant_of tags.now payloads.now index }
 {
-    if index < tags.len() {
-        if index < payloads.len() {
-            value(tags[index], payloads[index])
-        } else {
-            ConstantValue::Nil
-        }
-    } else {
-        ConstantValue::Nil
+    match (tags.get(index), payloads.get(index)) {
+        (Some(&tag), Some(&payload)) => value(tag, payload),
+        _ => ConstantValue::Nil,
     }
 }
 
 #[tactic(auto, unfolding(crate::specs::Values::name_of, common::specs::Chain::choose))]
-pub fn upvalue_name(names: &[u64], index: usize) -> Name
+pub fn upvalue_name(names: &[u64], index: usize) -> Option<Span>
     ensures { result ≡ name_of names.now index }
 {
-    if index < names.len() {
-        let payload = names[index];
-        if payload == UNNAMED {
-            Name::Unnamed
-        } else {
-            Name::Named(span_at(payload))
-        }
-    } else {
-        Name::Unnamed
-    }
+    names
+        .get(index)
+        .copied()
+        .filter(|&payload| payload != UNNAMED)
+        .map(Span::from)
 }

@@ -1,8 +1,6 @@
 // Spans that end past the bytes which they are of.
-ghost use Rattle.std.specs.Prelude.{◌≡◌, false, eqb};
-ghost use Rattle.common.specs.Chain.{choose};
-ghost use Rattle.values.specs.Values.{unnamed};
-ghost use Rattle.values.specs.Spans.{past, first_name_past};
+ghost use Rattle.std.specs.Prelude.{◌≡◌, position};
+ghost use Rattle.values.specs.Spans.{past, name_past};
 
 use crate::lookup::UNNAMED;
 
@@ -15,27 +13,16 @@ pub fn is_past(bytes: usize, payload: u64) -> bool
     bytes < end as usize
 }
 
-#[tactic(auto, unfolding(common::specs::Chain::choose))]
-fn is_name_past(payload: u64, bytes: usize) -> bool
-    ensures { result ≡ choose (eqb payload unnamed) false (past bytes payload) }
+#[tactic(auto, unfolding(crate::specs::Spans::name_past, common::specs::Chain::choose))]
+fn is_name_past(bytes: usize, payload: u64) -> bool
+    ensures { result ≡ name_past bytes payload }
 {
-    if payload == UNNAMED {
-        false
-    } else {
-        is_past(bytes, payload)
-    }
+    payload != UNNAMED && is_past(bytes, payload)
 }
 
-// Where a name ends past the bytes first; the number of names if none does.
-pub fn first_name_past(names: &[u64], bytes: usize) -> usize
-    ensures { result ≡ first_name_past names.now bytes }
+// Where a name ends past the bytes first.
+pub fn first_name_past(names: &[u64], bytes: usize) -> Option<usize>
+    ensures { result ≡ position (name_past bytes) names.now }
 {
-    let mut i: usize = 0;
-    while i < names.len() {
-        if is_name_past(names[i], bytes) {
-            return i;
-        }
-        i += 1;
-    }
-    i
+    names.iter().position(|&name| is_name_past(bytes, name))
 }

@@ -6,14 +6,22 @@
 
 mod lists;
 mod parts;
-mod tables;
 
-pub use parts::{is_open, line_at, number_of, part, which};
+pub use lists::Element;
+pub use parts::{is_open, list_of, number_of, part};
 use std::io::Stdin;
-pub use tables::{bytes, bytes_of, numbers_of, words, words_of};
 
-// What stands on standard input, as far as there is room.
-pub fn read(stdin: Stdin, page: &mut [u8]) -> usize {
+// Room for one word more than pass, and for their marks.
+pub const ROOM: usize = 32769;
+
+// Asks each line that stands on standard input, as far as there is room.
+pub fn ask_each<F: FnMut(&[u8])>(stdin: Stdin, mut ask: F)
+    requires { F.IsAlwaysCallable ask }
+{
     let mut source = stdin;
-    input::read_full(&mut source, page)
+    let mut page = io::large_buffer();
+    let n = input::read_full(&mut source, &mut page);
+    for line in page[..n].split(|&b| b == b'\n') {
+        ask(line);
+    }
 }

@@ -1,150 +1,92 @@
-// Lists of numbers, read into tables that are lent: how many there were room for.
-use pages::{byte_at, rest};
+// Lists of numbers, read into tables that are lent.
+ghost use Rattle.std.specs.Prelude.{◌≡◌, ℕ, ◌%◌};
 
-fn is_digit(b: u8) -> bool {
-    if b < b'0' { false } else { b <= b'9' }
+// What a table holds: of a number as many of its low bits as there is room for.
+pub trait Element: Copy {
+    ghost low: { ℕ → Self };
+
+    fn of(n: u64) -> Self
+        ensures { result ≡ low n };
 }
 
-// How many digits stand at the start.
-fn digits(text: &[u8]) -> usize {
-    for i in 0..text.len() {
-        if !is_digit(byte_at(text, i)) {
-            return i;
-        }
+impl Element for u8 {
+    ghost low = { λ n. n % 256 };
+
+    fn of(n: u64) -> u8 {
+        (n % 256) as u8
     }
-    text.len()
 }
 
-// A number with a digit more, modulo 2^64.
-fn with_digit(n: u64, digit: u8) -> u64 {
-    std::num::wrapping_add_u64(n % 1844674407370955162 * 10, (digit % 16) as u64)
+impl Element for u32 {
+    ghost low = { λ n. n % 4294967296 };
+
+    fn of(n: u64) -> u32 {
+        (n % 4294967296) as u32
+    }
 }
 
-// The number at the start, 0 where there is none.
+impl Element for u64 {
+    ghost low = { λ n. n };
+
+    fn of(n: u64) -> u64 {
+        n
+    }
+}
+
+// The number that the digits at the start show, modulo 2^64, 0 where there is none.
 pub fn number_at_start(text: &[u8]) -> u64 {
     let mut n: u64 = 0;
-    for i in 0..digits(text) {
-        n = with_digit(n, byte_at(text, i));
+    for &b in text {
+        if !b.is_ascii_digit() {
+            break;
+        }
+        n = n.wrapping_mul(10).wrapping_add(u64::from(b - b'0'));
     }
     n
 }
 
-// Whether an item begins at an index: a digit that neither a digit nor a star stands before.
-fn begins(list: &[u8], i: usize) -> bool {
-    if !is_digit(byte_at(list, i)) {
-        return false;
-    }
-    if i == 0 {
-        return true;
-    }
-    let before = byte_at(list, i - 1);
-    if before == b'*' {
-        false
-    } else {
-        !is_digit(before)
-    }
-}
-
 // A number, and how often it stands in the list.
-#[derive(Drop)]
+#[derive(Clone, Copy)]
 struct Item {
     times: u64,
     number: u64,
 }
 
-fn read_item(text: &[u8]) -> Item {
-    let tail = rest(text, digits(text));
-    let number = number_at_start(text);
-    if byte_at(tail, 0) == b'*' {
-        return Item {
-            times: number,
-            number: number_at_start(rest(tail, 1)),
-        };
-    }
-    Item { times: 1, number }
-}
-
-// The item that begins at an index; elsewhere none.
-fn item_at(list: &[u8], i: usize) -> Item {
-    if begins(list, i) {
-        return read_item(rest(list, i));
-    }
-    Item {
-        times: 0,
-        number: 0,
+// An item of a list: `70`, or `3*9` for 9 three times.
+fn item_of(text: &[u8]) -> Item {
+    let mut parts = text.split(|&b| b == b'*');
+    let first = number_at_start(parts.next().unwrap_or(b""));
+    match parts.next() {
+        Some(number) => Item {
+            times: first,
+            number: number_at_start(number),
+        },
+        None => Item {
+            times: 1,
+            number: first,
+        },
     }
 }
 
-// The index after one more element, as far as there is room.
-fn next(i: usize, len: usize) -> usize {
-    if i < len { i + 1 } else { i }
+// The items of a list stand a blank apart.
+fn is_apart(b: u8) -> bool {
+    !b.is_ascii_digit() && b != b'*'
 }
 
-fn set_word(out: &mut [u32], i: usize, word: u32) {
-    if i < out.len() {
-        out[i] = word;
-    }
-}
-
-fn put_words(out: &mut [u32], at: usize, it: Item) -> usize {
-    let mut k = at;
-    for _ in 0..it.times {
-        set_word(out, k, (it.number % 4294967296) as u32);
-        k = next(k, out.len());
-    }
-    k
-}
-
-pub fn fill_words(out: &mut [u32], list: &[u8]) -> usize {
-    let mut k: usize = 0;
-    for i in 0..list.len() {
-        k = put_words(out, k, item_at(list, i));
-    }
-    k
-}
-
-fn set_byte(out: &mut [u8], i: usize, byte: u8) {
-    if i < out.len() {
-        out[i] = byte;
-    }
-}
-
-fn put_bytes(out: &mut [u8], at: usize, it: Item) -> usize {
-    let mut k = at;
-    for _ in 0..it.times {
-        set_byte(out, k, (it.number % 256) as u8);
-        k = next(k, out.len());
-    }
-    k
-}
-
-pub fn fill_bytes(out: &mut [u8], list: &[u8]) -> usize {
-    let mut k: usize = 0;
-    for i in 0..list.len() {
-        k = put_bytes(out, k, item_at(list, i));
-    }
-    k
-}
-
-fn set_number(out: &mut [u64], i: usize, number: u64) {
-    if i < out.len() {
-        out[i] = number;
-    }
-}
-
-fn put_numbers(out: &mut [u64], at: usize, it: Item) -> usize {
-    let mut k = at;
-    for _ in 0..it.times {
-        set_number(out, k, it.number);
-        k = next(k, out.len());
-    }
-    k
-}
-
-pub fn fill_numbers(out: &mut [u64], list: &[u8]) -> usize {
-    let mut k: usize = 0;
-    for i in 0..list.len() {
-        k = put_numbers(out, k, item_at(list, i));
+// Fills a table with a list as far as there is room: how many elements there are.
+pub(crate) fn fill<T: Element>(table: &mut [T], list: &[u8]) -> usize {
+    let room = table.len();
+    let mut k = 0;
+    for text in list.split(|&b| is_apart(b)) {
+        if !text.is_empty() {
+            let item = item_of(text);
+            for _ in 0..item.times {
+                if k < room {
+                    table[k] = T::of(item.number);
+                    k += 1;
+                }
+            }
+        }
     }
     k
 }

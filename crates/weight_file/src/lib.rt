@@ -3,6 +3,5 @@
 #![tactic(auto)]
 
 mod lines;
-mod names;
 
-pub use lines::read_weights;
+pub use lines::{BadLine, read_weights};

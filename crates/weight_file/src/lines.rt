@@ -1,118 +1,48 @@
 // The lines of a weights file.
-ghost use Rattle.std.specs.Prelude.{◌≤◌};
 
-use crate::names::{NONE, opcode_named};
-use common::limits::HEAVIEST_WEIGHT;
-use pages::{before, byte_at, first, rest};
-use std::num::wrapping_add_usize;
+// A line that can't be read, by its number, from 1.
+#[derive(Clone, Copy, Debug, PartialEq, Eq)]
+pub struct BadLine(pub usize);
 
-#[derive(Drop)]
-pub enum Entry {
-    Nothing,
-    Weight(u8, u8),
-    Bad,
+// The names of the opcodes, as `luac -l` writes them, in the order of lopcodes.h's OpCode.
+const NAMES: &str =
+    "MOVE LOADI LOADF LOADK LOADKX LOADFALSE LFALSESKIP LOADTRUE LOADNIL GETUPVAL SETUPVAL \
+    GETTABUP GETTABLE GETI GETFIELD SETTABUP SETTABLE SETI SETFIELD NEWTABLE SELF ADDI ADDK SUBK MULK \
+    MODK POWK DIVK IDIVK BANDK BORK BXORK SHRI SHLI ADD SUB MUL MOD POW DIV IDIV BAND BOR BXOR SHL SHR \
+    MMBIN MMBINI MMBINK UNM BNOT NOT LEN CONCAT CLOSE TBC JMP EQ LT LE EQK EQI LTI LEI GTI GEI TEST \
+    TESTSET CALL TAILCALL RETURN RETURN0 RETURN1 FORLOOP FORPREP TFORPREP TFORCALL TFORLOOP SETLIST \
+    CLOSURE VARARG VARARGPREP EXTRAARG";
+
+fn opcode_named(name: &str) -> Option<usize> {
+    NAMES.split(' ').position(|known| known == name)
 }
 
-// A digit's value; of any other byte 1,000, which is more than any weight.
-fn digit(b: u8) -> u32
-    ensures { result ≤ 1000 }
-{
-    if b < b'0' {
-        return 1000;
+// A weight from 1 to 255, in one to three digits.
+fn weight(text: &str) -> Option<u8> {
+    if 3 < text.len() || text.starts_with('+') {
+        return None;
     }
-    if b'9' < b {
-        return 1000;
-    }
-    (b - b'0') as u32
+    text.parse::<u8>().ok().filter(|weight| *weight != 0)
 }
 
-// The number that one to three digits show; of any other text 1,000 or more.
-fn value(text: &[u8]) -> u32 {
-    if text.len() == 1 {
-        return digit(byte_at(text, 0));
-    }
-    if text.len() == 2 {
-        return 10 * digit(byte_at(text, 0)) + digit(byte_at(text, 1));
-    }
-    if text.len() == 3 {
-        return 100 * digit(byte_at(text, 0))
-            + 10 * digit(byte_at(text, 1))
-            + digit(byte_at(text, 2));
-    }
-    1000
+// A name, a blank and a weight: the opcode and what it weighs.
+fn entry(line: &[u8]) -> Option<(usize, u8)> {
+    let (name, text) = std::str::from_utf8(line).ok()?.split_once(' ')?;
+    Some((opcode_named(name)?, weight(text)?))
 }
 
-// A weight from 1 to 255 for a known opcode.
-fn weighed(opcode: u8, weight: u32) -> Entry {
-    if opcode == NONE {
-        return Entry::Bad;
-    }
-    if weight == 0 {
-        return Entry::Bad;
-    }
-    if HEAVIEST_WEIGHT < weight as usize {
-        return Entry::Bad;
-    }
-    Entry::Weight(opcode, weight as u8)
-}
-
-// A line without its end: a name, a blank and a weight; or nothing.
-fn entry_of(line: &[u8]) -> Entry {
-    if line.len() == 0 {
-        return Entry::Nothing;
-    }
-    let n = before(line, b' ');
-    weighed(opcode_named(first(line, n)), value(rest(rest(line, n), 1)))
-}
-
-// A line that ends by a carriage return and a newline, too, has none of the two.
-fn trimmed(line: &[u8]) -> &[u8] {
-    let n = before(line, b'\r');
-    if byte_at(line, n) == b'\r' {
-        if rest(rest(line, n), 1).len() == 0 {
-            return first(line, n);
+// Stores the weights that the lines of a file give, of which an empty one gives none. A line may end by a
+// carriage return, too.
+pub fn read_weights(bytes: &[u8], weights: &mut [u8]) -> Result<(), BadLine> {
+    for (i, whole) in bytes.split(|b| *b == b'\n').enumerate() {
+        let line = whole.strip_suffix(b"\r").unwrap_or(whole);
+        if line.is_empty() {
+            continue;
+        }
+        let (opcode, weight) = entry(line).ok_or(BadLine(i.saturating_add(1)))?;
+        if let Some(place) = weights.get_mut(opcode) {
+            *place = weight;
         }
     }
-    line
-}
-
-fn store(weights: &mut [u8], opcode: u8, weight: u8) {
-    let k = opcode as usize;
-    if k < weights.len() {
-        weights[k] = weight;
-    }
-}
-
-// Stores what a line says. Whether it can be read.
-fn take(line: &[u8], weights: &mut [u8]) -> bool {
-    let e = entry_of(trimmed(line));
-    match e {
-        Entry::Nothing => {
-            return true;
-        }
-        Entry::Bad => {
-            return false;
-        }
-        Entry::Weight(opcode, weight) => {
-            store(weights, opcode, weight);
-            return true;
-        }
-    }
-}
-
-// Stores the weights that the lines of a file give. The number of the first line that can't be read, from 1;
-// 0 where all can. There are no more lines than bytes.
-pub fn read_weights(bytes: &[u8], weights: &mut [u8]) -> usize {
-    let mut at = 0;
-    for line in 0..bytes.len() {
-        if bytes.len() <= at {
-            return 0;
-        }
-        let n = before(rest(bytes, at), b'\n');
-        if !take(first(rest(bytes, at), n), weights) {
-            return line + 1;
-        }
-        at = wrapping_add_usize(wrapping_add_usize(at, n), 1);
-    }
-    0
+    Ok(())
 }

@@ -7,8 +7,10 @@ use native.Mathlib.Omega.{arith}
 use lib.Dec.{ltb, eqb}
 use lib.ListN.{get_or}
 use borrow.Author.Tests.{eqb-false}
+use Rattle.std.specs.Prelude.{Ok, Err}
+use Rattle.common.specs.declared.refusal.Refusal.TheVariants.{TooManyWords, ShortSlice, NoWords, ReachesInvalid, WeightsRefused}
 use Rattle.common.specs.Limits.{most_words}
-use Rattle.common.specs.Numbers.{«ACCEPTED», TOO_MANY_WORDS, SHORT_SLICE, NO_WORDS, REACHES_INVALID, WEIGHTS_REFUSED}
+use Rattle.common.specs.Numbers.{«ACCEPTED»}
 use Rattle.common.specs.Chain.{refuse_if}
 use Rattle.common.specs.Lists.{over}
 use Rattle.common.proofs.Over.{over_laws}
@@ -18,10 +20,9 @@ use Rattle.graph.specs.Longest.{length_of, longest, first}
 use Rattle.graph.specs.Meaning.{Meaning}
 use Rattle.graph.proofs.Meaning.{meaning}
 use Rattle.graph.proofs.Laws as graph
-use Rattle.runs.specs.declared.longest.Run.{Run}
 use Rattle.runs.specs.Script.{Script, Sound, graph_of, weight_of}
 use Rattle.runs.specs.Weights.{refuses_weights, weights_place}
-use Rattle.runs.specs.Run.{run_of, number_of, longest_of, first_of, number_is, lowest_invalid, lengths_after}
+use Rattle.runs.specs.Run.{Run, accepted_run, run_of, number_of, longest_of, first_of, number_is, lowest_invalid, lengths_after}
 use Rattle.runs.proofs.Laws.{laws}
 use Rattle.witness.specs.Following.{follow}
 use Rattle.witness.specs.Witness.{path_of}
@@ -29,27 +30,27 @@ use Rattle.witness.specs.Walking.{walked_by}
 use Rattle.witness.proofs.Following.{follow_same}
 
 abbrev pub is_accepted : Run → Bool
-is_accepted (Run.Accepted l f) = true
-is_accepted (Run.Refused k p) = false
+is_accepted (Ok r) = true
+is_accepted (Err k) = false
 
-module _ (ws : Script) (sound : Sound ws) (weights : List ℕ) (a b l f : ℕ) (e : run_of ws weights a b ≡ Run.Accepted l f) where
+module _ (ws : Script) (sound : Sound ws) (weights : List ℕ) (a b l f : ℕ) (e : run_of ws weights a b ≡ accepted_run l f) where
   abbrev L : Run
-  L = Run.Accepted (longest (graph_of ws) (weight_of ws weights)) (first (graph_of ws) (weight_of ws weights))
+  L = accepted_run (longest (graph_of ws) (weight_of ws weights)) (first (graph_of ws) (weight_of ws weights))
 
   -- no check refused
-  answer : (eqb ws.size 0 ≡ false) × (L ≡ Run.Accepted l f)
+  answer : (eqb ws.size 0 ≡ false) × (L ≡ accepted_run l f)
   unfolding run_of
   answer =
       go (ltb most_words ws.size) (ltb a ws.size || ltb b ws.size) (refuses_weights weights)
       (eqb ws.size 0) (ltb (lowest_invalid ws) ws.size) refl e
     where
       go : (s t u v x : Bool) → eqb ws.size 0 ≡ v
-          → refuse_if s (Run.Refused TOO_MANY_WORDS 0) (refuse_if t (Run.Refused SHORT_SLICE 0)
-          (refuse_if u (Run.Refused WEIGHTS_REFUSED (weights_place weights))
-          (refuse_if v (Run.Refused NO_WORDS 0)
-          (refuse_if x (Run.Refused REACHES_INVALID (lowest_invalid ws)) L))))
-          ≡ Run.Accepted l f
-          → (eqb ws.size 0 ≡ false) × (L ≡ Run.Accepted l f)
+          → refuse_if s (Err TooManyWords) (refuse_if t (Err ShortSlice)
+          (refuse_if u (Err (WeightsRefused (weights_place weights)))
+          (refuse_if v (Err NoWords)
+          (refuse_if x (Err (ReachesInvalid (lowest_invalid ws))) L))))
+          ≡ accepted_run l f
+          → (eqb ws.size 0 ≡ false) × (L ≡ accepted_run l f)
       go true t u v x h d = absurd (false≢true (ap is_accepted d))
       go false true u v x h d = absurd (false≢true (ap is_accepted d))
       go false false true v x h d = absurd (false≢true (ap is_accepted d))

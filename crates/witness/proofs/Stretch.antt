@@ -9,6 +9,8 @@ use lib.Dec.{ltb}
 use lib.ListN.{length, take, drop}
 use lib.Seq.{take_at, drop_at}
 use borrow.Author.Tests.{lt-ltb, le-ltb}
+use Rattle.std.specs.Prelude.{Err}
+use Rattle.common.specs.declared.refusal.Refusal.{Refusal}
 use Rattle.common.specs.Limits.{most_words}
 use Rattle.common.specs.Chain.{refuse_if}
 use Rattle.common.proofs.Order.{split}
@@ -16,13 +18,11 @@ use Rattle.graph.specs.Graph.{Lawful}
 use Rattle.graph.specs.Longest.{length_of, first}
 use Rattle.sweep.specs.declared.edges.Successors.{Successors}
 use Rattle.sweep.specs.declared.edges.Successors.TheVariants.{Invalid, Stop, One, Two}
-use Rattle.runs.specs.declared.longest.Run.{Run}
 use Rattle.sweep.specs.Steps.{list_of, Below}
 use Rattle.runs.specs.Script.{Script, Sound, script_of, graph_of, weight_of}
-use Rattle.runs.specs.Run.{run_of, number_of, marks_after, lengths_after}
+use Rattle.runs.specs.Run.{Run, accepted_run, run_of, number_of, marks_after, lengths_after}
 use Rattle.runs.proofs.Laws.{laws}
 use Rattle.witness.specs.Following.{follow}
-use Rattle.witness.specs.declared.longest.PathRun.TheVariants as PathRun
 use Rattle.witness.specs.Witness.{path_of, path_answer_by, path_run_of, marks_witnessed, lengths_witnessed, path_witnessed}
 use Rattle.witness.specs.Stretch.{FollowsLengths, LongestStretch, Witnessed, LongestPath, Paths}
 use Rattle.witness.proofs.Following.{Ascending, follow_few, rest_of, follows, segment_of, weighs}
@@ -39,7 +39,7 @@ ascending n (Two a c) b = (λ r i. ⊎_elim (λ e. above r e) (λ j. absurd j) i
     above : (r : ℕ) → r ≡ c → a < r
     above r e = omega (arith, b.0)
 
-module _ (ws : Script) (sound : Sound ws) (weights : List ℕ) (a b l f : ℕ) (e : run_of ws weights a b ≡ Run.Accepted l f) where
+module _ (ws : Script) (sound : Sound ws) (weights : List ℕ) (a b l f : ℕ) (e : run_of ws weights a b ≡ accepted_run l f) where
   abbrev lengths : ℕ → ℕ
   lengths = length_of (graph_of ws) (weight_of ws weights)
 
@@ -94,7 +94,7 @@ module _ (ws : Script) (sound : Sound ws) (weights m l path : List ℕ) where
   by_count : {X : Type 0} → (most_words < ws.size → X) → (ws.size ≤ most_words → X) → X
   by_count many few = ⊎_elim few many (split ws.size most_words)
 
-  witnessed : ws.size ≤ length path → (x f : ℕ) → run_of ws weights (length m) (length l) ≡ Run.Accepted x f → Witnessed ws weights m l path x f
+  witnessed : ws.size ≤ length path → (x f : ℕ) → run_of ws weights (length m) (length l) ≡ accepted_run x f → Witnessed ws weights m l path x f
   witnessed long x f e =
       let few = (laws.enough ws weights (length m) (length l) (ap number_of e)).few in
       let o = path_accepted ws weights m l path few long refl e refl refl refl refl in
@@ -106,17 +106,17 @@ module _ (ws : Script) (sound : Sound ws) (weights m l path : List ℕ) where
         past = ap (drop (length p)) (sym o.1.1.1) ∙ drop_at p (drop (length p) path) (length p) refl;
       }
 
-  untouched : (n p : ℕ) → run_of ws weights (length m) (length l) ≡ Run.Refused n p → path_witnessed ws weights m l path ≡ path
+  untouched : (n : Refusal) → run_of ws weights (length m) (length l) ≡ Err n → path_witnessed ws weights m l path ≡ path
   unfolding path_witnessed
-  untouched n p e = rw e (either (ltb (length path) ws.size))
+  untouched n e = rw e (either (ltb (length path) ws.size))
     where
       either : (t : Bool) → refuse_if t path path ≡ path
       either true = refl
       either false = refl
 
-  as_run : (n p : ℕ) → run_of ws weights (length m) (length l) ≡ Run.Refused n p → most_words < ws.size
-      → path_run_of ws weights (length m) (length l) (length path) ≡ PathRun.Refused n p
-  as_run n p e h =
+  as_run : (n : Refusal) → run_of ws weights (length m) (length l) ≡ Err n → most_words < ws.size
+      → path_run_of ws weights (length m) (length l) (length path) ≡ Err n
+  as_run n e h =
       sym (path_many ws weights m l path h).0
       ∙ ap (λ (r : Run). path_answer_by r []) (sym (run_many ws weights (length m) (length l) h) ∙ e)
 
@@ -130,7 +130,7 @@ module _ (ws : Script) (sound : Sound ws) (weights m l path : List ℕ) where
   path_is =
       record {
         accepted = witnessed;
-        refused = λ long n p e. by_count (λ h. as_run n p e h) (λ few. sym (path_refused ws weights m l path few long refl e refl refl).0);
+        refused = λ long n e. by_count (λ h. as_run n e h) (λ few. sym (path_refused ws weights m l path few long refl e refl refl).0);
         many = λ h. sym (path_many ws weights m l path h).0;
         short = λ few h. sym (path_short ws weights m l path few h).0;
         marks_as_run = marks_run;

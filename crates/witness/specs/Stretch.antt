@@ -2,17 +2,17 @@
 -- proofs/Stretch.antt proves it of `path_of`, `path_run_of` and the slices, which the contract cites, for any
 -- words, weights and slices.
 -- Assumes nothing.
-use Rattle.std.specs.Prelude.{◌≡◌, true, false, List, [], ◌∷◌, ℕ, ◌≤◌, ◌<◌, length, take, drop}
+use Rattle.std.specs.Prelude.{◌≡◌, true, false, Err, List, [], ◌∷◌, ℕ, ◌≤◌, ◌<◌, length, take, drop}
 use Rattle.common.specs.Limits.{most_words}
-use Rattle.common.specs.Numbers.{TOO_MANY_WORDS, SHORT_SLICE}
+use Rattle.common.specs.declared.refusal.Refusal.{Refusal}
+use Rattle.common.specs.declared.refusal.Refusal.TheVariants.{TooManyWords, ShortSlice}
 use Rattle.graph.specs.Graph.{Graph, In, Segment, weigh}
 use Rattle.graph.specs.Longest.{length_of}
 use Rattle.fields.specs.declared.version.Version.{Version}
-use Rattle.runs.specs.declared.longest.Run.TheVariants as Run
 use Rattle.runs.specs.Script.{Script, Sound, script_of, graph_of, weight_of}
-use Rattle.runs.specs.Run.{run_of, marks_after, lengths_after}
-use Rattle.witness.specs.declared.longest.PathRun.TheVariants as PathRun
-use Rattle.witness.specs.Witness.{path_of, path_run_of, marks_witnessed, lengths_witnessed, path_witnessed}
+use Rattle.runs.specs.Run.{accepted_run, run_of, marks_after, lengths_after}
+use Rattle.witness.specs.Witness.{accepted_path, path_of, path_run_of, marks_witnessed, lengths_witnessed}
+use Rattle.witness.specs.Witness.{path_witnessed}
 
 -- of a list, q is one to which the edge from p does not serve, with the greatest f of
 -- those, and the lowest with it
@@ -47,7 +47,7 @@ module _ (ws : Script) (weights marks lengths path : List ℕ) where
   pub record Witnessed (longest first : ℕ) : Type 0 where
     pub answered :
         path_run_of ws weights (length marks) (length lengths) (length path)
-        ≡ PathRun.Accepted longest first (length (path_of ws weights))
+        ≡ accepted_path longest first (length (path_of ws weights))
     pub words : LongestStretch ws weights longest first (path_of ws weights)
     -- what is written, and "Elements past the count untouched"
     pub written : take (length (path_of ws weights)) after ≡ path_of ws weights
@@ -56,27 +56,27 @@ module _ (ws : Script) (weights marks lengths path : List ℕ) where
   pub record LongestPath : Type 0 where
     pub accepted :
         ws.size ≤ length path → (longest first : ℕ)
-        → run_of ws weights (length marks) (length lengths) ≡ Run.Accepted longest first
+        → run_of ws weights (length marks) (length lengths) ≡ accepted_run longest first
         → Witnessed longest first
     -- the run's refusals
     pub refused :
-        ws.size ≤ length path → (number place : ℕ)
-        → run_of ws weights (length marks) (length lengths) ≡ Run.Refused number place
-        → path_run_of ws weights (length marks) (length lengths) (length path) ≡ PathRun.Refused number place
+        ws.size ≤ length path → (e : Refusal)
+        → run_of ws weights (length marks) (length lengths) ≡ Err e
+        → path_run_of ws weights (length marks) (length lengths) (length path) ≡ Err e
     -- number 6 covers the path: after number 1, and before the others
     pub many : most_words < ws.size → path_run_of ws weights (length marks) (length lengths) (length path)
-        ≡ PathRun.Refused TOO_MANY_WORDS 0
+        ≡ Err TooManyWords
     pub short :
         ws.size ≤ most_words → length path < ws.size
-        → path_run_of ws weights (length marks) (length lengths) (length path) ≡ PathRun.Refused SHORT_SLICE 0
+        → path_run_of ws weights (length marks) (length lengths) (length path) ≡ Err ShortSlice
     -- the marks and the lengths are as the run leaves them
     pub marks_as_run : ws.size ≤ length path
         → marks_witnessed ws weights marks lengths path ≡ marks_after ws weights marks lengths
     pub lengths_as_run : ws.size ≤ length path
         → lengths_witnessed ws weights marks lengths path ≡ lengths_after ws weights marks lengths
     -- "Nothing lent is altered": the path on a refusal, and the other two where it is short
-    pub path_untouched : (number place : ℕ)
-        → run_of ws weights (length marks) (length lengths) ≡ Run.Refused number place → after ≡ path
+    pub path_untouched : (e : Refusal)
+        → run_of ws weights (length marks) (length lengths) ≡ Err e → after ≡ path
     pub short_untouched :
         length path < ws.size
         → (after ≡ path) × (marks_witnessed ws weights marks lengths path ≡ marks)

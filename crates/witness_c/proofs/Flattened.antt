@@ -7,7 +7,7 @@ pub flattened : Flattened
 flattened =
     record {
       accepted = λ l f c. (refl, (refl, (refl, (refl, refl))));
-      refused = λ k p. (refl, (refl, (refl, (refl, refl))));
+      refused = λ e. (refl, (refl, (refl, (refl, refl))));
       of_run = λ l f path. (refl, (refl, (refl, (refl, refl))));
-      of_refusal = λ k p path. (refl, (refl, (refl, (refl, refl))));
+      of_refusal = λ e path. (refl, (refl, (refl, (refl, refl))));
     }

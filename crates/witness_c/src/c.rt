@@ -6,7 +6,9 @@ ghost use Rattle.runs.specs.Script.{script_of, lua54};
 ghost use Rattle.witness.specs.Witness.{path_run_of, marks_witnessed, lengths_witnessed, path_witnessed};
 ghost use Rattle.witness_c.specs.Flat.{flat_path};
 
-use witness::{PathRun, longest_path, longest_path_53};
+use common::Refusal;
+use fields::version::Version;
+use witness::{PathRun, longest_path};
 
 #[repr(C)]
 #[derive(Drop)]
@@ -18,28 +20,26 @@ pub struct FlatPath {
     pub count: u64,
 }
 
-pub fn flat_path(run: PathRun) -> FlatPath
-    ensures { result ≡ flat_path run }
-{
-    match run {
-        PathRun::Accepted {
-            longest,
-            first,
-            count,
-        } => FlatPath {
-            number: 0,
-            place: 0,
-            longest: longest as u64,
-            first: first as u64,
-            count: count as u64,
-        },
-        PathRun::Refused { number, place } => FlatPath {
-            number: number as u64,
-            place: place as u64,
-            longest: 0,
-            first: 0,
-            count: 0,
-        },
+impl From<Result<PathRun, Refusal>> for FlatPath {
+    ghost from_gives = { λ answer flat. flat ≡ flat_path answer };
+
+    fn from(answer: Result<PathRun, Refusal>) -> FlatPath {
+        match answer {
+            Ok(PathRun { run, count }) => FlatPath {
+                number: 0,
+                place: 0,
+                longest: u64::from(run.longest),
+                first: run.first as u64,
+                count: count as u64,
+            },
+            Err(refusal) => FlatPath {
+                number: u64::from(refusal.number()),
+                place: refusal.place() as u64,
+                longest: 0,
+                first: 0,
+                count: 0,
+            },
+        }
     }
 }
 
@@ -60,7 +60,7 @@ pub extern "C" fn lawendeb_longest_path(
     ensures path_after { path.new ≡ path_witnessed (lua54 words.now) weights.now
         marks.old lengths.old path.old }
 {
-    flat_path(longest_path(words, weights, marks, lengths, path))
+    FlatPath::from(longest_path(Version::Lua54, words, weights, marks, lengths, path))
 }
 
 #[unsafe(no_mangle)]
@@ -80,5 +80,5 @@ pub extern "C" fn lawendeb_longest_path_53(
     ensures path_after { path.new ≡ path_witnessed (script_of Lua53 words.now) weights.now
         marks.old lengths.old path.old }
 {
-    flat_path(longest_path_53(words, weights, marks, lengths, path))
+    FlatPath::from(longest_path(Version::Lua53, words, weights, marks, lengths, path))
 }

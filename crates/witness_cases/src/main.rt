@@ -2,101 +2,55 @@
 // is printed is held to the stored output.
 #![tactic(auto)]
 
-use print_cases::{end, number, numbers, text};
+use common::Refusal;
+use fields::version::Version;
+use print_cases::{end, number, numbers, refusal, text};
 use std::io::Stdout;
-use vectors::{bytes_of, words_of};
-use witness::{PathRun, longest_path, longest_path_53};
+use vectors::{list_of, part};
+use witness::{PathRun, longest_path};
 
-fn answer(out: Stdout, r: PathRun) {
+fn answer(out: Stdout, r: Result<PathRun, Refusal>) {
     match r {
-        PathRun::Accepted {
-            longest,
-            first,
-            count,
-        } => {
+        Ok(PathRun { run, count }) => {
             text(out, b" accepted");
-            number(out, longest as u64);
-            number(out, first as u64);
+            number(out, run.longest);
+            number(out, run.first as u64);
             number(out, count as u64);
         }
-        PathRun::Refused { number: n, place } => {
-            text(out, b" refused");
-            number(out, n as u64);
-            number(out, place as u64);
+        Err(e) => refusal(out, e),
+    }
+}
+
+// words | weights | marks | lengths | path, by the version that the name says
+fn ask(out: Stdout, line: &[u8]) {
+    let version = match part(line, 0) {
+        b"path" => Version::Lua54,
+        b"path_53" => Version::Lua53,
+        _ => {
+            return;
         }
-    }
-}
-
-// Of words of 5.4, or of 5.3.
-fn asked(
-    older: bool,
-    words: &[u32],
-    weights: &[u8],
-    marks: &mut [u8],
-    lengths: &mut [u32],
-    path: &mut [u32],
-) -> PathRun {
-    if older {
-        return longest_path_53(words, weights, marks, lengths, path);
-    }
-    longest_path(words, weights, marks, lengths, path)
-}
-
-fn path_lent(
-    out: Stdout,
-    older: bool,
-    words: &mut [u32],
-    weights: &mut [u8],
-    marks: &mut [u8],
-    lengths: &mut [u32],
-    path: &mut [u32],
-) {
-    answer(out, asked(older, words, weights, marks, lengths, path));
-    text(out, b" path");
-    numbers(out, path);
-    end(out);
-}
-
-// words | weights | marks | lengths | path
-fn show(out: Stdout, older: bool, line: &[u8]) {
+    };
     let mut words = [0u32; 8];
     let mut weights = [0u8; 128];
     let mut marks = [0u8; 8];
     let mut lengths = [0u32; 8];
     let mut path = [0u32; 8];
-    text(out, vectors::part(line, 1));
-    path_lent(
+    let words = list_of(&mut words, line, 2);
+    let weights = list_of(&mut weights, line, 3);
+    let marks = list_of(&mut marks, line, 4);
+    let lengths = list_of(&mut lengths, line, 5);
+    let path = list_of(&mut path, line, 6);
+    text(out, part(line, 1));
+    answer(
         out,
-        older,
-        words_of(&mut words, line, 2),
-        bytes_of(&mut weights, line, 3),
-        bytes_of(&mut marks, line, 4),
-        words_of(&mut lengths, line, 5),
-        words_of(&mut path, line, 6),
+        longest_path(version, words, weights, marks, lengths, path),
     );
-}
-
-// By the version that the name says.
-fn ask(out: Stdout, line: &[u8]) {
-    match vectors::which(line, b"path|path_53") {
-        0 => {
-            show(out, false, line);
-        }
-        1 => {
-            show(out, true, line);
-        }
-        _ => {}
-    }
-}
-
-fn ask_all(out: Stdout, text: &[u8]) {
-    for i in 0..text.len() {
-        ask(out, vectors::line_at(text, i));
-    }
+    text(out, b" path");
+    numbers(out, path);
+    end(out);
 }
 
 fn main(rt: HostRuntime) {
-    let mut page = io::large_buffer();
-    let n = vectors::read(rt.stdin(), &mut page);
-    ask_all(rt.stdout(), pages::first(&page, n));
+    let out = rt.stdout();
+    vectors::ask_each(rt.stdin(), |line| ask(out, line));
 }

@@ -4,5 +4,5 @@
 mod refusing;
 mod showing;
 
-pub use refusing::{put_number, put_reason, put_refusal, put_why};
-pub use showing::{NO_LIMIT, has_line, is_marked, place_of, put_name, unmarked};
+pub use refusing::{Number, Reason, Refused, Why};
+pub use showing::{Place, name_in, put_name};

@@ -1,52 +1,50 @@
 // Refusals in words, with document 01's number behind them.
-use common::numbers::*;
-use headers::Why;
-use pages::{PageState, byte_at, either, fill, put};
-
-// 15, by `index::ends_early`.
-fn put_malformed(page: &mut [u8], s: PageState, is_cut: bool) -> PageState {
-    let text = either(
-        is_cut,
-        b"damaged: the bytes end early",
-        b"damaged, or a function of more than 32,768 words or 65,536 constants",
-    );
-    put(page, s, text)
-}
+use common::Refusal;
+use std::fmt;
+use std::fmt::{Display, Formatter};
 
 // Why a function is refused, and a file where the header is right and the number is not 15.
-pub fn put_reason(page: &mut [u8], s: PageState, refusal: u64) -> PageState {
-    let a = either(
-        refusal == TOO_MANY_WORDS as u64,
-        b"more than 32,768 words",
-        b"damaged",
-    );
-    let b = either(
-        refusal == UNKNOWN_TAG as u64,
-        b"damaged: a constant of no known kind",
-        a,
-    );
-    let c = either(
-        refusal == SHORT_SLICE as u64,
-        b"more than 131,072 functions",
-        b,
-    );
-    let d = either(refusal == NO_WORDS as u64, b"no words", c);
-    let e = either(
-        refusal == REACHES_INVALID as u64,
-        b"control can reach a word that can't be trusted",
-        d,
-    );
-    let f = either(
-        refusal == TOO_DEEP as u64,
-        b"functions within functions, more than 32 levels",
-        e,
-    );
-    let g = either(
-        refusal == UNSET_REGISTER as u64,
-        b"a way reads a register that nothing has set",
-        f,
-    );
-    put(page, s, g)
+#[derive(Drop)]
+pub struct Reason(pub Refusal);
+
+impl Display for Reason {
+    fn fmt<W: fmt::Write>(&self, f: &mut Formatter<W>) -> fmt::Result {
+        f.write_str(match self.0 {
+            Refusal::UnsetRegister(_) => "a way reads a register that nothing has set",
+            Refusal::TooDeep => "functions within functions, more than 32 levels",
+            Refusal::ReachesInvalid(_) => "control can reach a word that can't be trusted",
+            Refusal::NoWords => "no words",
+            Refusal::ShortSlice => "more than 131,072 functions",
+            Refusal::UnknownTag(_) => "damaged: a constant of no known kind",
+            Refusal::TooManyWords => "more than 32,768 words",
+            _ => "damaged",
+        })
+    }
+}
+
+// The number of a refusal, and its place where it has one that is told.
+#[derive(Drop)]
+pub struct Number(pub Refusal);
+
+impl Display for Number {
+    fn fmt<W: fmt::Write>(&self, f: &mut Formatter<W>) -> fmt::Result {
+        let number = self.0.number();
+        match self.0 {
+            Refusal::UnknownTag(place) => write!(f, " ({number}, constant {place})"),
+            Refusal::ReachesInvalid(place) | Refusal::UnsetRegister(place) => {
+                write!(f, " ({number}, word {place})")
+            }
+            _ => write!(f, " ({number})"),
+        }
+    }
+}
+
+// A file that is refused: its bytes, why, and whether they end early, as `index::ends_early` says.
+#[derive(Clone, Copy)]
+pub struct Refused<'a> {
+    pub bytes: &'a [u8],
+    pub refusal: Refusal,
+    pub is_cut: bool,
 }
 
 // Where a header has the sizes of an integer and of a number.
@@ -54,60 +52,37 @@ const INTEGER: usize = 13;
 
 const NUMBER: usize = 14;
 
-// Whether a header is that of a Lua with LUA_32BITS.
-fn is_small(bytes: &[u8]) -> bool {
-    if byte_at(bytes, INTEGER) == 4 {
-        return true;
+impl Refused<'_> {
+    // Whether the header is that of a Lua with LUA_32BITS.
+    fn is_small(self) -> bool {
+        self.bytes.get(INTEGER) == Some(&4) || self.bytes.get(NUMBER) == Some(&4)
     }
-    byte_at(bytes, NUMBER) == 4
-}
-
-// A header of 5.4 that is not the one read here.
-fn put_other(page: &mut [u8], s: PageState, bytes: &[u8]) -> PageState {
-    let text = either(
-        is_small(bytes),
-        b"of a Lua with 32-bit numbers",
-        b"damaged, or of a Lua with other numbers: its first bytes differ",
-    );
-    put(page, s, text)
-}
-
-// A file whose header is right.
-fn put_damaged(page: &mut [u8], s: PageState, refusal: u64, is_cut: bool) -> PageState {
-    if refusal == MALFORMED_CHUNK as u64 {
-        return put_malformed(page, s, is_cut);
-    }
-    put_reason(page, s, refusal)
 }
 
 // Why a file is refused.
-pub fn put_why(
-    page: &mut [u8],
-    s: PageState,
-    bytes: &[u8],
-    refusal: u64,
-    is_cut: bool,
-) -> PageState {
-    let why = headers::why_refused(bytes);
-    match why {
-        Why::NotLua => put(page, s, b"not a compiled Lua script"),
-        Why::Lua53 => put(page, s, b"of Lua 5.3: this reads 5.4"),
-        Why::OtherVersion => put(page, s, b"of another Lua: this reads 5.4"),
-        Why::OtherNumbers => put_other(page, s, bytes),
-        Why::Damaged => put_damaged(page, s, refusal, is_cut),
+#[derive(Drop)]
+pub struct Why<'a>(pub Refused<'a>);
+
+impl Display for Why<'_> {
+    fn fmt<W: fmt::Write>(&self, f: &mut Formatter<W>) -> fmt::Result {
+        let refused = self.0;
+        match (headers::why_refused(refused.bytes), refused.refusal) {
+            (headers::Why::NotLua, _) => f.write_str("not a compiled Lua script"),
+            (headers::Why::Lua53, _) => f.write_str("of Lua 5.3: this reads 5.4"),
+            (headers::Why::OtherVersion, _) => f.write_str("of another Lua: this reads 5.4"),
+            (headers::Why::OtherNumbers, _) if refused.is_small() => {
+                f.write_str("of a Lua with 32-bit numbers")
+            }
+            (headers::Why::OtherNumbers, _) => {
+                f.write_str("damaged, or of a Lua with other numbers: its first bytes differ")
+            }
+            (headers::Why::Damaged, Refusal::MalformedChunk) if refused.is_cut => {
+                f.write_str("damaged: the bytes end early")
+            }
+            (headers::Why::Damaged, Refusal::MalformedChunk) => f.write_str(
+                "damaged, or a function of more than 32,768 words or 65,536 constants",
+            ),
+            (headers::Why::Damaged, refusal) => write!(f, "{}", Reason(refusal)),
+        }
     }
-}
-
-// The number of a refusal, and its place where it has one.
-pub fn put_number(page: &mut [u8], s: PageState, refusal: u64, place: u64) -> PageState {
-    let a = either(refusal == UNKNOWN_TAG as u64, b" (#, constant #)", b" (#)");
-    let b = either(refusal == REACHES_INVALID as u64, b" (#, word #)", a);
-    let c = either(refusal == UNSET_REGISTER as u64, b" (#, word #)", b);
-    fill(page, s, c, [refusal, place, 0, 0])
-}
-
-// Why a function is refused.
-pub fn put_refusal(page: &mut [u8], s: PageState, refusal: u64, place: u64) -> PageState {
-    let a = put_reason(page, s, refusal);
-    put_number(page, a, refusal, place)
 }

@@ -1,53 +1,45 @@
 // Names and places in a line of text.
-use pages::{PageState, byte_at, put, rest, word_at};
-
-// Without a limit none is above it.
-pub const NO_LIMIT: u64 = 18446744073709551615;
+use found::Run;
+use pages::Page;
+use std::fmt;
+use std::fmt::{Display, Formatter};
 
 // A byte of a name. One that would not show, or would do something to a terminal, is a question mark.
 fn shown(b: u8) -> u8 {
-    if b < 32 {
-        return b'?';
+    match b {
+        0..=31 | 127 => b'?',
+        _ => b,
     }
-    if b == 127 {
-        return b'?';
-    }
-    b
 }
 
 // A name, byte by byte.
-pub fn put_name(page: &mut [u8], s: PageState, name: &[u8]) -> PageState {
-    let mut t = s;
-    for i in 0..name.len() {
-        t = put(page, t, &[shown(byte_at(name, i))]);
+// Kept: (a) its bytes need not be UTF-8, and go out as they are: a Display writes text alone.
+pub fn put_name(page: &mut Page, name: &[u8]) -> fmt::Result {
+    for b in name {
+        page.put(&[shown(*b)])?;
     }
-    t
+    Ok(())
 }
 
-// A file's name is marked by an @ before it, a name of the host's by =. Any other source
-// is the script's own text.
-pub fn is_marked(source: &[u8]) -> bool {
-    if byte_at(source, 0) == b'@' {
-        return true;
+// The name in a source: a file's is marked by an @ before it, a name of the host's by =. Any other source is
+// the script's own text.
+pub fn name_in(source: &[u8]) -> Option<&[u8]> {
+    match source {
+        [b'@' | b'=', name @ ..] => Some(name),
+        _ => None,
     }
-    byte_at(source, 0) == b'='
 }
 
-// The name of a source that has one.
-pub fn unmarked(source: &[u8]) -> &[u8] {
-    rest(source, 1)
-}
+// Where word p of a run's function stands: its line, or its number where it has none.
+#[derive(Drop)]
+pub struct Place<'a>(pub Run<'a>, pub usize);
 
-// Whether a word has a line.
-pub fn has_line(lines: &[u32], p: usize) -> bool {
-    word_at(lines, p) != 0
-}
-
-// The line of a word; of one that has none its number.
-pub fn place_of(lines: &[u32], p: usize) -> u64 {
-    let line = word_at(lines, p);
-    if line == 0 {
-        return p as u64;
+impl Display for Place<'_> {
+    fn fmt<W: fmt::Write>(&self, f: &mut Formatter<W>) -> fmt::Result {
+        let p = self.1;
+        match self.0.line(p) {
+            Some(line) => write!(f, "line {line}"),
+            None => write!(f, "word {p}"),
+        }
     }
-    line as u64
 }

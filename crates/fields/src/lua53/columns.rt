@@ -1,4 +1,5 @@
 // The numbers of 5.3's step classes and companions. specs/lua53/Table.antt says what each means.
+// Kept: numbers, no enum. Each is half of a packed byte (packed.rt), as in the table of 5.4.
 
 pub const FOLLOWING: u8 = 0;
 

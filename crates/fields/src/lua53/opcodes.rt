@@ -1,4 +1,5 @@
 // The 47 opcodes, named and numbered as lopcodes.h of Lua 5.3.6 has them.
+// Kept: numbers, no enum. Six bits of a word hold 64 values, and C gets an unknown one as it is.
 ghost use Rattle.std.specs.Prelude.{◌≡◌};
 ghost use Rattle.fields.specs.lua53.Opcodes.{«OpCode»};
 

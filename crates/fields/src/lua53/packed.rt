@@ -1,4 +1,5 @@
 // The columns of 5.3's opcode table as numbers in the code, a byte for each opcode.
+// Kept: apart from 5.4's, since each version has a folder of its own (CONTRIBUTING); they share `bits::byte`.
 ghost use Rattle.std.specs.Prelude.{◌≡◌, ◌<◌};
 ghost use Rattle.fields.specs.lua53.Word.{opcode_of};
 ghost use Rattle.fields.specs.Bits.{eight_of};
@@ -58,6 +59,7 @@ fn eight_modes(block: u32) -> u64
 }
 
 // 16 times the number of the companion that a word's opcode wants, plus that of its step class.
+#[tactic(auto, using(crate::proofs::Bytes53::steps_byte))]
 pub fn companion_and_class(word: u32) -> u8
     ensures { result ≡ companion_and_class (opcode_of word) }
 {
@@ -66,6 +68,7 @@ pub fn companion_and_class(word: u32) -> u8
 }
 
 // The mode of a word's opcode, as specs/lua53/Table.antt numbers them; 0 for an unknown one.
+#[tactic(auto, using(crate::proofs::Bytes53::mode_byte_at))]
 pub fn mode(word: u32) -> u8
     ensures { result ≡ mode_byte (opcode_of word) }
 {

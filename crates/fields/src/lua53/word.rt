@@ -1,4 +1,6 @@
 // The fields of a word of Lua 5.3.6 (request C-24).
+// Kept: apart from 5.4's, since each version has a folder of its own (CONTRIBUTING); they share
+// `bits::signed`.
 ghost use Rattle.std.specs.Prelude.{◌≡◌};
 ghost use Rattle.fields.specs.lua53.Word.{fields_of, opcode_of, a_of, c_of, bx_of};
 

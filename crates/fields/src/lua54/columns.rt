@@ -1,5 +1,7 @@
 // The numbers that stand in the opcode table, a group for each column. specs/lua54/Table.antt says what each
 // means.
+// Kept: numbers, no enum. Document 01 asks for one constant table of 512 numbers, and C gets them as they
+// are.
 
 pub const NO_MODE: u8 = 0;
 

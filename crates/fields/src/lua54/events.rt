@@ -1,4 +1,5 @@
 // The metamethod events that the opcode table names, numbered as ltm.h has them.
+// Kept: numbers, no enum, since they stand in the table of 512 numbers that document 01 asks for.
 
 pub const TM_INDEX: u8 = 0;
 

@@ -49,6 +49,7 @@ pub fn companion_in(table: &[u8; 512], word: u32) -> u8
 
 // The columns of the opcode table, for single calls.
 
+#[tactic(auto, using(crate::proofs::Entries::entry))]
 pub fn mode(word: u32) -> u8
     ensures { result ≡ mode_number (mode_of (opcode_of word)) }
 {
@@ -56,18 +57,21 @@ pub fn mode(word: u32) -> u8
     column(&entries, word, 0)
 }
 
+#[tactic(auto, using(crate::proofs::Bytes::low_half))]
 pub fn step_class(word: u32) -> u8
     ensures { result ≡ class_number (class_of (opcode_of word)) }
 {
     companion_and_class(word) % 16
 }
 
+#[tactic(auto, using(crate::proofs::Bytes::high_half))]
 pub fn companion(word: u32) -> u8
     ensures { result ≡ companion_number (companion_of (opcode_of word)) }
 {
     companion_and_class(word) / 16
 }
 
+#[tactic(auto, using(crate::proofs::Bytes::rule_byte))]
 pub fn fallback(word: u32) -> u8
     ensures { result ≡ fallback_number (fallback_of (opcode_of word)) }
 {

@@ -1,4 +1,5 @@
 // The 83 opcodes, named and numbered as lopcodes.h of Lua 5.4.8 has them.
+// Kept: numbers, no enum. Seven bits of a word hold 128 values, and C gets an unknown one as it is.
 ghost use Rattle.std.specs.Prelude.{◌≡◌};
 ghost use Rattle.fields.specs.lua54.Opcodes.{«OpCode»};
 

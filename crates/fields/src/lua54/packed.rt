@@ -69,6 +69,7 @@ pub(crate) fn eight_fallbacks(block: u32) -> u64
 }
 
 // 16 times the number of the companion that a word's opcode wants, plus that of its step class.
+#[tactic(auto, using(crate::proofs::Bytes::steps_byte))]
 pub fn companion_and_class(word: u32) -> u8
     ensures { result ≡ companion_and_class (opcode_of word) }
 {

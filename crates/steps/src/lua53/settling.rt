@@ -23,35 +23,26 @@ pub(crate) fn entry_at(words: &[u32], p: usize) -> u32
     }
     let companion = byte / 16;
     let class = byte % 16;
-    if companion == ALONE {
-        if class == JUMPING {
-            return entry_of(jump(words.len(), word, p + 1), p);
-        }
+    if companion == ALONE && class == JUMPING {
+        return entry_of(jump(words.len(), word, p + 1), p);
     }
-    if companion == JUMP_AFTER {
-        if class == BRANCHING {
-            return entry_of(test(words, p), p);
-        }
-        if class == COMPARING {
-            if fields::lua53::word::a(word) <= 1 {
-                return entry_of(test(words, p), p);
-            }
-        }
+    if companion == JUMP_AFTER && class == BRANCHING {
+        return entry_of(test(words, p), p);
     }
-    let all = words;
-    entry_of(successors_by(companion, class, all, p), p)
+    if companion == JUMP_AFTER && class == COMPARING && fields::lua53::word::a(word) <= 1 {
+        return entry_of(test(words, p), p);
+    }
+    entry_of(successors_by(companion, class, words, p), p)
 }
 
 // The entries of all words.
+// Kept: a loop for each version: three lines, which a closure or a trait for both would not shorten.
 pub fn settle_edges(words: &[u32], lengths: &mut [u32])
     requires { (length words.now ≤ most_words) × (length lengths.old ≡ length words.now) }
     ensures { Settled (length words.now) (successors_of words.now)
         (entries lengths.new) }
 {
-    let n = words.len();
-    let mut i = 0;
-    while i < n {
-        lengths[i] = entry_at(words, i);
-        i += 1;
+    for (p, length) in lengths.iter_mut().enumerate() {
+        *length = entry_at(words, p);
     }
 }

@@ -6,6 +6,7 @@ ghost use Rattle.steps.specs.lua53.Columns.{class_from, companion_from};
 ghost use Rattle.sweep.specs.Steps.{one, two, unless};
 ghost use Rattle.steps.specs.lua53.Successors.{opcode_at, next_of, stands_at, successors_of};
 
+use crate::alike::{away, past_companion, word_at};
 use fields::lua53::columns::*;
 use fields::lua53::opcodes::*;
 use sweep::edges::Successors;
@@ -17,11 +18,7 @@ pub(crate) fn jump(n: usize, word: u32, next: usize) -> Successors
     requires { next < 2 ^ 62 }
     ensures { result ≡ one n (pos next +ℤ sbx_of word) }
 {
-    let to = next + fields::lua53::word::bx(word) as usize;
-    if to < OFFSET_SBX {
-        return Successors::Invalid;
-    }
-    one_of(n, to - OFFSET_SBX)
+    away(n, next, fields::lua53::word::bx(word), OFFSET_SBX)
 }
 
 // A loop goes on, mostly back, or ends.
@@ -37,6 +34,8 @@ fn loop_or_end(n: usize, word: u32, next: usize) -> Successors
 }
 
 // The steps of a step class, as 5.3's opcode table numbers them.
+// Kept: the class is the number that the packed table has (packed bits): an enum would be made for each.
+#[tactic(auto, unfolding(crate::specs::lua53::Columns::class_from))]
 fn next_of(class: u8, n: usize, word: u32, p: usize) -> Successors
     requires { p < 2 ^ 61 }
     ensures { result ≡ next_of (class_from class) n word p }
@@ -75,17 +74,15 @@ fn next_of(class: u8, n: usize, word: u32, p: usize) -> Successors
 }
 
 // The opcode of word i; past the end MOVE, which is no companion.
+#[tactic(auto, unfolding(crate::specs::lua53::Successors::opcode_at))]
 pub fn opcode_at(words: &[u32], i: usize) -> u8
     ensures { result ≡ opcode_at words.now i }
 {
-    if i < words.len() {
-        fields::lua53::word::opcode(words[i])
-    } else {
-        OP_MOVE
-    }
+    fields::lua53::word::opcode(word_at(words, i))
 }
 
 // Whether a companion, as 5.3's opcode table numbers them, stands where word p wants it.
+#[tactic(auto, unfolding(crate::specs::lua53::Columns::companion_from))]
 fn stands_at(companion: u8, words: &[u32], p: usize) -> bool
     requires { p < length words.now }
     ensures { result ≡ stands_at (companion_from companion) words.now p }
@@ -107,6 +104,8 @@ fn stands_at(companion: u8, words: &[u32], p: usize) -> bool
 }
 
 // The successors of word p by its companion and its step class, as 5.3's opcode table numbers them.
+// Kept: as 5.4's, of 5.3's rows: in a trait for both, its methods would be in one cycle of calls.
+#[tactic(auto, unfolding(sweep::specs::Steps::unless))]
 pub(crate) fn successors_by(companion: u8, class: u8, words: &[u32], p: usize) -> Successors
     requires { p < length words.now }
     ensures { result ≡ unless (stands_at (companion_from companion) words.now p)
@@ -121,18 +120,15 @@ pub(crate) fn successors_by(companion: u8, class: u8, words: &[u32], p: usize) -
 
 // A test that goes on either way, the most frequent word that wants a companion. The farther step is asked
 // for first: where it is a word, the JMP is one too.
+#[tactic(auto, unfolding(crate::specs::lua53::Successors::opcode_at))]
 pub(crate) fn test(words: &[u32], p: usize) -> Successors
     requires { p < length words.now }
     ensures { result ≡ unless (stands_at jump_after words.now p)
         (two (length words.now) (pos (p + 1)) (pos (p + 2))) }
 {
-    if words.len() <= p + 2 {
-        return Successors::Invalid;
-    }
-    if fields::lua53::word::opcode(words[p + 1]) == OP_JMP {
-        return Successors::Two(p + 1, p + 2);
-    }
-    Successors::Invalid
+    past_companion(words, p, |word| {
+        fields::lua53::word::opcode(word) == OP_JMP
+    })
 }
 
 // The successors of word p, by its companion and its step class in a byte. A word that wants

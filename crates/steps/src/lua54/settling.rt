@@ -15,10 +15,7 @@ use sweep::inner::{entry_of, one_of};
 fn goes_on(companion: u8, class: u8) -> bool
     ensures { result ≡ cond (eqb companion 0) (eqb class 0) false }
 {
-    if companion == ALONE {
-        return class == FOLLOWING;
-    }
-    false
+    companion == ALONE && class == FOLLOWING
 }
 
 // The entry of word p, by a lent copy of the opcode table. The most frequent words come first, and each has
@@ -33,26 +30,19 @@ pub(crate) fn entry_in(table: &[u8; 512], words: &[u32], p: usize) -> u32
     if goes_on(companion, class) {
         return entry_of(one_of(words.len(), p + 1), p);
     }
-    if companion == ALONE {
-        if class == JUMPING {
-            return entry_of(jump(words.len(), word, p + 1), p);
-        }
+    if companion == ALONE && class == JUMPING {
+        return entry_of(jump(words.len(), word, p + 1), p);
     }
-    if class == BRANCHING {
-        if companion == JUMP_AFTER {
-            return entry_of(test(words, p), p);
-        }
-        if companion == METAMETHOD_AFTER {
-            return entry_of(arithmetic(words, p), p);
-        }
+    if companion == JUMP_AFTER && class == BRANCHING {
+        return entry_of(test(words, p), p);
     }
-    if companion == ARITHMETIC_BEFORE {
-        if class == FOLLOWING {
-            return entry_of(metamethod(words, p), p);
-        }
+    if companion == METAMETHOD_AFTER && class == BRANCHING {
+        return entry_of(arithmetic(words, p), p);
     }
-    let all = words;
-    entry_of(successors_by(companion, class, all, p), p)
+    if companion == ARITHMETIC_BEFORE && class == FOLLOWING {
+        return entry_of(metamethod(words, p), p);
+    }
+    entry_of(successors_by(companion, class, words, p), p)
 }
 
 // The entries of all words: their steps are those of document 01's table (RULES 2).
@@ -62,10 +52,7 @@ pub fn settle_edges(table: &[u8; 512], words: &[u32], lengths: &mut [u32])
     ensures { Settled (length words.now) (successors_of words.now)
         (entries lengths.new) }
 {
-    let n = words.len();
-    let mut i = 0;
-    while i < n {
-        lengths[i] = entry_in(table, words, i);
-        i += 1;
+    for (p, length) in lengths.iter_mut().enumerate() {
+        *length = entry_in(table, words, p);
     }
 }

@@ -6,6 +6,7 @@ ghost use Rattle.steps.specs.lua54.Columns.{class_from, companion_from};
 ghost use Rattle.sweep.specs.Steps.{one, two, unless};
 ghost use Rattle.steps.specs.lua54.Successors.{opcode_at, is_between, next_of, stands_at, successors_of};
 
+use crate::alike::{away, past_companion, word_at};
 use fields::lua54::columns::*;
 use fields::lua54::opcodes::*;
 use sweep::edges::Successors;
@@ -17,11 +18,7 @@ pub(crate) fn jump(n: usize, word: u32, next: usize) -> Successors
     requires { next < 2 ^ 62 }
     ensures { result ≡ one n (pos next +ℤ sj_of word) }
 {
-    let to = next + fields::lua54::word::ax(word) as usize;
-    if to < OFFSET_SJ {
-        return Successors::Invalid;
-    }
-    one_of(n, to - OFFSET_SJ)
+    away(n, next, fields::lua54::word::ax(word), OFFSET_SJ)
 }
 
 fn loop_back(n: usize, word: u32, next: usize) -> Successors
@@ -38,6 +35,8 @@ fn loop_back(n: usize, word: u32, next: usize) -> Successors
 }
 
 // The steps of a step class, as the opcode table numbers them.
+// Kept: the class is the number that the packed table has (packed bits): an enum would be made for each.
+#[tactic(auto, unfolding(crate::specs::lua54::Columns::class_from))]
 fn next_of(class: u8, n: usize, word: u32, p: usize) -> Successors
     requires { p < 2 ^ 61 }
     ensures { result ≡ next_of (class_from class) n word p }
@@ -63,28 +62,23 @@ fn next_of(class: u8, n: usize, word: u32, p: usize) -> Successors
     }
 }
 
+#[tactic(auto, unfolding(crate::specs::lua54::Successors::is_between))]
 fn is_between(first: u8, last: u8, opcode: u8) -> bool
     ensures { result ≡ is_between first last opcode }
 {
-    if first <= opcode {
-        opcode <= last
-    } else {
-        false
-    }
+    first <= opcode && opcode <= last
 }
 
 // The opcode of word i; past the end MOVE, which is no companion.
+#[tactic(auto, unfolding(crate::specs::lua54::Successors::opcode_at))]
 pub fn opcode_at(words: &[u32], i: usize) -> u8
     ensures { result ≡ opcode_at words.now i }
 {
-    if i < words.len() {
-        fields::lua54::word::opcode(words[i])
-    } else {
-        OP_MOVE
-    }
+    fields::lua54::word::opcode(word_at(words, i))
 }
 
 // Whether a companion, as the opcode table numbers them, stands where word p wants it.
+#[tactic(auto, unfolding(crate::specs::lua54::Columns::companion_from))]
 fn stands_at(companion: u8, words: &[u32], p: usize) -> bool
     requires { p < length words.now }
     ensures { result ≡ stands_at (companion_from companion) words.now p }
@@ -92,13 +86,7 @@ fn stands_at(companion: u8, words: &[u32], p: usize) -> bool
     match companion {
         ALONE => true,
         METAMETHOD_AFTER => is_between(OP_MMBIN, OP_MMBINK, opcode_at(words, p + 1)),
-        ARITHMETIC_BEFORE => {
-            if 0 < p {
-                is_between(OP_ADDI, OP_SHR, opcode_at(words, p - 1))
-            } else {
-                false
-            }
-        }
+        ARITHMETIC_BEFORE => { 0 < p && is_between(OP_ADDI, OP_SHR, opcode_at(words, p - 1)) }
         JUMP_AFTER => opcode_at(words, p + 1) == OP_JMP,
         EXTRA_AFTER => opcode_at(words, p + 1) == OP_EXTRAARG,
         EXTRA_AFTER_IF_K => {
@@ -117,6 +105,7 @@ fn stands_at(companion: u8, words: &[u32], p: usize) -> bool
 }
 
 // The successors of word p by its companion and its step class, as the opcode table numbers them.
+#[tactic(auto, unfolding(sweep::specs::Steps::unless))]
 pub(crate) fn successors_by(companion: u8, class: u8, words: &[u32], p: usize) -> Successors
     requires { p < length words.now }
     ensures { result ≡ unless (stands_at (companion_from companion) words.now p)
@@ -132,50 +121,39 @@ pub(crate) fn successors_by(companion: u8, class: u8, words: &[u32], p: usize) -
 // The rows of the most frequent words that want a companion. Of those with two steps the farther one is asked
 // for first: where it is a word, the companion is one too.
 
+#[tactic(auto, unfolding(crate::specs::lua54::Successors::opcode_at))]
 pub(crate) fn test(words: &[u32], p: usize) -> Successors
     requires { p < length words.now }
     ensures { result ≡ unless (stands_at jump_after words.now p)
         (two (length words.now) (pos (p + 1)) (pos (p + 2))) }
 {
-    if words.len() <= p + 2 {
-        return Successors::Invalid;
-    }
-    if fields::lua54::word::opcode(words[p + 1]) == OP_JMP {
-        return Successors::Two(p + 1, p + 2);
-    }
-    Successors::Invalid
+    past_companion(words, p, |word| {
+        fields::lua54::word::opcode(word) == OP_JMP
+    })
 }
 
+#[tactic(auto, unfolding(crate::specs::lua54::Successors::opcode_at))]
 pub(crate) fn arithmetic(words: &[u32], p: usize) -> Successors
     requires { p < length words.now }
     ensures { result ≡ unless (stands_at metamethod_after words.now p)
         (two (length words.now) (pos (p + 1)) (pos (p + 2))) }
 {
-    if words.len() <= p + 2 {
-        return Successors::Invalid;
-    }
-    if is_between(
-        OP_MMBIN,
-        OP_MMBINK,
-        fields::lua54::word::opcode(words[p + 1]),
-    ) {
-        return Successors::Two(p + 1, p + 2);
-    }
-    Successors::Invalid
+    past_companion(words, p, |word| {
+        is_between(OP_MMBIN, OP_MMBINK, fields::lua54::word::opcode(word))
+    })
 }
 
+#[tactic(auto, unfolding(sweep::specs::Steps::unless))]
 pub(crate) fn metamethod(words: &[u32], p: usize) -> Successors
     requires { p < length words.now }
     ensures { result ≡ unless (stands_at arithmetic_before words.now p)
         (one (length words.now) (pos (p + 1))) }
 {
-    if p == 0 {
-        return Successors::Invalid;
+    if 0 < p && is_between(OP_ADDI, OP_SHR, opcode_at(words, p - 1)) {
+        one_of(words.len(), p + 1)
+    } else {
+        Successors::Invalid
     }
-    if is_between(OP_ADDI, OP_SHR, opcode_at(words, p - 1)) {
-        return one_of(words.len(), p + 1);
-    }
-    Successors::Invalid
 }
 
 // The successors of word p, by its companion and its step class in a byte. A word that wants
@@ -192,10 +170,8 @@ pub fn successors(words: &[u32], p: usize) -> Successors
     }
     let companion = byte / 16;
     let class = byte % 16;
-    if companion == JUMP_AFTER {
-        if class == BRANCHING {
-            return test(words, p);
-        }
+    if companion == JUMP_AFTER && class == BRANCHING {
+        return test(words, p);
     }
     successors_by(companion, class, words, p)
 }

@@ -2,7 +2,7 @@
 // it; unknown opcodes nothing.
 use crate::operands::*;
 
-pub const TABLE_53: [u64; 64] = [
+pub(crate) static ACCESSES_53: [u64; 64] = [
     // OP_MOVE: R(A) := R(B)
     READ * R_B + WRITE * R_A,
     // OP_LOADK: R(A) := Kst(Bx)

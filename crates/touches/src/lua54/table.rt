@@ -1,7 +1,7 @@
 // What each opcode reads and writes, row for row as specs/lua54/Cases.antt has it; unknown opcodes nothing.
 use crate::operands::*;
 
-pub const ACCESSES: [u64; 128] = [
+pub(crate) static ACCESSES: [u64; 128] = [
     // OP_MOVE: R[A] := R[B]
     READ * R_B + WRITE * R_A,
     // OP_LOADI: R[A] := sBx

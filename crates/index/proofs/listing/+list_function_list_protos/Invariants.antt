@@ -11,7 +11,4 @@ decreases-list_protos l = l.level + l.level
 
 abbrev pub invariant-list_protos-loop-i : goal.invariant-list_protos-loop-i
 invariant-list_protos-loop-i l =
-    Midway (l.level - 1) l.chunk l.start l.n l.parent l.first l.initial.places l.initial.parents l.places l.parents l.at l.total l.i
-
-abbrev pub decreases-list_protos-loop-i : goal.decreases-list_protos-loop-i
-decreases-list_protos-loop-i l = l.n - l.i
+    Midway (l.level - 1) l.chunk l.start l.n l.parent l.first l.initial.places l.initial.parents l.places l.parents l.at l.total l._i

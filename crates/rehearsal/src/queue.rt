@@ -1,0 +1,67 @@
+// The ready queue: the scripts that have not returned. The first has the turn.
+ghost use Rattle.std.specs.Prelude.{◌≡◌, ℕ, ◌<◌, ◌≤◌, ◌↔◌, List, [], ◌∷◌, ◌++◌, length, take, IsTrue};
+ghost use Rattle.rehearsal.specs.declared.machine.Task.{Task};
+ghost use Rattle.rehearsal.specs.Machine.{tasks_from};
+
+use crate::machine::Task;
+use common::limits::MOST_SCRIPTS;
+use std::marker::Model;
+
+#[derive(Drop)]
+pub struct Queue {
+    tasks: [Task; MOST_SCRIPTS],
+    size: usize,
+}
+
+impl Model for Queue {
+    ghost Value = { List Task };
+
+    ghost view = { λ q. take q.size q.tasks };
+
+    ghost invariant = { λ q. q.size ≤ length q.tasks };
+}
+
+impl Queue {
+    // So many scripts, the first given first, each at its first word.
+    #[tactic(auto, using(crate::proofs::Tasks::tasks_length, crate::proofs::Tasks::tasks_more))]
+    pub(crate) fn new(count: usize) -> Self
+        requires { count ≤ 4 }
+        ensures { result ≡ tasks_from 0 count }
+    {
+        let mut queue = Queue {
+            tasks: [Task { script: 0, word: 0 }; MOST_SCRIPTS],
+            size: 0,
+        };
+        for script in 0..count {
+            queue.push(Task { script, word: 0 });
+        }
+        queue
+    }
+
+    pub(crate) fn is_empty(&self) -> bool
+        ensures { IsTrue result ↔ (self.now ≡ []) }
+    {
+        self.size == 0
+    }
+
+    // The first leaves.
+    pub(crate) fn pop(&mut self) -> Task
+        requires { 0 < length self.old }
+        ensures first { self.old ≡ result ∷ self.new }
+        ensures room { length self.new < 4 }
+    {
+        let first = self.tasks[0];
+        self.tasks.rotate_left(1);
+        self.size -= 1;
+        first
+    }
+
+    // A script goes to the end.
+    pub(crate) fn push(&mut self, task: Task)
+        requires { length self.old < 4 }
+        ensures { self.new ≡ self.old ++ (task ∷ []) }
+    {
+        self.tasks[self.size] = task;
+        self.size += 1;
+    }
+}

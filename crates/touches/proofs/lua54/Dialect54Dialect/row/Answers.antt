@@ -1,0 +1,15 @@
+-- antt computes the numbers of the rows from the cases and holds the table against them.
+use Rattle.std.proofs.Common.{◌≡◌, ℕ, List, ◌%◌, ap, get_or, div-one}
+use Rattle.fields.specs.declared.version.Version.TheVariants.{Lua54}
+use Rattle.touches.specs.declared.lua54.table.TheConstants.{ACCESSES}
+use Rattle.touches.specs.Versions.{accesses_of}
+use Rattle.touches.specs.Table.{table_of}
+use Rattle.touches.proofs.Choices.{by_test}
+use Rattle.touches.proofs.lua54.Dialect54Dialect.row.Goals as goal
+
+table : ACCESSES ≡ table_of Lua54
+unfolding table_of accesses_of
+table = by_test ACCESSES (table_of Lua54) tt
+
+pub returns : goal.returns
+returns c = rw div-one (ap (λ (rows : List ℕ). get_or rows (c.args.word % 128) 0) table)
