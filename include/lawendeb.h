@@ -23,7 +23,7 @@
    Those of meters and budgets, libtouches.a and libindex.a need no symbol, the others memset. They
    write nothing but what a call is lent: no heap, no static data, and as measured less than 1 kB of
    stack, but less than 2 kB for a rehearsal, less than 3 kB for a lift and for what a word touches,
-   less than 26 kB for a pass over a chunk and for a call of libindex.a, which go down with its
+   less than 16 kB for a pass over a chunk and for a call of libindex.a, which go down with its
    functions, 32 levels at most, and less than 300 kB for registers set before use, whose two tables
    of fixed size lie there: no call for a small stack (docs/BENCHMARKS.md). So every call is
    reentrant, and calls on different memory may run at once, in threads or interrupts. A begin, a

@@ -86,9 +86,8 @@ abbrev pub Finds : List ℕ → ℕ → ℕ → Option ℕ → Type 0
 Finds waiting i end None = NoneWaits waiting i end
 Finds waiting i end (Some p) = FirstWaits waiting i end p
 
--- a look at the marks leaves them, and may take a page's mark away
-pub record Looks (n : ℕ) (waiting waiting' pages' : List ℕ) : Type 0 where
-  pub same : waiting' ≡ waiting
+-- a look at the marks may take a page's mark away
+pub record Looks (n : ℕ) (waiting pages' : List ℕ) : Type 0 where
   pub paged : Paged n waiting pages'
   pub pages_same : length pages' ≡ most_pages
 

@@ -2,12 +2,12 @@
 // grows word by word, along the steps, until nothing changes. A bit that is no register's is set by no word,
 // and so comes to all words that are reachable.
 ghost use Rattle.std.specs.Prelude.{◌≡◌, ◌↔◌, IsTrue, ◌≤◌, ◌<◌, length};
-ghost use Rattle.common.specs.Limits.{most_words, most_registers};
-ghost use Rattle.blocks.specs.Blocks.{SearchRoom, JoinAsks, Joins, Steps, SpreadAsks, Spreads};
+ghost use Rattle.common.specs.Limits.{most_registers};
+ghost use Rattle.blocks.specs.Blocks.{most_pages, SearchRoom, JoinAsks, Joins, Steps, SpreadAsks, Spreads};
 ghost use Rattle.blocks.specs.Blocks.{HitsBy, BlockNotes, BlockVisits, Started, BlockSearched};
 
 use crate::ranges::{BLOCK, in_ranges, next_in, set_by};
-use crate::waiting::{PAGES, Waiting};
+use crate::waiting::{Waiting, add, next_waiting};
 use common::limits::MOST_REGISTERS;
 use locations::answer::Touches;
 use steps::lua54::successors::successors;
@@ -61,6 +61,122 @@ impl Seen {
     }
 }
 
+// More registers are unset at word q. It waits, if that is new.
+// Kept: slices where `Tables` has arrays, since a caller of `search` may lend tables of any length.
+fn join(unset: &mut [u64], waiting: &mut [u8], pages: &mut [u8], q: usize, more: u64)
+    requires { JoinAsks unset.old waiting.old pages.old q }
+    ensures { Joins unset.old waiting.old pages.old q more unset.new waiting.new pages.new }
+{
+    let old = unset[q];
+    let new = old | more;
+    if new != old {
+        unset[q] = new;
+        add(waiting, pages, q);
+    }
+}
+
+// A word that touches t goes on to word q: what is unset there is unset here, but for what it sets.
+fn step(
+    unset: &mut [u64],
+    waiting: &mut [u8],
+    pages: &mut [u8],
+    t: &Touches,
+    r: usize,
+    at: u64,
+    q: usize,
+)
+    requires { JoinAsks unset.old waiting.old pages.old q }
+    ensures { Steps r t.now at q unset.old waiting.old pages.old unset.new waiting.new pages.new }
+{
+    join(unset, waiting, pages, q, at & (EVERY - set_by(r, t, q)));
+}
+
+fn spread(
+    unset: &mut [u64],
+    waiting: &mut [u8],
+    pages: &mut [u8],
+    t: &Touches,
+    s: Successors,
+    r: usize,
+    at: u64,
+)
+    requires { SpreadAsks s unset.old waiting.old pages.old }
+    ensures { Spreads r t.now at s unset.old waiting.old pages.old unset.new waiting.new pages.new }
+{
+    match s {
+        Successors::Invalid | Successors::Stop => {}
+        Successors::One(a) => step(unset, waiting, pages, t, r, at, a),
+        Successors::Two(a, b) => {
+            step(unset, waiting, pages, t, r, at, a);
+            step(unset, waiting, pages, t, r, at, b);
+        }
+    }
+}
+
+// A word is visited: it no longer waits, unless a step leads back to it with more.
+fn visit(
+    words: &[u32],
+    r: usize,
+    unset: &mut [u64],
+    waiting: &mut [u8],
+    pages: &mut [u8],
+    p: usize,
+    seen: Seen,
+) -> Seen
+    requires { SearchRoom words.now unset.old waiting.old pages.old
+        × (p < length words.now) × (r ≤ most_registers) }
+    ensures { BlockVisits words.now r p unset.old waiting.old pages.old seen
+        unset.new waiting.new pages.new result }
+{
+    waiting[p] = 0;
+    let at = unset[p];
+    let t = touches(words, p);
+    let s = successors(words, p);
+    spread(unset, waiting, pages, &t, s, r, at);
+    seen.note(&t, s, r, at, p)
+}
+
+// At word 0 no register is set, and it alone of n waits.
+fn start(n: usize, unset: &mut [u64], waiting: &mut [u8], pages: &mut [u8])
+    requires { (0 < n) × (n ≤ length unset.old) × (n ≤ length waiting.old) × (length pages.old ≡ most_pages) }
+    ensures { Started n unset.new waiting.new pages.new }
+{
+    unset[..n].fill(0);
+    waiting[..n].fill(0);
+    unset[0] = EVERY;
+    add(waiting, pages, 0);
+}
+
+// The states of all words, for the registers from r on, and what the visits have found below a limit: in
+// tables of any length that has room for the words.
+pub fn search(
+    words: &[u32],
+    r: usize,
+    unset: &mut [u64],
+    waiting: &mut [u8],
+    pages: &mut [u8],
+    limit: usize,
+) -> Seen
+    requires { SearchRoom words.now unset.old waiting.old pages.old
+        × (limit ≤ length words.now) × (r ≤ most_registers) }
+    ensures { BlockSearched words.now r unset.new waiting.new pages.new limit result }
+{
+    let n = words.len();
+    start(n, unset, waiting, pages);
+    let mut seen = Seen {
+        least: limit,
+        next: MOST_REGISTERS,
+        bad: false,
+        to: 0,
+    };
+    let mut next = Some(0);
+    while let Some(p) = next {
+        seen = visit(words, r, unset, waiting, pages, p, seen);
+        next = next_waiting(waiting, pages, p + 1, seen.to, n);
+    }
+    seen
+}
+
 // The registers of the block that are unset at each word on some way to it, and the words that wait.
 #[derive(Drop)]
 pub struct Tables<const N: usize> {
@@ -69,90 +185,20 @@ pub struct Tables<const N: usize> {
 }
 
 impl<const N: usize> Tables<N> {
-    // More registers are unset at word q. It waits, if that is new.
-    fn join(&mut self, q: usize, more: u64)
-        requires { JoinAsks self.old.unset self.old.waiting.marks self.old.waiting.pages q }
-        ensures { Joins self.old.unset self.old.waiting.marks self.old.waiting.pages q more
-            self.new.unset self.new.waiting.marks self.new.waiting.pages }
-    {
-        let old = self.unset[q];
-        let new = old | more;
-        if new != old {
-            self.unset[q] = new;
-            self.waiting.add(q);
-        }
-    }
-
-    // A word that touches t goes on to word q: what is unset there is unset here, but for what it sets.
-    fn step(&mut self, t: &Touches, r: usize, at: u64, q: usize)
-        requires { JoinAsks self.old.unset self.old.waiting.marks self.old.waiting.pages q }
-        ensures { Steps r t.now at q self.old.unset self.old.waiting.marks self.old.waiting.pages
-            self.new.unset self.new.waiting.marks self.new.waiting.pages }
-    {
-        self.join(q, at & (EVERY - set_by(r, t, q)));
-    }
-
-    fn spread(&mut self, t: &Touches, s: Successors, r: usize, at: u64)
-        requires { SpreadAsks s self.old.unset self.old.waiting.marks self.old.waiting.pages }
-        ensures { Spreads r t.now at s self.old.unset self.old.waiting.marks self.old.waiting.pages
-            self.new.unset self.new.waiting.marks self.new.waiting.pages }
-    {
-        match s {
-            Successors::Invalid | Successors::Stop => {}
-            Successors::One(a) => self.step(t, r, at, a),
-            Successors::Two(a, b) => {
-                self.step(t, r, at, a);
-                self.step(t, r, at, b);
-            }
-        }
-    }
-
-    // A word is visited: it no longer waits, unless a step leads back to it with more.
-    fn visit(&mut self, words: &[u32], r: usize, p: usize, seen: Seen) -> Seen
-        requires { SearchRoom words.now self.old.unset self.old.waiting.marks self.old.waiting.pages
-            × (p < length words.now) × (r ≤ most_registers) }
-        ensures { BlockVisits words.now r p self.old.unset self.old.waiting.marks
-            self.old.waiting.pages seen self.new.unset self.new.waiting.marks self.new.waiting.pages result }
-    {
-        self.waiting.marks[p] = 0;
-        let at = self.unset[p];
-        let t = touches(words, p);
-        let s = successors(words, p);
-        self.spread(&t, s, r, at);
-        seen.note(&t, s, r, at, p)
-    }
-
-    // At word 0 no register is set, and it alone of n waits.
-    fn start(&mut self, n: usize)
-        requires { (0 < n) × (n ≤ length self.old.unset) × (n ≤ length self.old.waiting.marks) }
-        ensures { Started n self.new.unset self.new.waiting.marks self.new.waiting.pages }
-    {
-        self.unset[..n].fill(0);
-        self.waiting.marks[..n].fill(0);
-        self.unset[0] = EVERY;
-        self.waiting.add(0);
-    }
-
-    // The states of all words, for the registers from r on, and what the visits have found below a limit.
+    // The search, in these tables.
     pub fn search(&mut self, words: &[u32], r: usize, limit: usize) -> Seen
         requires { SearchRoom words.now self.old.unset self.old.waiting.marks self.old.waiting.pages
             × (limit ≤ length words.now) × (r ≤ most_registers) }
         ensures { BlockSearched words.now r self.new.unset self.new.waiting.marks self.new.waiting.pages limit
             result }
     {
-        let n = words.len();
-        self.start(n);
-        let mut seen = Seen {
-            least: limit,
-            next: MOST_REGISTERS,
-            bad: false,
-            to: 0,
-        };
-        let mut next = Some(0);
-        while let Some(p) = next {
-            seen = self.visit(words, r, p, seen);
-            next = self.waiting.next(p + 1, seen.to, n);
-        }
-        seen
+        search(
+            words,
+            r,
+            &mut self.unset,
+            &mut self.waiting.marks,
+            &mut self.waiting.pages,
+            limit,
+        )
     }
 }

@@ -109,7 +109,7 @@ pub fn lawendeb_lift<'a, 'b>(
     };
     let answer = check(&proto, numbers.len() / RECORD_LENGTH);
     if answer.is_ok() {
-        put_records(&proto, numbers);
+        put_records(&proto, words.len(), numbers);
     }
     FlatAnswer::from(answer)
 }

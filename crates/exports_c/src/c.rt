@@ -44,8 +44,7 @@ pub extern "C" fn lawendeb_decode(word: u32) -> FlatFields
     exports::c::lawendeb_decode(word)
 }
 
-// Lifts a whole function. All decisions are the plan's: a refusal is a loop of no turns,
-// so that nothing is written.
+// Lifts a whole function: all records are written or, where it is refused, none.
 #[unsafe(no_mangle)]
 pub extern "C" fn lawendeb_lift<'a, 'b>(
     words: &'a [u32],

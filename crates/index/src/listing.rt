@@ -136,6 +136,8 @@ fn list_function(
 
 // loadProtos: the first function within has number `first`, and all stand in `parent`. How many functions
 // they are with those within them.
+// One frame a level with `list_function`, not two.
+#[inline(always)]
 #[cycle(list_function_list_protos)]
 fn list_protos(
     chunk: &[u8],

@@ -1,5 +1,5 @@
 // The records of a whole function as numbers, record after record, in the caller's list.
-ghost use Rattle.std.specs.Prelude.{◌≡◌, ◌+◌, ◌*◌, ◌≤◌, length};
+ghost use Rattle.std.specs.Prelude.{◌≡◌, ◌+◌, ◌*◌, ◌<◌, ◌≤◌, length};
 ghost use Rattle.common.specs.Limits.{most_words};
 ghost use Rattle.common.specs.Lists.{put};
 ghost use Rattle.lifted.specs.Record.{
@@ -92,14 +92,15 @@ pub fn numbers_of(i: SemanticInstruction) -> [u64; RECORD_LENGTH]
     numbers
 }
 
-// The records of all words.
-pub fn put_records(proto: &Prototype<'_>, numbers: &mut [u64])
-    requires few { length proto.now.words.now ≤ most_words }
-    requires room { record_length * length proto.now.words.now ≤ length numbers.old }
+// The records of the first n words. Those of the words behind them are read, but not put.
+pub fn put_records(proto: &Prototype<'_>, n: usize, numbers: &mut [u64])
+    requires few { 0 < n → length proto.now.words.now ≤ most_words }
+    requires within { n ≤ length proto.now.words.now }
+    requires room { record_length * n ≤ length numbers.old }
     ensures { numbers.new ≡ put numbers.old 0 (records_numbers proto.now.words.now proto.now.tags.now
-        proto.now.payloads.now proto.now.names.now (length proto.now.words.now)) }
+        proto.now.payloads.now proto.now.names.now n) }
 {
-    for pc in 0..proto.words.len() {
+    for pc in 0..n {
         put_record(numbers, RECORD_LENGTH * pc, lift_at(proto, pc));
     }
 }

@@ -8,5 +8,5 @@ mod words;
 
 pub use choosing::Choice;
 pub use heads::{FlatHead, head_by, head_from};
-pub use lines::lines_by;
+pub use lines::{LinePlaces, lines_by};
 pub use words::words_by;

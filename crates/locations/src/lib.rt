@@ -5,6 +5,6 @@
 pub mod answer;
 mod few;
 mod insertion;
-mod interval;
+pub mod interval;
 pub mod lists;
 pub mod location;

@@ -90,6 +90,8 @@ pub fn function(chunk: &[u8], at: usize, level: u32, s: Search) -> Read<Search>
 }
 
 // loadProtos: a level 33 is met at the count that needs it
+// One frame a level with `function`, not two: the stack that a pass takes is so many frames.
+#[inline(always)]
 #[cycle(function_protos)]
 fn protos(chunk: &[u8], at: usize, level: u32, s: Search) -> Read<Search>
     ensures { result ≡ read_as (search s) (load_protos level chunk.now at) }

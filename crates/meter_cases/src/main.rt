@@ -27,5 +27,5 @@ fn ask(out: Stdout, line: &[u8]) {
 
 fn main(rt: HostRuntime) {
     let out = rt.stdout();
-    vectors::ask_each(rt.stdin(), |line| ask(out, line));
+    vectors::inner::ask_each(rt.stdin(), |line| ask(out, line));
 }

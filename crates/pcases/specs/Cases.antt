@@ -30,7 +30,6 @@ use Rattle.values.specs.declared.ir.SemanticInstruction.{SemanticInstruction}
 use Rattle.values.specs.declared.model.ConstantValue.TheVariants.{Nil}
 use Rattle.builders.specs.Shapes.{operands_of, reads_of, writes_of}
 use Rattle.records.specs.Lift.{lift_of}
-use Rattle.records.specs.Sources.{operand_in, target_in}
 
 pub data PCase : Type 0 where
   -- a word is this opcode, with this A and this sBx
@@ -87,12 +86,9 @@ HoldsOf (jumps words pc target) = (record_at words pc).jump_target ≡ target
 HoldsOf (touches words pc reads writes) =
     ((record_at words pc).reads ≡ reads_of reads) × ((record_at words pc).writes ≡ writes_of writes)
 HoldsOf (fills words pc operands reads writes) =
-    let r = record_at words pc in
-    (operand_in r.operands.slots 0 ∷ operand_in r.operands.slots 1
-    ∷ operand_in r.operands.slots 2 ∷ operand_in r.operands.slots 3 ∷ []
-    ≡ operands)
-    × (target_in r.reads.slots 0 ∷ target_in r.reads.slots 1 ∷ target_in r.reads.slots 2 ∷ [] ≡ reads)
-    × (target_in r.writes.slots 0 ∷ target_in r.writes.slots 1 ∷ [] ≡ writes)
+    ((record_at words pc).operands.slots ≡ operands)
+    × ((record_at words pc).reads.slots ≡ reads)
+    × ((record_at words pc).writes.slots ≡ writes)
 HoldsOf (shows words pc operands companion) =
     ((record_at words pc).operands ≡ operands_of operands) × ((record_at words pc).companion_pc ≡ companion)
 HoldsOf (pairs words pc effect companion) =

@@ -22,7 +22,7 @@ use Rattle.runs.specs.Run.{accepted_run, number_of, place_of, longest_of, lowest
 use Rattle.ranges.specs.Range.{accepted_range, low_run, high_run, is_above, lowest_above, runs_of, refuses_range}
 use Rattle.ranges.specs.Between.{Between, RunBetween, RangeEnds, TableRefused}
 use Rattle.runs.proofs.Weights.{weight_laws}
-use Rattle.ranges.proofs.BothTables.{Ranges, ranges-of, checks, run_checked, runs_checked}
+use Rattle.ranges.proofs.BothTables.{not_above, Ranges, ranges-of, checks, run_checked, runs_checked}
 
 -- 128 weights, none of which is 0
 passes : (table : List ℕ) → length table ≡ weight_count → ((i : ℕ) → i < weight_count → 0 < get_or table i 0) → refuses_weights table ≡ false
@@ -57,7 +57,7 @@ module _ (ws : Script) (sound : Sound ws) (low high : List ℕ) (a b : ℕ) (r :
   unfolding lowest_above
   ordered i h =
       let e = ltb-false (lowest_from (is_above low high) 0 weight_count) weight_count r.ordered in
-      ltb-false (get_or high i 0) (get_or low i 0) ((lowest_laws.first (is_above low high) 0 weight_count).not_before i (omega arith) (omega (arith, e, h)))
+      not_above (get_or low i 0) (get_or high i 0) ((lowest_laws.first (is_above low high) 0 weight_count).not_before i (omega arith) (omega (arith, e, h)))
 
   abbrev L : List ℕ → ℕ
   L table = longest (graph_of ws) (weight_of ws table)

@@ -5,12 +5,13 @@ use mathlib.Core.Bool.{Bool, true, false, cond, ◌||◌, or-true, true≢false,
 use mathlib.Core.List.{List, ◌++◌}
 use Prim.Native.Nat.{ℕ, ◌+◌, ◌≤◌, ◌<◌, min}
 use native.Mathlib.Omega.{arith}
-use borrow.Author.Tests.{lt-ltb, le-ltb, ltb-true, ltb-false, eqb-true, eqb-false}
+use borrow.Author.Tests.{lt-ltb, le-ltb, eqb-true, eqb-false}
 use lib.Dec.{ltb, eqb}
 use lib.ListN.{length, get_or, drop}
 use Rattle.common.specs.Limits.{most_words}
 use Rattle.runs.specs.Weights.{weight_count, refuses_weights, weights_place, weights_answer}
 use Rattle.std.proofs.Math.Bool.{or-false}
+use Rattle.std.proofs.lemmas.Bool.Decides.{nat_tests}
 use Rattle.std.specs.Prelude.{Result, Ok, Err, ⊤, Option, Some, None}
 use Rattle.std.specs.List.{position, position_or_len, zip}
 use Rattle.std.proofs.lemmas.Slice.Zip.{length-zip, get_or-zip}
@@ -25,11 +26,15 @@ use Rattle.common.proofs.Refusing.{either_short, room_err}
 use Rattle.graph.specs.Longest.{longest, first}
 use Rattle.runs.specs.Script.{Script, graph_of, weight_of}
 use Rattle.runs.specs.Run.{Run, accepted_run, lowest_invalid, run_of, untouched}
-use Rattle.ranges.specs.Range.{RunRange, accepted_range, both_of, is_above, lowest_above, range_answer, runs_of, refuses_range, marks_after_both, lengths_after_both}
+use Rattle.ranges.specs.Range.{RunRange, accepted_range, both_of, exceeds, is_above, lowest_above, range_answer, runs_of, refuses_range, marks_after_both, lengths_after_both}
 use Rattle.runs.specs.Outcome.{decided, Decided}
 use Rattle.ranges.specs.Outcome.{DecidedBoth}
 use Rattle.runs.proofs.Weights.{Zeros, zeros_none, zeros_here, zeros_on, zeros_done, refuses_count, refuses_zero, weight_laws}
 use Rattle.runs.proofs.Outcome.{run_many, run_short, run_none, run_words, weighed_err, weighed_ok, outcome_kept, outcome_words}
+
+-- a weight that is not above its high one
+pub not_above : (low high : ℕ) → exceeds (low, high) ≡ false → low ≤ high
+not_above low high e = grind (arith, nat_tests)
 
 -- tables that 18 and 19 let through
 pub record Ranges (low high : List ℕ) : Type 0 where
@@ -58,15 +63,15 @@ module _ (low high : List ℕ) where
   aboves_none = record { upto = omega arith; found = λ e. absurd (false≢true e); none = λ e p h. absurd (omega arith) }
 
   module _ {i : ℕ} {above : Bool} (a : Aboves low high i above) (h : i < weight_count) where
-    pub aboves_here : get_or high i 0 < get_or low i 0 → Aboves low high (i + 1) true
-    aboves_here d = record { upto = omega arith; found = λ t. (i, omega arith, lt-ltb _ _ d); none = λ t. absurd (true≢false t) }
+    pub aboves_here : is_above low high i ≡ true → Aboves low high (i + 1) true
+    aboves_here d = record { upto = omega arith; found = λ t. (i, omega arith, d); none = λ t. absurd (true≢false t) }
 
-    pub aboves_on : get_or low i 0 ≤ get_or high i 0 → Aboves low high (i + 1) above
+    pub aboves_on : is_above low high i ≡ false → Aboves low high (i + 1) above
     aboves_on d =
         record {
           upto = omega arith;
           found = λ t. let f = a.found t in (f.0, omega (arith, f.1), f.2);
-          none = λ t p l. ⊎_elim (λ e. ap (is_above low high) e ∙ le-ltb _ _ d) (λ e. a.none t p (omega (arith, l, e))) (same_or_not p i);
+          none = λ t p l. ⊎_elim (λ e. ap (is_above low high) e ∙ d) (λ e. a.none t p (omega (arith, l, e))) (same_or_not p i);
         }
 
   pub aboves_done : {i : ℕ} {above : Bool} → Aboves low high i above → weight_count ≤ i → above ≡ ltb (lowest_above low high) weight_count
@@ -106,18 +111,18 @@ module _ (low high : List ℕ) where
     zeros_next true e = rw (or-true r.zero) (zeros_here low r.zeros h (eqb-true _ _ e))
     zeros_next false e = rw (or-false r.zero) (zeros_on low r.zeros h (eqb-false _ _ e))
 
-    aboves_next : (a : Bool) → ltb (get_or high i 0) (get_or low i 0) ≡ a → Aboves low high (i + 1) (r.above || a)
-    aboves_next true e = rw (or-true r.above) (aboves_here low high r.aboves h (ltb-true _ _ e))
-    aboves_next false e = rw (or-false r.above) (aboves_on low high r.aboves h (ltb-false _ _ e))
+    aboves_next : (a : Bool) → is_above low high i ≡ a → Aboves low high (i + 1) (r.above || a)
+    aboves_next true e = rw (or-true r.above) (aboves_here low high r.aboves h e)
+    aboves_next false e = rw (or-false r.above) (aboves_on low high r.aboves h e)
 
-    pub refusing_next : Refusing low high (i + 1) (refused || (eqb (get_or low i 0) 0 || ltb (get_or high i 0) (get_or low i 0)))
+    pub refusing_next : Refusing low high (i + 1) (refused || (eqb (get_or low i 0) 0 || is_above low high i))
     refusing_next =
         record {
           zero = r.zero || eqb (get_or low i 0) 0;
-          above = r.above || ltb (get_or high i 0) (get_or low i 0);
+          above = r.above || is_above low high i;
           zeros = zeros_next (eqb (get_or low i 0) 0) refl;
-          aboves = aboves_next (ltb (get_or high i 0) (get_or low i 0)) refl;
-          either = rw r.either (four r.zero r.above (eqb (get_or low i 0) 0) (ltb (get_or high i 0) (get_or low i 0)));
+          aboves = aboves_next (is_above low high i) refl;
+          either = rw r.either (four r.zero r.above (eqb (get_or low i 0) 0) (is_above low high i));
         }
       where
         four : (a b c d : Bool) → (a || b) || (c || d) ≡ (a || c) || (b || d)
@@ -132,7 +137,7 @@ module _ (low high : List ℕ) where
       record {
         upto = z.upto;
         found = λ e. absurd (false≢true e);
-        none = λ e p h q. z.none refl p h (omega (arith, q, ltb-false (get_or high p 0) (get_or low p 0) (a.none refl p h)));
+        none = λ e p h q. z.none refl p h (omega (arith, q, not_above (get_or low p 0) (get_or high p 0) (a.none refl p h)));
       }
 
   pub refusing_done : {i : ℕ} {refused : Bool} → Refusing low high i refused → weight_count ≤ i → length low ≡ weight_count → length high ≡ weight_count → refused ≡ refuses_range low high
@@ -168,20 +173,20 @@ module _ (low high : List ℕ) where
     count : length (zip low high) ≡ weight_count
     count = simp (length-zip, m, n)
 
-    pub first_above : position_or_len (λ (w : ℕ × ℕ). ltb w.1 w.0) (zip low high) ≡ lowest_above low high
+    pub first_above : position_or_len exceeds (zip low high) ≡ lowest_above low high
     unfolding lowest_above
     first_above =
-        first_item (λ (w : ℕ × ℕ). ltb w.1 w.0) (zip low high) (0, 0)
-        ∙ ap (lowest_from (λ i. ltb (get_or (zip low high) i (0, 0)).1 (get_or (zip low high) i (0, 0)).0) 0) count
-        ∙ lowest_laws.same (λ i. ltb (get_or (zip low high) i (0, 0)).1 (get_or (zip low high) i (0, 0)).0) (is_above low high) 0 weight_count
-        (λ p h. ap (λ (w : ℕ × ℕ). ltb w.1 w.0) (get_or-zip low high p (0, 0) (omega (arith, h, m)) (omega (arith, h, n))))
+        first_item exceeds (zip low high) (0, 0)
+        ∙ ap (lowest_from (λ i. exceeds (get_or (zip low high) i (0, 0))) 0) count
+        ∙ lowest_laws.same (λ i. exceeds (get_or (zip low high) i (0, 0))) (is_above low high) 0 weight_count
+        (λ p h. ap exceeds (get_or-zip low high p (0, 0) (omega (arith, h, m)) (omega (arith, h, n))))
 
-    pub above_is : position (λ (w : ℕ × ℕ). ltb w.1 w.0) (zip low high) ≡ cond (ltb (lowest_above low high) weight_count) (Some (lowest_above low high)) None
+    pub above_is : position exceeds (zip low high) ≡ cond (ltb (lowest_above low high) weight_count) (Some (lowest_above low high)) None
     above_is = rw (first_above, count)
 
   module _ {o p : ⊤} (g : weights_answer low ≡ Ok o) (h : weights_answer high ≡ Ok p) where
     abbrev found : Option ℕ
-    found = position (λ (w : ℕ × ℕ). ltb w.1 w.0) (zip low high)
+    found = position exceeds (zip low high)
 
     is : found ≡ cond (ltb (lowest_above low high) weight_count) (Some (lowest_above low high)) None
     is = above_is (weight_laws low (weighed_ok low g)).count (weight_laws high (weighed_ok high h)).count

@@ -37,9 +37,13 @@ abbrev pub accepted_range : ℕ → ℕ → ℕ → ℕ → RunRange
 accepted_range l f l' f' =
     Ok (record { low = record { longest = l; first = f }; high = record { longest = l'; first = f' } })
 
--- "a low above its high"
+-- "a low above its high": of a low weight and its high one
+abbrev pub exceeds : ℕ × ℕ → Bool
+exceeds weights = ltb weights.1 weights.0
+
+-- the same of an opcode's
 abbrev pub is_above : List ℕ → List ℕ → ℕ → Bool
-is_above low high i = ltb (get_or high i 0) (get_or low i 0)
+is_above low high i = exceeds (get_or low i 0, get_or high i 0)
 
 -- "the place is the lowest such opcode"; the count if there is none
 unfoldable pub lowest_above : List ℕ → List ℕ → ℕ

@@ -1,10 +1,10 @@
 // The longest run by a lowest and by a highest weight for every opcode (request C-18).
-ghost use Rattle.std.specs.Prelude.{◌≡◌, length, ltb};
+ghost use Rattle.std.specs.Prelude.{◌≡◌, length};
 ghost use Rattle.std.specs.List.{position, zip};
 ghost use Rattle.runs.specs.Weights.{weight_count};
 ghost use Rattle.runs.specs.Script.{script_of};
 ghost use Rattle.sweep.specs.SearchInvariants.{Lent};
-ghost use Rattle.ranges.specs.Range.{range_answer, refuses_range, runs_of};
+ghost use Rattle.ranges.specs.Range.{exceeds, range_answer, refuses_range, runs_of};
 ghost use Rattle.ranges.specs.Range.{marks_after_both, lengths_after_both};
 ghost use Rattle.runs.specs.Outcome.{Searched};
 ghost use Rattle.ranges.specs.Outcome.{DecidedBoth};
@@ -51,7 +51,7 @@ fn refuses_range(low: &[u8], high: &[u8]) -> bool
 
 // The lowest opcode whose low weight is above its high one.
 fn lowest_above(low: &[u8], high: &[u8]) -> Option<usize>
-    ensures { result ≡ position (λ weights. ltb weights.1 weights.0) (zip low.now high.now) }
+    ensures { result ≡ position exceeds (zip low.now high.now) }
 {
     low.iter().zip(high).position(|(low, high)| high < low)
 }

@@ -1,3 +1,4 @@
 pub mod ElementWise
 pub mod Fallbacks
+pub mod Laws
 pub mod Sources

@@ -3,7 +3,7 @@
 ghost use Rattle.std.specs.Prelude.{◌≡◌};
 ghost use Rattle.rehearsal.specs.Running.{ran_of};
 
-use crate::queue::Queue;
+pub use crate::queue::Queue;
 use common::limits::MOST_SCRIPTS;
 
 // A script that has not returned, and the word it is at.

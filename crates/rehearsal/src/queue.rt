@@ -1,13 +1,17 @@
 // The ready queue: the scripts that have not returned. The first has the turn.
-ghost use Rattle.std.specs.Prelude.{◌≡◌, ℕ, ◌<◌, ◌≤◌, ◌↔◌, List, [], ◌∷◌, ◌++◌, length, take, IsTrue};
+ghost use Rattle.std.specs.Prelude.{◌≡◌, ℕ, ◌-◌, ◌<◌, ◌≤◌, ◌↔◌, List, [], ◌∷◌, ◌++◌, length, take};
+ghost use Rattle.std.specs.Prelude.{replicate, IsTrue};
 ghost use Rattle.rehearsal.specs.declared.machine.Task.{Task};
-ghost use Rattle.rehearsal.specs.Machine.{tasks_from};
+ghost use Rattle.rehearsal.specs.Machine.{task_at, tasks_from};
 
 use crate::machine::Task;
 use common::limits::MOST_SCRIPTS;
 use std::marker::Model;
 
-#[derive(Drop)]
+// What the places past the last hold, so that the tasks alone give the fields back, as Copy asks.
+const NOWHERE: Task = Task { script: 0, word: 0 };
+
+#[derive(Clone, Copy)]
 pub struct Queue {
     tasks: [Task; MOST_SCRIPTS],
     size: usize,
@@ -18,7 +22,13 @@ impl Model for Queue {
 
     ghost view = { λ q. take q.size q.tasks };
 
-    ghost invariant = { λ q. q.size ≤ length q.tasks };
+    ghost invariant = { λ q.
+        (q.size ≤ length q.tasks) × (take q.size q.tasks ++ replicate (4 - q.size) (task_at 0 0) ≡ q.tasks) };
+
+    ghost inverse = { λ ts. record {
+      tasks = ts ++ replicate (4 - length ts) (task_at 0 0);
+      size = length ts;
+    } };
 }
 
 impl Queue {
@@ -29,7 +39,7 @@ impl Queue {
         ensures { result ≡ tasks_from 0 count }
     {
         let mut queue = Queue {
-            tasks: [Task { script: 0, word: 0 }; MOST_SCRIPTS],
+            tasks: [NOWHERE; MOST_SCRIPTS],
             size: 0,
         };
         for script in 0..count {
@@ -50,8 +60,8 @@ impl Queue {
         ensures first { self.old ≡ result ∷ self.new }
         ensures room { length self.new < 4 }
     {
-        let first = self.tasks[0];
-        self.tasks.rotate_left(1);
+        let [first, second, third, fourth] = self.tasks;
+        self.tasks = [second, third, fourth, NOWHERE];
         self.size -= 1;
         first
     }

@@ -10,10 +10,11 @@ use crate::tallies::note;
 use crate::turn::turn;
 use common::limits::MOST_SCRIPTS;
 
-// The stage after a turn of the queue's first.
-fn next_turn(scripts: &[&[u32]; MOST_SCRIPTS], quantum: u32, choices: &[u8], mut st: Stage) -> Stage
-    requires { Fine st × (0 < st.left) }
-    ensures { result ≡ next_stage (graphs_in scripts.now) quantum choices.now st }
+// The stage after a turn of the queue's first. It is changed where it stands: by value all of it would be
+// copied twice at each turn, and a turn may be one word.
+fn next_turn(scripts: &[&[u32]; MOST_SCRIPTS], quantum: u32, choices: &[u8], st: &mut Stage)
+    requires { Fine st.old × (0 < st.old.left) }
+    ensures { st.new ≡ next_stage (graphs_in scripts.now) quantum choices.now st.old }
 {
     let left = st.left;
     let task = st.queue.pop();
@@ -40,7 +41,6 @@ fn next_turn(scripts: &[&[u32]; MOST_SCRIPTS], quantum: u32, choices: &[u8], mut
             st.taken = taken;
         }
     }
-    st
 }
 
 // Before the first turn.
@@ -73,7 +73,7 @@ pub(crate) fn play(
 {
     let mut st = start(count, limit);
     while 0 < st.left {
-        st = next_turn(scripts, quantum, choices, st);
+        next_turn(scripts, quantum, choices, &mut st);
     }
     st.tallies.map(|t| t.longest)
 }

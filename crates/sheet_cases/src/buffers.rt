@@ -13,9 +13,9 @@ pub fn repeated(line: &[u8]) -> [u8; 65536] {
     }
     let places = list_of(&mut places, line, 3);
     let other = list_of(&mut other, line, 4);
-    for (&place, &b) in places.iter().zip(other.iter()) {
+    for (i, &place) in places.iter().enumerate() {
         if let Some(at) = buffer.get_mut(place as usize) {
-            *at = b;
+            *at = other.get(i).copied().unwrap_or(0);
         }
     }
     buffer

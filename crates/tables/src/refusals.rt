@@ -53,7 +53,7 @@ fn first_string_past(tags: &[u8], payloads: &[u64], bytes: usize) -> Option<usiz
 }
 
 // What refuses a function's tables, of so many places for records.
-#[tactic(auto, unfolding(crate::specs::Refusals::answer_of))]
+#[tactic(auto, using(crate::proofs::Found::tag_found, crate::proofs::Found::string_found, values::proofs::NamesPast::name_found), unfolding(crate::specs::Refusals::answer_of))]
 pub fn check(proto: &Prototype<'_>, room: usize) -> Result<(), Refusal>
     ensures { result ≡ answer_of (length proto.now.words.now) proto.now.tags.now proto.now.payloads.now
         proto.now.names.now (length proto.now.bytes.now) room }

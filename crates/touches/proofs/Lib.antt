@@ -1,4 +1,5 @@
 pub mod Rows
+pub mod Tables
 pub mod Choices
 pub mod Cells
 pub mod Isk

@@ -5,7 +5,6 @@ pub(crate) mod table;
 
 use crate::arguments::Arguments;
 use crate::dialect::Dialect;
-use crate::lua53::table::ACCESSES_53;
 use steps::lua53::successors::successors;
 
 pub(crate) struct Dialect53;
@@ -24,8 +23,8 @@ impl Dialect for Dialect53 {
         }
     }
 
-    fn row(word: u32) -> u64 {
-        ACCESSES_53[(word % 64) as usize]
+    fn opcode(word: u32) -> usize {
+        (word % 64) as usize
     }
 
     fn is_bad(words: &[u32], p: usize) -> bool {

@@ -5,7 +5,6 @@ pub(crate) mod table;
 
 use crate::arguments::Arguments;
 use crate::dialect::Dialect;
-use crate::lua54::table::ACCESSES;
 use steps::lua54::successors::successors;
 
 pub(crate) struct Dialect54;
@@ -24,8 +23,8 @@ impl Dialect for Dialect54 {
         }
     }
 
-    fn row(word: u32) -> u64 {
-        ACCESSES[(word % 128) as usize]
+    fn opcode(word: u32) -> usize {
+        (word % 128) as usize
     }
 
     fn is_bad(words: &[u32], p: usize) -> bool {

@@ -3,13 +3,22 @@ ghost use Rattle.std.specs.Prelude.{◌≡◌, false, [], ◌∷◌, ◌+◌, �
 ghost use Rattle.fields.specs.declared.version.Version.TheVariants.{Lua54, Lua53};
 ghost use Rattle.touches.specs.Accesses.{edge_of};
 ghost use Rattle.touches.specs.Operands.{location_of};
-ghost use Rattle.touches.specs.Table.{operand_from, edge_from, touches_from};
+ghost use Rattle.touches.specs.Table.{
+  access_table,
+  operand_from,
+  edge_from,
+  touches_from,
+  touches_lent,
+  touches_with,
+};
 ghost use Rattle.touches.specs.Touches.{touches_by, touches_for, touches_of};
 
 use crate::arguments::Around;
 use crate::dialect::Dialect;
 use crate::lua53::Dialect53;
+use crate::lua53::table::ACCESSES_53;
 use crate::lua54::Dialect54;
+use crate::lua54::table::ACCESSES;
 use crate::operands::*;
 use fields::lua53::word::OFFSET_SBX;
 use locations::answer::Touches;
@@ -105,8 +114,15 @@ impl Around {
     }
 }
 
-fn touched<D: Dialect>(words: &[u32], p: usize) -> Touches
-    ensures { result ≡ touches_for D.version words.now p }
+fn row_at(rows: &[u64], opcode: usize) -> u64
+    ensures { result ≡ get_or rows.now opcode 0 }
+{
+    rows.get(opcode).copied().unwrap_or(0)
+}
+
+// By the rows of a table that is lent.
+fn touched<D: Dialect>(rows: &[u64], words: &[u32], p: usize) -> Touches
+    ensures { result ≡ touches_lent D.version rows.now words.now p }
 {
     if D::is_bad(words, p) {
         return nothing();
@@ -117,18 +133,32 @@ fn touched<D: Dialect>(words: &[u32], p: usize) -> Touches
         before: D::arguments(word_at(words, p.saturating_sub(1))).a,
         after: D::arguments(word_at(words, p + 1)).ax,
     };
-    around.touches(D::row(word), p)
+    around.touches(row_at(rows, D::opcode(word)), p)
+}
+
+// The table of 5.4, by value.
+pub fn access_table() -> [u64; 128]
+    ensures { result ≡ access_table }
+{
+    ACCESSES
+}
+
+// By a table that the caller lends.
+pub fn touches_in(rows: &[u64; 128], words: &[u32], p: usize) -> Touches
+    ensures { result ≡ touches_with rows.now words.now p }
+{
+    touched::<Dialect54>(rows, words, p)
 }
 
 pub fn touches(words: &[u32], p: usize) -> Touches
     ensures { result ≡ touches_of words.now p }
 {
-    touched::<Dialect54>(words, p)
+    touched::<Dialect54>(&ACCESSES, words, p)
 }
 
 // The same of 5.3.
 pub fn touches_53(words: &[u32], p: usize) -> Touches
     ensures { result ≡ touches_for Lua53 words.now p }
 {
-    touched::<Dialect53>(words, p)
+    touched::<Dialect53>(&ACCESSES_53, words, p)
 }

@@ -4,24 +4,13 @@
 // one that ends in a backslash leaves the line that it prints open for the next.
 #![tactic(auto)]
 
+mod asking;
+pub mod inner;
 mod lists;
 mod parts;
 
 pub use lists::Element;
 pub use parts::{is_open, list_of, number_of, part};
-use std::io::Stdin;
 
 // Room for one word more than pass, and for their marks.
 pub const ROOM: usize = 32769;
-
-// Asks each line that stands on standard input, as far as there is room.
-pub fn ask_each<F: FnMut(&[u8])>(stdin: Stdin, mut ask: F)
-    requires { F.IsAlwaysCallable ask }
-{
-    let mut source = stdin;
-    let mut page = io::large_buffer();
-    let n = input::read_full(&mut source, &mut page);
-    for line in page[..n].split(|&b| b == b'\n') {
-        ask(line);
-    }
-}

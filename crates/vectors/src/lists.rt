@@ -33,14 +33,19 @@ impl Element for u64 {
     }
 }
 
-// The number that the digits at the start show, modulo 2^64, 0 where there is none.
+// A number with a digit more; from 18446744073709551620 on it starts again from the lowest.
+fn with_digit(n: u64, digit: u8) -> u64 {
+    (n % 1844674407370955162 * 10).wrapping_add(u64::from(digit))
+}
+
+// The number that the digits at the start show, 0 where there is none.
 pub fn number_at_start(text: &[u8]) -> u64 {
     let mut n: u64 = 0;
     for &b in text {
         if !b.is_ascii_digit() {
             break;
         }
-        n = n.wrapping_mul(10).wrapping_add(u64::from(b - b'0'));
+        n = with_digit(n, b - b'0');
     }
     n
 }

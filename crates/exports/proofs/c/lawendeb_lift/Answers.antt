@@ -25,7 +25,7 @@ pub put_records-requires-clause-few : goal.put_records-requires-clause-few
 put_records-requires-clause-few c =
     let a = c.args in
     let p = accepted c.check-answer.result (sym c.if-is_ok.ensures.value) in
-    (all_passed (length a.words.now) a.tags.now a.payloads.now a.names.now (length a.bytes.now)
+    λ some. (all_passed (length a.words.now) a.tags.now a.payloads.now a.names.now (length a.bytes.now)
     (room_in a.numbers.now) p.0 (sym c.check-answer.ensures ∙ p.1)).0
 
 pub put_records-requires-clause-room : goal.put_records-requires-clause-room

@@ -14,7 +14,7 @@ loop-st-init c =
 
 pub loop-st-smaller : goal.loop-st-smaller
 loop-st-smaller c =
-    subst (λ (t : Stage). t.left < c.loop-st.st.left) (sym c.next_turn-st.ensures)
+    subst (λ (t : Stage). t.left < c.loop-st.st.left) (sym c.next_turn.ensures)
     (goes_on (graphs_in c.args.scripts.now) c.args.quantum c.args.choices.now c.loop-st.st c.loop-st.invariant.fine
     c.loop-st-test.true c.requires.2).less
 
@@ -23,8 +23,8 @@ loop-st-preserved c =
     let g = goes_on (graphs_in c.args.scripts.now) c.args.quantum c.args.choices.now c.loop-st.st
     c.loop-st.invariant.fine c.loop-st-test.true c.requires.2 in
     record {
-      fine = subst Fine (sym c.next_turn-st.ensures) g.fine_next;
-      same = λ i h. ap (going_on (graphs_in c.args.scripts.now) c.args.quantum c.args.choices.now i) c.next_turn-st.ensures
+      fine = subst Fine (sym c.next_turn.ensures) g.fine_next;
+      same = λ i h. ap (going_on (graphs_in c.args.scripts.now) c.args.quantum c.args.choices.now i) c.next_turn.ensures
           ∙ g.same i h ∙ c.loop-st.invariant.same i h;
     }
 

@@ -1,12 +1,12 @@
 use Rattle.std.proofs.Common.{◌<◌, ◌∙◌, sym, length, arith}
 use Rattle.touches.specs.Table.{touches_lent}
-use Rattle.touches.proofs.Rows.{by_table, valid_inside}
+use Rattle.touches.proofs.Rows.{valid_inside}
 use Rattle.touches.proofs.word.touched.Goals as goal
 
 pub returns-then-is_bad : goal.returns-then-is_bad
 unfolding touches_lent
 returns-then-is_bad g c =
-    rw (← by_table g.D.Dialect.version c.args.words.now c.args.p, ← c.is_bad.ensures, c.if-is_bad.true) c.nothing.ensures
+    rw (← c.is_bad.ensures, c.if-is_bad.true) c.nothing.ensures
 
 pub offset_bounds-words-p : goal.offset_bounds-words-p
 offset_bounds-words-p g c =
@@ -32,4 +32,4 @@ touches-requires g c =
 pub returns : goal.returns
 unfolding touches_lent
 returns g c =
-    rw (← by_table g.D.Dialect.version c.args.words.now c.args.p, ← c.is_bad.ensures, c.if-is_bad.false) cc
+    rw (← c.is_bad.ensures, c.if-is_bad.false) cc

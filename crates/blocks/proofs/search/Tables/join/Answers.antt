@@ -1,8 +1,0 @@
-use Rattle.blocks.specs.Blocks.{grown, there}
-use Rattle.blocks.proofs.search.Tables.join.Goals as goal
-
-pub returns-then-new-old : goal.returns-then-new-old
-returns-then-new-old g c = rw (c.add.ensures.0, c.add.ensures.1) (grown c.if-new-old.true)
-
-pub returns-else-new-old : goal.returns-else-new-old
-returns-else-new-old g c = there c.if-new-old.false

@@ -1,6 +1,0 @@
-use Rattle.std.proofs.Common.{rules}
-use Rattle.blocks.proofs.Pages.{asks_words}
-use Rattle.blocks.proofs.search.Tables.visit.Goals as goal
-
-pub spread-requires : goal.spread-requires
-spread-requires g c = (search rules, asks_words c.args.words.now c.args.p c.requires.0 c.successors-s.ensures)
