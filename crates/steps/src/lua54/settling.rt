@@ -1,10 +1,12 @@
 // The pass that settles the steps of every word before the search begins (request C-12). It alone reads words
 // for their steps: what comes after goes by the entries that it leaves.
-ghost use Rattle.std.specs.Prelude.{◌≡◌, false, cond, ◌≤◌, ◌<◌, eqb, length};
+ghost use Rattle.std.specs.Prelude.{◌≡◌, false, cond, ◌≤◌, ◌<◌, eqb, length, get_or};
 ghost use Rattle.common.specs.Limits.{most_words};
 ghost use Rattle.fields.specs.lua54.Table.{opcode_table};
-ghost use Rattle.steps.specs.lua54.Successors.{successors_of};
+ghost use Rattle.steps.specs.lua54.Columns.{class_from, companion_from};
+ghost use Rattle.steps.specs.lua54.Successors.{next_of, stands_at, successors_of};
 ghost use Rattle.sweep.specs.Entries.{Says, Settled, entries};
+ghost use Rattle.sweep.specs.Steps.{unless};
 
 use crate::lua54::successors::{arithmetic, jump, metamethod, successors_by, test};
 use fields::lua54::columns::*;
@@ -16,6 +18,19 @@ fn goes_on(companion: u8, class: u8) -> bool
     ensures { result ≡ cond (eqb companion 0) (eqb class 0) false }
 {
     companion == ALONE && class == FOLLOWING
+}
+
+// The entry of a rarer word, by its companion and its step class. It is kept out of the loop, where the steps
+// would lie in memory, and that would be cleared for each word, whatever it is.
+#[inline(never)]
+fn entry_by(companion: u8, class: u8, words: &[u32], p: usize) -> u32
+    requires { (length words.now ≤ most_words) × (p < length words.now)
+        × (unless (stands_at (companion_from companion) words.now p)
+        (next_of (class_from class) (length words.now) (get_or words.now p 0) p)
+        ≡ successors_of words.now p) }
+    ensures { Says result p (successors_of words.now p) }
+{
+    entry_of(successors_by(companion, class, words, p), p)
 }
 
 // The entry of word p, by a lent copy of the opcode table. The most frequent words come first, and each has
@@ -33,16 +48,18 @@ pub(crate) fn entry_in(table: &[u8; 512], words: &[u32], p: usize) -> u32
     if companion == ALONE && class == JUMPING {
         return entry_of(jump(words.len(), word, p + 1), p);
     }
-    if companion == JUMP_AFTER && class == BRANCHING {
-        return entry_of(test(words, p), p);
-    }
-    if companion == METAMETHOD_AFTER && class == BRANCHING {
-        return entry_of(arithmetic(words, p), p);
+    if class == BRANCHING {
+        if companion == JUMP_AFTER {
+            return entry_of(test(words, p), p);
+        }
+        if companion == METAMETHOD_AFTER {
+            return entry_of(arithmetic(words, p), p);
+        }
     }
     if companion == ARITHMETIC_BEFORE && class == FOLLOWING {
         return entry_of(metamethod(words, p), p);
     }
-    entry_of(successors_by(companion, class, words, p), p)
+    entry_by(companion, class, words, p)
 }
 
 // The entries of all words: their steps are those of document 01's table (RULES 2).

@@ -37,6 +37,7 @@ fn loop_back(n: usize, word: u32, next: usize) -> Successors
 // The steps of a step class, as the opcode table numbers them.
 // Kept: the class is the number that the packed table has (packed bits): an enum would be made for each.
 #[tactic(auto, unfolding(crate::specs::lua54::Columns::class_from))]
+#[inline(always)]
 fn next_of(class: u8, n: usize, word: u32, p: usize) -> Successors
     requires { p < 2 ^ 61 }
     ensures { result ≡ next_of (class_from class) n word p }
@@ -79,6 +80,7 @@ pub fn opcode_at(words: &[u32], i: usize) -> u8
 
 // Whether a companion, as the opcode table numbers them, stands where word p wants it.
 #[tactic(auto, unfolding(crate::specs::lua54::Columns::companion_from))]
+#[inline(always)]
 fn stands_at(companion: u8, words: &[u32], p: usize) -> bool
     requires { p < length words.now }
     ensures { result ≡ stands_at (companion_from companion) words.now p }
@@ -104,8 +106,10 @@ fn stands_at(companion: u8, words: &[u32], p: usize) -> bool
     }
 }
 
-// The successors of word p by its companion and its step class, as the opcode table numbers them.
+// The successors of word p by its companion and its step class, as the opcode table numbers them. They are
+// made in both callers, and so is what the two functions above say: a rarer word would cost calls else.
 #[tactic(auto, unfolding(sweep::specs::Steps::unless))]
+#[inline(always)]
 pub(crate) fn successors_by(companion: u8, class: u8, words: &[u32], p: usize) -> Successors
     requires { p < length words.now }
     ensures { result ≡ unless (stands_at (companion_from companion) words.now p)

@@ -1,9 +1,7 @@
 -- `touches::word::touches`: what the rows of the code's table say, by the definition.
 -- Assumes nothing.
-use Rattle.std.proofs.Common.{◌≡◌, ◌∙◌, ap}
-use Rattle.std.specs.Prelude.{ℕ, List}
+use Rattle.std.proofs.Common.{◌∙◌}
 use Rattle.fields.specs.declared.version.Version.TheVariants.{Lua54}
-use Rattle.touches.specs.Table.{touches_lent}
 use Rattle.touches.proofs.Tables.{is_table}
 use Rattle.touches.proofs.Rows.{by_table}
 use Rattle.touches.proofs.word.touches.Goals as goal

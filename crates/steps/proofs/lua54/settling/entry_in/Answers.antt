@@ -40,31 +40,31 @@ returns-then-class-eq-JUMPING c =
     (c.jump.ensures ∙ by_table _ _ c.requires.2 c.requires.0 c.companion_in-companion.ensures c.step_class_in-class.ensures 0 5 c.if-companion-eq-ALONE.true c.if-class-eq-JUMPING.true)
     c.entry_of-then-class-eq-JUMPING.ensures
 
-pub entry_of-requires-then-class-eq-BRANCHING : goal.entry_of-requires-then-class-eq-BRANCHING
+pub entry_of-requires-then-companion-eq-JUMP_AFTER : goal.entry_of-requires-then-companion-eq-JUMP_AFTER
 unfolding companion_from class_from
-entry_of-requires-then-class-eq-BRANCHING c =
+entry_of-requires-then-companion-eq-JUMP_AFTER c =
     asks _ _ c.requires.2 c.requires.1
     (c.test.ensures ∙ by_table _ _ c.requires.2 c.requires.0 c.companion_in-companion.ensures c.step_class_in-class.ensures 3 2 c.if-companion-eq-JUMP_AFTER.true c.if-class-eq-BRANCHING.true)
 
-pub returns-then-class-eq-BRANCHING : goal.returns-then-class-eq-BRANCHING
+pub returns-then-companion-eq-JUMP_AFTER : goal.returns-then-companion-eq-JUMP_AFTER
 unfolding companion_from class_from
-returns-then-class-eq-BRANCHING c =
+returns-then-companion-eq-JUMP_AFTER c =
     says _ _ c.requires.2 c.requires.1
     (c.test.ensures ∙ by_table _ _ c.requires.2 c.requires.0 c.companion_in-companion.ensures c.step_class_in-class.ensures 3 2 c.if-companion-eq-JUMP_AFTER.true c.if-class-eq-BRANCHING.true)
-    c.entry_of-then-class-eq-BRANCHING.ensures
+    c.entry_of-then-companion-eq-JUMP_AFTER.ensures
 
-pub entry_of-requires-then-class-eq-BRANCHING-2 : goal.entry_of-requires-then-class-eq-BRANCHING-2
+pub entry_of-requires-then-companion-eq-METAMETHOD_AFTER : goal.entry_of-requires-then-companion-eq-METAMETHOD_AFTER
 unfolding companion_from class_from
-entry_of-requires-then-class-eq-BRANCHING-2 c =
+entry_of-requires-then-companion-eq-METAMETHOD_AFTER c =
     asks _ _ c.requires.2 c.requires.1
-    (c.arithmetic.ensures ∙ by_table _ _ c.requires.2 c.requires.0 c.companion_in-companion.ensures c.step_class_in-class.ensures 1 2 c.if-companion-eq-METAMETHOD_AFTER.true c.if-class-eq-BRANCHING-2.true)
+    (c.arithmetic.ensures ∙ by_table _ _ c.requires.2 c.requires.0 c.companion_in-companion.ensures c.step_class_in-class.ensures 1 2 c.if-companion-eq-METAMETHOD_AFTER.true c.if-class-eq-BRANCHING.true)
 
-pub returns-then-class-eq-BRANCHING-2 : goal.returns-then-class-eq-BRANCHING-2
+pub returns-then-companion-eq-METAMETHOD_AFTER : goal.returns-then-companion-eq-METAMETHOD_AFTER
 unfolding companion_from class_from
-returns-then-class-eq-BRANCHING-2 c =
+returns-then-companion-eq-METAMETHOD_AFTER c =
     says _ _ c.requires.2 c.requires.1
-    (c.arithmetic.ensures ∙ by_table _ _ c.requires.2 c.requires.0 c.companion_in-companion.ensures c.step_class_in-class.ensures 1 2 c.if-companion-eq-METAMETHOD_AFTER.true c.if-class-eq-BRANCHING-2.true)
-    c.entry_of-then-class-eq-BRANCHING-2.ensures
+    (c.arithmetic.ensures ∙ by_table _ _ c.requires.2 c.requires.0 c.companion_in-companion.ensures c.step_class_in-class.ensures 1 2 c.if-companion-eq-METAMETHOD_AFTER.true c.if-class-eq-BRANCHING.true)
+    c.entry_of-then-companion-eq-METAMETHOD_AFTER.ensures
 
 pub entry_of-requires-then-class-eq-FOLLOWING : goal.entry_of-requires-then-class-eq-FOLLOWING
 unfolding companion_from class_from
@@ -79,13 +79,6 @@ returns-then-class-eq-FOLLOWING c =
     (c.metamethod.ensures ∙ by_table _ _ c.requires.2 c.requires.0 c.companion_in-companion.ensures c.step_class_in-class.ensures 2 0 c.if-companion-eq-ARITHMETIC_BEFORE.true c.if-class-eq-FOLLOWING.true)
     c.entry_of-then-class-eq-FOLLOWING.ensures
 
-pub entry_of-requires-2 : goal.entry_of-requires-2
-entry_of-requires-2 c =
-    asks _ _ c.requires.2 c.requires.1
-    (c.successors_by.ensures ∙ by_table _ _ c.requires.2 c.requires.0 c.companion_in-companion.ensures c.step_class_in-class.ensures _ _ refl refl)
-
-pub returns : goal.returns
-returns c =
-    says _ _ c.requires.2 c.requires.1
-    (c.successors_by.ensures ∙ by_table _ _ c.requires.2 c.requires.0 c.companion_in-companion.ensures c.step_class_in-class.ensures _ _ refl refl)
-    c.entry_of-2.ensures
+pub entry_by-requires : goal.entry_by-requires
+entry_by-requires c =
+    (c.requires.1, c.requires.2, by_table _ _ c.requires.2 c.requires.0 c.companion_in-companion.ensures c.step_class_in-class.ensures _ _ refl refl)
