@@ -20,8 +20,8 @@ fn goes_on(companion: u8, class: u8) -> bool
     companion == ALONE && class == FOLLOWING
 }
 
-// The entry of a rarer word, by its companion and its step class. It is kept out of the loop, where the steps
-// would lie in memory, and that would be cleared for each word, whatever it is.
+// The entry of a rarer word, by its companion and its step class. It stays out of the loop: there the steps
+// would lie in memory that is cleared for every word, rare or not.
 #[inline(never)]
 fn entry_by(companion: u8, class: u8, words: &[u32], p: usize) -> u32
     requires { (length words.now ≤ most_words) × (p < length words.now)
@@ -35,6 +35,8 @@ fn entry_by(companion: u8, class: u8, words: &[u32], p: usize) -> u32
 
 // The entry of word p, by a lent copy of the opcode table. The most frequent words come first, and each has
 // its own call, so that the compiler puts the call's answer into the loop.
+// Kept: what branches is asked for first, by itself: joined by `&&`, real code took one or two instructions
+// a word more.
 pub(crate) fn entry_in(table: &[u8; 512], words: &[u32], p: usize) -> u32
     requires { (table.now ≡ opcode_table) × (length words.now ≤ most_words) × (p < length words.now) }
     ensures { Says result p (successors_of words.now p) }

@@ -106,8 +106,8 @@ fn stands_at(companion: u8, words: &[u32], p: usize) -> bool
     }
 }
 
-// The successors of word p by its companion and its step class, as the opcode table numbers them. They are
-// made in both callers, and so is what the two functions above say: a rarer word would cost calls else.
+// The successors of word p by its companion and its step class, as the opcode table numbers them. Both
+// callers have it in line, with `stands_at` and `next_of`: a rarer word would cost three calls else.
 #[tactic(auto, unfolding(sweep::specs::Steps::unless))]
 #[inline(always)]
 pub(crate) fn successors_by(companion: u8, class: u8, words: &[u32], p: usize) -> Successors
